@@ -1,0 +1,129 @@
+-- `AnnotationInfo::intersection` and `difference`.
+use mathlib.Core.Bool.{Bool, true, false, _&&_, _||_, not}
+use mathlib.Core.List.{List, [], _∷_, _++_, map}
+use mathlib.Core.Option.{Option, none, some}
+use Prim.Native.Nat.{ℕ}
+use lib.Dec.{eqb, ltb}
+use lib.ListN.{getD}
+use Rattle.lists.specs.Lists.{any, null, filter, each, sameList, sort, setOf}
+use Rattle.definitions.specs.Records.{Dom, Resource, AssociatedResource, makeList, associate, nestAssociate, alias, inherit, derive, noDerive, Annotation, AnnotationInfo}
+use Rattle.definitions.specs.Orders.{domBefore, wordsBefore}
+use Rattle.definitions.specs.Checks.{resourcesOf, kindOf}
+
+-- ---- an annotation as the synthesis has it
+
+-- a resource as read has one dom, which may be none
+abbrev pub associatedOf : Resource → AssociatedResource
+associatedOf u = record { word = u .word; doms = u .dom ∷ [] }
+
+-- its resources ascend by word
+unfoldable pub associatedSet : List Resource → List AssociatedResource
+associatedSet rs = sort (λ (u v : AssociatedResource). ltb (u .word) (v .word)) (map associatedOf rs)
+
+abbrev pub infoOf : Annotation → AnnotationInfo
+infoOf makeList = makeList
+infoOf (associate rs) = associate (associatedSet rs)
+infoOf (nestAssociate rs) = nestAssociate (associatedSet rs)
+infoOf (alias w) = alias w
+infoOf (inherit ns) = inherit ns
+infoOf (derive t) = derive t
+infoOf noDerive = noDerive
+
+abbrev pub wordsOf : AnnotationInfo → List ℕ
+wordsOf a = map (λ (u : AssociatedResource). u .word) (resourcesOf a)
+
+-- 'in kind order, Associates by ascending word list'
+unfoldable pub annotationBefore : AnnotationInfo → AnnotationInfo → Bool
+annotationBefore a b = ltb (kindOf a) (kindOf b) || (eqb (kindOf a) (kindOf b) && wordsBefore (wordsOf a) (wordsOf b))
+
+-- ---- the 49 pairs
+
+-- what two annotations have in common, by their kinds: nothing; the whole, if they are equal; the resources of equal words
+pub data Overlap : Type 0 where
+  nothing whole byWord : Overlap
+
+-- Left kind down, right kind across: MakeList, Associate, NestAssociate, Alias, Inherit, Derive, NoDerive. 'equal MakeList, NoDerive or Alias give themselves;
+-- two Associate, or two NestAssociate, match resources by word; two Derive, two Inherit, unlike kinds give none'
+abbrev pub overlaps : List (List Overlap)
+overlaps =
+    (whole ∷ nothing ∷ nothing ∷ nothing ∷ nothing ∷ nothing ∷ nothing ∷ [])
+    ∷ (nothing ∷ byWord ∷ nothing ∷ nothing ∷ nothing ∷ nothing ∷ nothing ∷ [])
+    ∷ (nothing ∷ nothing ∷ byWord ∷ nothing ∷ nothing ∷ nothing ∷ nothing ∷ [])
+    ∷ (nothing ∷ nothing ∷ nothing ∷ whole ∷ nothing ∷ nothing ∷ nothing ∷ [])
+    ∷ (nothing ∷ nothing ∷ nothing ∷ nothing ∷ nothing ∷ nothing ∷ nothing ∷ [])
+    ∷ (nothing ∷ nothing ∷ nothing ∷ nothing ∷ nothing ∷ nothing ∷ nothing ∷ [])
+    ∷ (nothing ∷ nothing ∷ nothing ∷ nothing ∷ nothing ∷ nothing ∷ whole ∷ [])
+    ∷ []
+
+unfoldable pub overlapOf : AnnotationInfo → AnnotationInfo → Overlap
+overlapOf a b = getD (getD overlaps (kindOf a) []) (kindOf b) nothing
+
+-- the word of an Alias, which is all that two annotations of one kind and `whole` can differ in
+abbrev pub aliasOf : AnnotationInfo → List ℕ
+aliasOf makeList = []
+aliasOf (associate rs) = []
+aliasOf (nestAssociate rs) = []
+aliasOf (alias w) = w ∷ []
+aliasOf (inherit ns) = []
+aliasOf (derive t) = []
+aliasOf noDerive = []
+
+unfoldable pub sameAlias : AnnotationInfo → AnnotationInfo → Bool
+sameAlias a b = sameList eqb (aliasOf a) (aliasOf b)
+
+-- ---- resources
+
+abbrev pub hasWord : List AssociatedResource → ℕ → Bool
+hasWord us w = any (λ (u : AssociatedResource). eqb (u .word) w) us
+
+-- the doms that a list gives a word
+abbrev pub domsIn : List AssociatedResource → ℕ → List Dom
+domsIn us w = each (λ (u : AssociatedResource). u .doms) (filter (λ (u : AssociatedResource). eqb (u .word) w) us)
+
+-- 'match resources by word and union their dom sets'
+abbrev pub united : List AssociatedResource → AssociatedResource → AssociatedResource
+united vs u = record { word = u .word; doms = setOf domBefore (u .doms ++ domsIn vs (u .word)) }
+
+unfoldable pub shared : List AssociatedResource → List AssociatedResource → List AssociatedResource
+shared us vs = map (united vs) (filter (λ (u : AssociatedResource). hasWord vs (u .word)) us)
+
+-- 'drops the words the right has'
+unfoldable pub less : List AssociatedResource → List AssociatedResource → List AssociatedResource
+less us vs = filter (λ (u : AssociatedResource). not (hasWord vs (u .word))) us
+
+-- the annotation with other resources; 'none if empty'
+abbrev pub withResources : AnnotationInfo → List AssociatedResource → AnnotationInfo
+withResources makeList us = makeList
+withResources (associate rs) us = associate us
+withResources (nestAssociate rs) us = nestAssociate us
+withResources (alias w) us = alias w
+withResources (inherit ns) us = inherit ns
+withResources (derive t) us = derive t
+withResources noDerive us = noDerive
+
+abbrev pub someIf : {A : Type 0} → Bool → A → Option A
+someIf true a = some a
+someIf false a = none
+
+abbrev pub unlessEmpty : AnnotationInfo → List AssociatedResource → Option AnnotationInfo
+unlessEmpty a us = someIf (not (null us)) (withResources a us)
+
+-- ---- the two functions
+
+abbrev pub intersectionBy : Overlap → AnnotationInfo → AnnotationInfo → Option AnnotationInfo
+intersectionBy nothing a b = none
+intersectionBy whole a b = someIf (sameAlias a b) a
+intersectionBy byWord a b = unlessEmpty a (shared (resourcesOf a) (resourcesOf b))
+
+unfoldable pub intersection : AnnotationInfo → AnnotationInfo → Option AnnotationInfo
+intersection a b = intersectionBy (overlapOf a b) a b
+
+-- 'equal MakeList, NoDerive or Alias give none; Associate from Associate (Nest from Nest) drops the words the right has, none if empty; everything else keeps
+-- the left, Derive less an equal Derive included'
+abbrev pub differenceBy : Overlap → AnnotationInfo → AnnotationInfo → Option AnnotationInfo
+differenceBy nothing a b = some a
+differenceBy whole a b = someIf (not (sameAlias a b)) a
+differenceBy byWord a b = unlessEmpty a (less (resourcesOf a) (resourcesOf b))
+
+unfoldable pub difference : AnnotationInfo → AnnotationInfo → Option AnnotationInfo
+difference a b = differenceBy (overlapOf a b) a b

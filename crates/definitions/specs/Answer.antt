@@ -1,0 +1,162 @@
+-- 'Ten ways to be turned back', and acceptance: what each call answers, and both lent slices at exit, for every input.
+use mathlib.Core.Bool.{Bool, true, false, not}
+use mathlib.Core.List.{List, [], _∷_, _++_}
+use Prim.Native.Nat.{ℕ, _*_, min}
+use lib.Dec.{eqb, ltb}
+use lib.ListN.{length, take, drop}
+use Rattle.lists.specs.Lists.{null, each}
+use Rattle.definitions.specs.Bits.{bitsOf, size, pack}
+use Rattle.definitions.specs.Parse.{Parsed, done, refused}
+use Rattle.definitions.specs.Records.{Sheet, Item, Schedule, Row}
+use Rattle.definitions.specs.Reading.{sheet}
+use Rattle.definitions.specs.Checks.{badFill, badWords, somethingTwice}
+use Rattle.definitions.specs.Map.{TypeMap, typeMapOf, mapOf}
+use Rattle.definitions.specs.Order.{hasOrder, organizeTypeMap}
+use Rattle.definitions.specs.OrderRows.{orderRows}
+use Rattle.definitions.specs.Synthesis.{synthesis}
+use Rattle.definitions.specs.Items.{itemsOf}
+use Rattle.definitions.specs.Packing.{orderBits, scheduleBits, rowBytes}
+
+-- what the calls are set to: how many rows of a diagnosis are written
+pub record Settings : Type 0 where
+  pub rows : ℕ
+
+-- 'the first 256 rows'
+abbrev pub standard : Settings
+standard = record { rows = 256 }
+
+pub data Call : Type 0 where
+  schedule order : Call
+
+-- a call's input: the sheet, and the lent slices as they are at entry
+pub record Input : Type 0 where
+  pub settings : Settings
+  pub call : Call
+  pub sheet : List ℕ
+  pub listing : List ℕ
+  pub diagnosis : List ℕ
+
+-- 'the answer has the count of rows written and a flag set exactly if more exist'; the number is 0 for acceptance; 'parts of the answer not named are 0'
+pub record Answer : Type 0 where
+  pub number : ℕ
+  pub size : ℕ
+  pub rows : ℕ
+  pub more : Bool
+
+-- the answer, and the lent slices at exit
+pub record Outcome : Type 0 where
+  pub answer : Answer
+  pub listing : List ℕ
+  pub diagnosis : List ℕ
+
+-- ---- what was read
+
+abbrev pub refusedBy : {A : Type 0} → ℕ → Parsed A → Bool
+refusedBy n (done a rest) = false
+refusedBy n (refused r) = eqb n r
+
+-- the bits behind the last field
+abbrev pub restOf : {A : Type 0} → Parsed A → List Bool
+restOf (done a rest) = rest
+restOf (refused r) = []
+
+-- the sheet, or an empty one where it was refused, which no later test sees
+abbrev pub sheetOf : Parsed Sheet → Sheet
+sheetOf (done s rest) = s
+sheetOf (refused r) = record { words = []; types = []; extensions = [] }
+
+-- ---- what an accepted sheet gives
+
+abbrev pub itemsFor : Call → TypeMap → List Item
+itemsFor schedule m = itemsOf (mapOf m)
+itemsFor order m = []
+
+-- the order of the types and the items; the order-only call has none
+unfoldable pub scheduleOf : Call → TypeMap → Schedule
+scheduleOf call m = record { order = organizeTypeMap m; items = itemsFor call m }
+
+abbrev pub bitsWritten : Call → Schedule → List Bool
+bitsWritten schedule s = scheduleBits s
+bitsWritten order s = orderBits (s .order)
+
+-- the new bytes, and behind them what was there: 'no byte past it touched'
+abbrev pub overwrite : List ℕ → List ℕ → List ℕ
+overwrite new old = new ++ drop (length new) old
+
+-- ---- the refusals
+
+-- A test is made only when no earlier one holds, so it is a function; the rows and the size are those of the answer, if it names them.
+pub record Refusal : Type 0 where
+  pub number : ℕ
+  pub holds : Unit {0} → Bool
+  pub rows : Unit {0} → List Row
+  pub size : Unit {0} → ℕ
+
+abbrev pub bare : ℕ → (Unit {0} → Bool) → Refusal
+bare n test = record { number = n; holds = test; rows = λ u. []; size = λ u. 0 }
+
+-- '8 and 9 write the first 256 rows of their diagnosis'
+abbrev pub diagnosed : ℕ → (Unit {0} → Bool) → (Unit {0} → List Row) → Refusal
+diagnosed n test rows = record { number = n; holds = test; rows = rows; size = λ u. 0 }
+
+-- '10 answers the needed size'
+abbrev pub short : ℕ → (Unit {0} → Bool) → (Unit {0} → ℕ) → Refusal
+short n test size = record { number = n; holds = test; rows = λ u. []; size = size }
+
+-- the order-only call 'never gives 9'
+abbrev pub synthesisRows : Call → TypeMap → List Row
+synthesisRows schedule m = synthesis m .rows
+synthesisRows order m = []
+
+-- 'Tests go 1, 2, then 3 and 4 by the first field read, then 7, 5, 6, 8, 9, 10.'
+unfoldable pub refusals : Input → List Refusal
+refusals i =
+    let r = sheet (bitsOf (i .sheet)) in
+    let s = sheetOf r in
+    let m = typeMapOf s in
+    let rs = synthesisRows (i .call) m in
+    let n = size (length (bitsWritten (i .call) (scheduleOf (i .call) m))) in
+    bare 1 (λ u. ltb 40960 (length (i .sheet)))
+    ∷ bare 2 (λ u. ltb (length (i .diagnosis)) (6 * i .settings .rows))
+    ∷ bare 3 (λ u. refusedBy 3 r)
+    ∷ bare 4 (λ u. refusedBy 4 r)
+    ∷ bare 7 (λ u. badFill (restOf r))
+    ∷ bare 5 (λ u. badWords (s .words))
+    ∷ bare 6 (λ u. somethingTwice s)
+    ∷ diagnosed 8 (λ u. not (hasOrder m)) (λ u. orderRows m)
+    ∷ diagnosed 9 (λ u. not (null rs)) (λ u. rs)
+    ∷ short 10 (λ u. ltb (length (i .listing)) n) (λ u. n)
+    ∷ []
+
+-- 'Refusals leave both slices untouched, but 8 and 9 write the first 256 rows of their diagnosis and no other byte'
+unfoldable pub refuse : Input → Refusal → Outcome
+refuse i r =
+    let rs = r .rows tt in
+    record {
+      answer = record { number = r .number; size = r .size tt; rows = min (i .settings .rows) (length rs); more = ltb (i .settings .rows) (length rs) };
+      listing = i .listing;
+      diagnosis = overwrite (each rowBytes (take (i .settings .rows) rs)) (i .diagnosis);
+    }
+
+-- the map of an input
+unfoldable pub mapIn : Input → TypeMap
+mapIn i = typeMapOf (sheetOf (sheet (bitsOf (i .sheet))))
+
+-- 'acceptance the size written, leaving the diagnosis slice'
+unfoldable pub accept : Input → Outcome
+accept i =
+    let bytes = pack (bitsWritten (i .call) (scheduleOf (i .call) (mapIn i))) in
+    record {
+      answer = record { number = 0; size = length bytes; rows = 0; more = false };
+      listing = overwrite bytes (i .listing);
+      diagnosis = i .diagnosis;
+    }
+
+-- the first refusal that holds, or acceptance
+unfoldable pub firstRefusal : Input → List Refusal → Outcome
+firstRefusal i [] = accept i
+firstRefusal i (r ∷ l) = elim (r .holds tt) [ true ↦ refuse i r | false ↦ firstRefusal i l ]
+
+-- the outcome of a call
+unfoldable pub outcome : Input → Outcome
+outcome i = firstRefusal i (refusals i)

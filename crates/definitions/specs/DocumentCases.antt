@@ -1,0 +1,421 @@
+-- The (p) cases of 'Sheets to try' in one list, and the theorem that they hold. Made by tools/cases: above each sheet stands its readable text, and behind `=>` what the program prints for it.
+use mathlib.Core.Bool.{false}
+use mathlib.Core.List.{List, [], _∷_}
+use mathlib.Core.Path.{refl}
+use Prim.Native.Nat.{ℕ}
+use Rattle.definitions.specs.Answer.{schedule, order}
+use Rattle.definitions.specs.Cases.{Case, Holds, AllHold, run, hex, accepts, refuses, diagnoses}
+
+-- Words `resource`, `self` alone: 17 bytes, first four 10 24 39 32; schedule 00 00 00.
+--   => nothing
+abbrev noTypes : List ℕ
+noTypes = hex 17 0x10243932b9b7bab931b291cd95b1980000
+
+abbrev noTypes-schedule : Case
+noTypes-schedule = accepts noTypes schedule 5 1536 3 0x000000
+
+noTypes-schedule-holds : Holds noTypes-schedule
+unfolding run
+noTypes-schedule-holds = refl
+
+abbrev noTypes-order : Case
+noTypes-order = accepts noTypes order 3 1536 1 0x00
+
+noTypes-order-holds : Holds noTypes-order
+unfolding run
+noTypes-order-holds = refl
+
+-- `a`, `b` inherit each other: rows 2 b a, 2 a b.
+--     domain a : b
+--     domain b : a
+--   => refused 8; D 2 b a -; D 2 a b -
+abbrev eachOther : List ℕ
+eachOther = hex 28 0x1040b085890e4cae6deeae4c6ca473656c6604000101000100800000
+
+abbrev eachOther-schedule : Case
+eachOther-schedule = diagnoses eachOther schedule 2 1536 8 2 false (hex 12 0x0201ff00ffff0200ff01ffff)
+
+eachOther-schedule-holds : Holds eachOther-schedule
+unfolding run
+eachOther-schedule-holds = refl
+
+abbrev eachOther-order : Case
+eachOther-order = diagnoses eachOther order 2 1536 8 2 false (hex 12 0x0201ff00ffff0200ff01ffff)
+
+eachOther-order-holds : Holds eachOther-order
+unfolding run
+eachOther-order-holds = refl
+
+-- `a` inherits `b`, `zz`; `b` itself: 3 a zz, 2 b b.
+--     domain a : b zz
+--     domain b : b
+--   => refused 8; D 3 a zz -; D 2 b b -
+abbrev undeclaredParent : List ℕ
+undeclaredParent = hex 32 0x1050b085890e4cae6deeae4c6ca473656c6613d3d02000100810000402020000
+
+abbrev undeclaredParent-schedule : Case
+undeclaredParent-schedule = diagnoses undeclaredParent schedule 2 1536 8 2 false (hex 12 0x0300ff04ffff0201ff01ffff)
+
+undeclaredParent-schedule-holds : Holds undeclaredParent-schedule
+unfolding run
+undeclaredParent-schedule-holds = refl
+
+abbrev undeclaredParent-order : Case
+undeclaredParent-order = diagnoses undeclaredParent order 2 1536 8 2 false (hex 12 0x0300ff04ffff0201ff01ffff)
+
+undeclaredParent-order-holds : Holds undeclaredParent-order
+unfolding run
+undeclaredParent-order-holds = refl
+
+-- `a` inherits `self`, `zz`, alone: 3 a self.
+--     domain a : self zz
+--   => refused 8; D 3 a self -
+abbrev selfAlone : List ℕ
+selfAlone = hex 26 0x1040b0a1c995cdbdd5c98d948e6cad8cc27a7a02000202018000
+
+abbrev selfAlone-schedule : Case
+selfAlone-schedule = diagnoses selfAlone schedule 2 1536 8 1 false (hex 6 0x0300ff02ffff)
+
+selfAlone-schedule-holds : Holds selfAlone-schedule
+unfolding run
+selfAlone-schedule-holds = refl
+
+abbrev selfAlone-order : Case
+selfAlone-order = diagnoses selfAlone order 2 1536 8 1 false (hex 6 0x0300ff02ffff)
+
+selfAlone-order-holds : Holds selfAlone-order
+unfolding run
+selfAlone-order-holds = refl
+
+-- `a` inherits `self`, `zz`, beside a free `c`: 1 a self.
+--     domain a : self zz
+--     domain c
+--   => refused 8; D 1 a self -
+abbrev selfBesideFree : List ℕ
+selfBesideFree = hex 31 0x1050b0858d0e4cae6deeae4c6ca473656c6613d3d020001018100004000000
+
+abbrev selfBesideFree-schedule : Case
+selfBesideFree-schedule = diagnoses selfBesideFree schedule 2 1536 8 1 false (hex 6 0x0100ff03ffff)
+
+selfBesideFree-schedule-holds : Holds selfBesideFree-schedule
+unfolding run
+selfBesideFree-schedule-holds = refl
+
+abbrev selfBesideFree-order : Case
+selfBesideFree-order = diagnoses selfBesideFree order 2 1536 8 1 false (hex 6 0x0100ff03ffff)
+
+selfBesideFree-order-holds : Holds selfBesideFree-order
+unfolding run
+selfBesideFree-order-holds = refl
+
+-- `d` under `b`, `c`, both under `a`, which associates `file`: d.file inherits b.file, c.file, resource.
+--     domain d : b c
+--     domain b : a
+--     domain c : a
+--     domain a
+--       associate file
+--     resource file : resource
+--     resource resource
+--   => T a; T resource; T b; T c; … 9 lines; E d 00 file
+abbrev twoWaysUp : List ℕ
+twoWaysUp = hex 54 0x1070b085882c616423334b632a1c995cdbdd5c98d948e6cad8cc180c0402020001008000010040000000024410010820a000a4000000
+
+abbrev twoWaysUp-schedule : Case
+twoWaysUp-schedule = accepts twoWaysUp schedule 54 1536 52 0x0c00050080808030004000081208828020001002040a00044140101008020205000220a008100401810380412020441401030080
+
+twoWaysUp-schedule-holds : Holds twoWaysUp-schedule
+unfolding run
+twoWaysUp-schedule-holds = refl
+
+abbrev twoWaysUp-order : Case
+twoWaysUp-order = accepts twoWaysUp order 10 1536 8 0x0c00050080808030
+
+twoWaysUp-order-holds : Holds twoWaysUp-order
+unfolding run
+twoWaysUp-order-holds = refl
+
+-- `a` and its child `b` both associate `file`: two b.file, one line for `b`.
+--     domain a
+--       associate file
+--     domain b : a
+--       associate file
+--     resource file
+--   => T a; T file; T b; R a.file 0 file,resource -; E a 00 file; R b.file 0 file,resource -; R b.file 0 a.file,resource -; E b 00 file
+abbrev parentAndChild : List ℕ
+parentAndChild = hex 39 0x1050b085888ccd2d8ca87265736f75726365239b2b633030000091020010080048810011000000
+
+abbrev parentAndChild-schedule : Case
+parentAndChild-schedule = accepts parentAndChild schedule 35 1536 33 0x06000200800140002090240c010000401010481206000080828000903004040100
+
+parentAndChild-schedule-holds : Holds parentAndChild-schedule
+unfolding run
+parentAndChild-schedule-holds = refl
+
+abbrev parentAndChild-order : Case
+parentAndChild-order = accepts parentAndChild order 7 1536 5 0x0600020080
+
+parentAndChild-order-holds : Holds parentAndChild-order
+unfolding run
+parentAndChild-order-holds = refl
+
+-- 64 types pass.
+--     domain a.a
+--     domain a.b
+--     domain a.c
+--     domain a.d
+--     domain a.e
+--     domain a.f
+--     domain a.g
+--     domain a.h
+--     domain b.a
+--     domain b.b
+--     domain b.c
+--     domain b.d
+--     domain b.e
+--     domain b.f
+--     domain b.g
+--     domain b.h
+--     domain c.a
+--     domain c.b
+--     domain c.c
+--     domain c.d
+--     domain c.e
+--     domain c.f
+--     domain c.g
+--     domain c.h
+--     domain d.a
+--     domain d.b
+--     domain d.c
+--     domain d.d
+--     domain d.e
+--     domain d.f
+--     domain d.g
+--     domain d.h
+--     domain e.a
+--     domain e.b
+--     domain e.c
+--     domain e.d
+--     domain e.e
+--     domain e.f
+--     domain e.g
+--     domain e.h
+--     domain f.a
+--     domain f.b
+--     domain f.c
+--     domain f.d
+--     domain f.e
+--     domain f.f
+--     domain f.g
+--     domain f.h
+--     domain g.a
+--     domain g.b
+--     domain g.c
+--     domain g.d
+--     domain g.e
+--     domain g.f
+--     domain g.g
+--     domain g.h
+--     domain h.a
+--     domain h.b
+--     domain h.c
+--     domain h.d
+--     domain h.e
+--     domain h.f
+--     domain h.g
+--     domain h.h
+--   => T a.a; T a.b; T a.c; T a.d; … 59 lines; T h.h
+abbrev types64 : List ℕ
+types64 = hex 286 0x10a0b085882c61640b285982ce16843932b9b7bab931b291cd95b19a00040000000404000004080000040c0000041000000414000004180000041c00000c0000000c0400000c0800000c0c00000c1000000c1400000c1800000c1c0000140000001404000014080000140c0000141000001414000014180000141c00001c0000001c0400001c0800001c0c00001c1000001c1400001c1800001c1c0000240000002404000024080000240c0000241000002414000024180000241c00002c0000002c0400002c0800002c0c00002c1000002c1400002c1800002c1c0000340000003404000034080000340c0000341000003414000034180000341c00003c0000003c0400003c0800003c0c00003c1000003c1400003c1800003c1c000000
+
+abbrev types64-schedule : Case
+types64-schedule = accepts types64 schedule 141 1536 139 0x80010000808040802060104008280418020e0300018080c0806060304018280c18060e05000280814080a0605040282814180a0e0700038081c080e060704038281c180e0e090004808240812060904048282418120e0b00058082c0816060b04058282c18160e0d000680834081a060d040682834181a0e0f00078083c081e060f04078283c181e0e0000
+
+types64-schedule-holds : Holds types64-schedule
+unfolding run
+types64-schedule-holds = refl
+
+abbrev types64-order : Case
+types64-order = accepts types64 order 139 1536 137 0x80010000808040802060104008280418020e0300018080c0806060304018280c18060e05000280814080a0605040282814180a0e0700038081c080e060704038281c180e0e090004808240812060904048282418120e0b00058082c0816060b04058282c18160e0d000680834081a060d040682834181a0e0f00078083c081e060f04078283c181e0e
+
+types64-order-holds : Holds types64-order
+unfolding run
+types64-order-holds = refl
+
+-- 65 types give 4.
+--     domain a.a
+--     domain a.b
+--     domain a.c
+--     domain a.d
+--     domain a.e
+--     domain a.f
+--     domain a.g
+--     domain a.h
+--     domain b.a
+--     domain b.b
+--     domain b.c
+--     domain b.d
+--     domain b.e
+--     domain b.f
+--     domain b.g
+--     domain b.h
+--     domain c.a
+--     domain c.b
+--     domain c.c
+--     domain c.d
+--     domain c.e
+--     domain c.f
+--     domain c.g
+--     domain c.h
+--     domain d.a
+--     domain d.b
+--     domain d.c
+--     domain d.d
+--     domain d.e
+--     domain d.f
+--     domain d.g
+--     domain d.h
+--     domain e.a
+--     domain e.b
+--     domain e.c
+--     domain e.d
+--     domain e.e
+--     domain e.f
+--     domain e.g
+--     domain e.h
+--     domain f.a
+--     domain f.b
+--     domain f.c
+--     domain f.d
+--     domain f.e
+--     domain f.f
+--     domain f.g
+--     domain f.h
+--     domain g.a
+--     domain g.b
+--     domain g.c
+--     domain g.d
+--     domain g.e
+--     domain g.f
+--     domain g.g
+--     domain g.h
+--     domain h.a
+--     domain h.b
+--     domain h.c
+--     domain h.d
+--     domain h.e
+--     domain h.f
+--     domain h.g
+--     domain h.h
+--     domain a
+--   => refused 4
+abbrev types65 : List ℕ
+types65 = hex 289 0x10a0b085882c61640b285982ce16843932b9b7bab931b291cd95b19a08040000000404000004080000040c0000041000000414000004180000041c00000c0000000c0400000c0800000c0c00000c1000000c1400000c1800000c1c0000140000001404000014080000140c0000141000001414000014180000141c00001c0000001c0400001c0800001c0c00001c1000001c1400001c1800001c1c0000240000002404000024080000240c0000241000002414000024180000241c00002c0000002c0400002c0800002c0c00002c1000002c1400002c1800002c1c0000340000003404000034080000340c0000341000003414000034180000341c00003c0000003c0400003c0800003c0c00003c1000003c1400003c1800003c1c000000000000
+
+abbrev types65-schedule : Case
+types65-schedule = refuses types65 schedule 2 1536 4
+
+types65-schedule-holds : Holds types65-schedule
+unfolding run
+types65-schedule-holds = refl
+
+abbrev types65-order : Case
+types65-order = refuses types65 order 2 1536 4
+
+types65-order-holds : Holds types65-order
+unfolding run
+types65-order-holds = refl
+
+-- 8 parents pass.
+--     domain p
+--     domain a : p p p p p p p p
+--   => T p; T a
+abbrev parents8 : List ℕ
+parents8 = hex 35 0x1040b085c10e4cae6deeae4c6ca473656c660402000000080100804020100804020000
+
+abbrev parents8-schedule : Case
+parents8-schedule = accepts parents8 schedule 8 1536 6 0x040200000000
+
+parents8-schedule-holds : Holds parents8-schedule
+unfolding run
+parents8-schedule-holds = refl
+
+abbrev parents8-order : Case
+parents8-order = accepts parents8 order 6 1536 4 0x04020000
+
+parents8-order-holds : Holds parents8-order
+unfolding run
+parents8-order-holds = refl
+
+-- 9 parents give 4.
+--     domain p
+--     domain a : p p p p p p p p p
+--   => refused 4
+abbrev parents9 : List ℕ
+parents9 = hex 36 0x1040b085c10e4cae6deeae4c6ca473656c66040200000009010080402010080402010000
+
+abbrev parents9-schedule : Case
+parents9-schedule = refuses parents9 schedule 2 1536 4
+
+parents9-schedule-holds : Holds parents9-schedule
+unfolding run
+parents9-schedule-holds = refl
+
+abbrev parents9-order : Case
+parents9-order = refuses parents9 order 2 1536 4
+
+parents9-order-holds : Holds parents9-order
+unfolding run
+parents9-order-holds = refl
+
+-- Nested p.file in `p`, child `b`: b.file under p.file, none made for `p`.
+--     domain p
+--       nest p.file
+--     domain b : p
+--     resource p.file
+--   => T p; T p.file; T b; R b.file 0 p.file,resource -; E b 00 file
+abbrev nested : List ℕ
+nested = hex 39 0x1050b11199a5b1942e087265736f75726365239b2b6330302000a1018100000810001405000000
+
+abbrev nested-schedule : Case
+nested-schedule = accepts nested schedule 20 1536 18 0x06040280800000800010a020140c01000020
+
+nested-schedule-holds : Holds nested-schedule
+unfolding run
+nested-schedule-holds = refl
+
+abbrev nested-order : Case
+nested-order = accepts nested order 8 1536 6 0x060402808000
+
+nested-order-holds : Holds nested-order
+unfolding run
+nested-order-holds = refl
+
+-- The worked example of the schedule program.
+--     domain base
+--       associate file
+--     resource file virtual : resource
+--       mark makelist
+--     resource resource
+--   => T base; T resource; T file; R base.file 0 file,resource makelist; E base 00 file
+abbrev worked : List ℕ
+worked = hex 38 0x10423130b9b29199a5b1950e4cae6deeae4c6ca473656c660600001220200261020101100000
+
+abbrev worked-schedule : Case
+worked-schedule = accepts worked schedule 18 1536 16 0x06000200800080001090140802800010
+
+worked-schedule-holds : Holds worked-schedule
+unfolding run
+worked-schedule-holds = refl
+
+abbrev worked-order : Case
+worked-order = accepts worked order 7 1536 5 0x0600020080
+
+worked-order-holds : Holds worked-order
+unfolding run
+worked-order-holds = refl
+
+abbrev pub cases : List Case
+cases = noTypes-schedule ∷ noTypes-order ∷ eachOther-schedule ∷ eachOther-order ∷ undeclaredParent-schedule ∷ undeclaredParent-order ∷ selfAlone-schedule ∷ selfAlone-order ∷ selfBesideFree-schedule ∷ selfBesideFree-order ∷ twoWaysUp-schedule ∷ twoWaysUp-order ∷ parentAndChild-schedule ∷ parentAndChild-order ∷ types64-schedule ∷ types64-order ∷ types65-schedule ∷ types65-order ∷ parents8-schedule ∷ parents8-order ∷ parents9-schedule ∷ parents9-order ∷ nested-schedule ∷ nested-order ∷ worked-schedule ∷ worked-order ∷ []
+
+pub hold : AllHold cases
+hold = (noTypes-schedule-holds, (noTypes-order-holds, (eachOther-schedule-holds, (eachOther-order-holds, (undeclaredParent-schedule-holds, (undeclaredParent-order-holds, (selfAlone-schedule-holds, (selfAlone-order-holds, (selfBesideFree-schedule-holds, (selfBesideFree-order-holds, (twoWaysUp-schedule-holds, (twoWaysUp-order-holds, (parentAndChild-schedule-holds, (parentAndChild-order-holds, (types64-schedule-holds, (types64-order-holds, (types65-schedule-holds, (types65-order-holds, (parents8-schedule-holds, (parents8-order-holds, (parents9-schedule-holds, (parents9-order-holds, (nested-schedule-holds, (nested-order-holds, (worked-schedule-holds, (worked-order-holds, tt))))))))))))))))))))))))))

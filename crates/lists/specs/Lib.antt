@@ -1,0 +1,10 @@
+pub mod Lists
+pub mod Tests
+pub mod Strict
+pub mod Sorting
+pub mod Counting
+pub mod Lexicographic
+pub mod Padding
+pub mod Members
+pub mod Appending
+pub mod Permutations

@@ -1,0 +1,641 @@
+#!/usr/bin/env python3
+"""Tests of the sheet tool and of the model. Run: python3 tools/test_tools.py"""
+
+import os
+import random
+import subprocess
+import sys
+import unittest
+
+HERE = os.path.dirname(os.path.abspath(__file__))
+sys.path.insert(0, HERE)
+
+import model
+import random_maps
+import sheetlib
+from sheetlib import sheet_of
+
+LISTING, DIAGNOSIS = b"\xa5" * 65536, b"\x5a" * 1600
+CALLS = {"schedule": model.schedule, "order": model.order}
+
+
+def run(text, call="schedule", listing=LISTING, diagnosis=DIAGNOSIS, rows=256):
+    """What the program prints for the map of a text, or for bytes."""
+    sheet = text if isinstance(text, bytes) else sheet_of(text)
+    result = CALLS[call](sheet, listing, diagnosis, rows)
+    return model.printed(sheet, result, call == "schedule")
+
+
+def number(text, call="schedule", **options):
+    """The number of the answer."""
+    sheet = text if isinstance(text, bytes) else sheet_of(text)
+    options = {"listing": LISTING, "diagnosis": DIAGNOSIS, **options}
+    return CALLS[call](sheet, **options).number
+
+
+class PCases(unittest.TestCase):
+    """01, 'Sheets to try': the cases marked (p), and the worked example."""
+
+    def test_no_types(self):
+        sheet = sheet_of("")
+        self.assertEqual(len(sheet), 17)
+        self.assertEqual(sheet[:4].hex(" "), "10 24 39 32")
+        result = model.schedule(sheet, LISTING, DIAGNOSIS)
+        self.assertEqual(result[:4], (0, 3, 0, 0))
+        self.assertEqual(result.listing, b"\0\0\0" + LISTING[3:])
+        self.assertEqual(result.diagnosis, DIAGNOSIS)
+        self.assertEqual(model.order(sheet, LISTING, DIAGNOSIS)[:5],
+                         (0, 1, 0, 0, b"\0" + LISTING[1:]))
+
+    def test_order(self):
+        for text, rows in [
+                ("domain a : b\ndomain b : a", ["D 2 b a -", "D 2 a b -"]),
+                ("domain a : b zz\ndomain b : b", ["D 3 a zz -", "D 2 b b -"]),
+                ("domain a : self zz", ["D 3 a self -"]),
+                ("domain a : self zz\ndomain c", ["D 1 a self -"])]:
+            for call in CALLS:
+                self.assertEqual(run(text, call), ["refused 8"] + rows)
+
+    def test_two_ways_up(self):
+        lines = run("""
+            resource resource
+            resource file : resource
+            domain d : b c
+            domain b : a
+            domain c : a
+            domain a
+              associate file
+            """)
+        self.assertEqual([line for line in lines if " d" in line],
+                         ["T d", "R d.file 0 b.file,c.file,resource -", "E d 00 file"])
+
+    def test_parent_and_child(self):
+        lines = run("""
+            resource file
+            domain a
+              associate file
+            domain b : a
+              associate file
+            """)
+        self.assertEqual([line for line in lines if " b" in line],
+                         ["T b", "R b.file 0 file,resource -", "R b.file 0 a.file,resource -",
+                          "E b 00 file"])
+
+    def test_limits(self):
+        def types(count):
+            return "".join(f"domain t{at:02}\n" for at in range(count))
+        for call in CALLS:
+            self.assertEqual(number(types(64), call), 0)
+            self.assertEqual(number(types(65), call), 4)
+            self.assertEqual(number("domain p\ndomain a :" + " p" * 8, call), 0)
+            self.assertEqual(number("domain p\ndomain a :" + " p" * 9, call), 4)
+
+    def test_nested(self):
+        self.assertEqual(run("""
+            resource p.file
+            domain p
+              nest p.file
+            domain b : p
+            """), ["T p", "T p.file", "T b", "R b.file 0 p.file,resource -", "E b 00 file"])
+
+    def test_worked_example(self):
+        examples = os.path.join(HERE, "..", "examples")
+        with open(os.path.join(examples, "base.txt"), encoding="latin-1") as source:
+            text = source.read()
+        with open(os.path.join(examples, "base.sheet"), "rb") as source:
+            sheet = source.read()
+        self.assertEqual(sheet_of(text), sheet)
+        names = ["T base", "T resource", "T file"]
+        self.assertEqual(run(sheet, "order"), names)
+        self.assertEqual(run(sheet), names + ["R base.file 0 file,resource makelist",
+                                              "E base 00 file"])
+
+
+GOOD = "domain a\n  associate f\nresource f\n"
+
+
+class RefusalTable(unittest.TestCase):
+    """01, 'Ten ways to be turned back': the examples, and the order of the tests."""
+
+    def check(self, sheet, want, call, listing=LISTING, diagnosis=DIAGNOSIS, size=0):
+        result = CALLS[call](sheet, listing, diagnosis)
+        self.assertEqual(result[:2], (want, size))
+        self.assertEqual(result.listing, listing)
+        if want not in (8, 9):
+            self.assertEqual(result[2:4], (0, 0))
+            self.assertEqual(result.diagnosis, diagnosis)
+        return result
+
+    def test_examples(self):
+        for call in CALLS:
+            good = sheet_of(GOOD)
+            self.check(bytes(40961), 1, call)
+            self.check(bytes(40960), 4, call)
+            self.check(good, 2, call, diagnosis=bytes(1535))
+            self.assertEqual(number(good, call, diagnosis=bytes(1536)), 0)
+            self.check(b"", 3, call)
+            self.check(sheet_of("version 2"), 4, call)
+            self.check(sheet_of("words! self resource"), 5, call)
+            self.check(sheet_of("domain a\ndomain a"), 6, call)
+            self.check(good + b"\0", 7, call)
+            result = self.check(sheet_of("domain a : a"), 8, call)
+            self.assertEqual(result[2:4], (1, 0))
+            self.assertEqual(result.diagnosis, bytes([2, 0, 255, 0, 255, 255]) + DIAGNOSIS[6:])
+            needed = CALLS[call](good, LISTING, DIAGNOSIS).size
+            self.check(good, 10, call, listing=b"", size=needed)
+            self.check(good, 10, call, listing=bytes(needed - 1), size=needed)
+            self.assertEqual(number(good, call, listing=bytes(needed)), 0)
+        undeclared = sheet_of("domain a\n  associate b")
+        result = self.check(undeclared, 9, "schedule")
+        self.assertEqual(result[2:4], (1, 0))
+        self.assertEqual(result.diagnosis, bytes([4, 0, 255, 1, 255, 1]) + DIAGNOSIS[6:])
+        self.assertEqual(run(undeclared), ["refused 9", "D 4 a b b"])
+        self.assertEqual(number(undeclared, "order"), 0)
+
+    def test_order_of_tests(self):
+        for call in CALLS:
+            self.assertEqual(number(bytes(40961), call, diagnosis=b""), 1)
+            self.assertEqual(number(b"", call, diagnosis=b""), 2)
+            twice = sheet_of("words! self resource a\ndomain a\ndomain a")
+            self.assertEqual(number(twice + b"\0", call), 7)
+            self.assertEqual(number(twice, call), 5)
+            self.assertEqual(number("domain a : a\ndomain a : a", call), 6)
+            self.assertEqual(number("domain a : a\n  associate b", call, listing=b""), 8)
+        self.assertEqual(number("domain a\n  associate b", listing=b""), 9)
+
+    def test_fill(self):
+        empty = bytearray(sheet_of(""))  # 131 bits: five of fill
+        for bit in range(5):
+            damaged = empty[:-1] + bytes([empty[-1] | 1 << bit])
+            self.assertEqual(number(bytes(damaged)), 7)
+
+
+class Reading(unittest.TestCase):
+    """Corners of reading a sheet."""
+
+    def bits(self, *fields):
+        out = sheetlib.Writer()
+        for width, value in fields:
+            out.put(width, value)
+        return out.data()
+
+    def test_first_field_decides(self):
+        head = [(4, 1), (8, 2), (5, 31)]
+        self.assertEqual(number(self.bits(*head, (8, ord("!")))), 4)
+        self.assertEqual(number(self.bits(*head, (8, ord("a")))), 3)
+        self.assertEqual(number(self.bits((4, 1), (8, 201))), 4)
+        self.assertEqual(number(self.bits((4, 1), (8, 1))), 4)
+        self.assertEqual(number(self.bits((4, 1), (8, 200))), 3)
+        self.assertEqual(number(self.bits((4, 1), (8, 2), (5, 0))), 4)
+        two = [(4, 1), (8, 2), (5, 1), (8, 97), (5, 1), (8, 98)]
+        self.assertEqual(number(self.bits(*two, (7, 65))), 4)
+        self.assertEqual(number(self.bits(*two, (7, 64))), 3)
+        self.assertEqual(number(self.bits(*two, (7, 1), (8, 2))), 4)
+        self.assertEqual(number(self.bits(*two, (7, 0), (6, 33))), 4)
+        record = [*two, (7, 1), (8, 0), (1, 0)]
+        self.assertEqual(number(self.bits(*record, (2, 3))), 4)
+        self.assertEqual(number(self.bits(*record, (2, 0), (2, 0), (4, 9))), 4)
+        self.assertEqual(number(self.bits(*record, (2, 0), (2, 0), (4, 0), (4, 13))), 4)
+        self.assertEqual(number(self.bits(*record, (2, 0), (2, 0), (4, 0), (4, 1), (3, 7))), 4)
+        pair = [*two, (7, 1), (8, 0), (1, 1), (8, 1), (2, 0), (2, 0), (4, 0), (4, 1)]
+        self.assertEqual(number(self.bits(*pair, (3, 2))), 4)
+        self.assertEqual(number(self.bits(*pair, (3, 1))), 3)
+
+    def test_values(self):
+        for text, want in [
+                ("words @z", 4), ("words a!", 4), ('words! "" resource self', 4),
+                ("words Z_9", 0), ("words! resource self self", 5), ("words! a resource", 5),
+                ("words! resource self a", 5), ("words! resource resource self", 5),
+                ("domain @2", 4), ("domain a : @9", 4), ("variant3 a", 4), ("domain a\n  kind7", 4),
+                ("domain a.b\n  nest a", 4), ("domain a.b\n  associate", 0),
+                ("domain a\n  nest", 0), ("domain a\n  associate", 0),
+                ("extend a f", 4), ("extend a f :" + " p" * 8, 0), ("extend a f :" + " p" * 9, 4),
+                ("domain a" + "".join(f"\n  derive {at}" for at in range(12)), 0),
+                ("domain a" + "".join(f"\n  derive {at}" for at in range(13)), 4),
+                ("".join(f"extend a w{at:02} : p\n" for at in range(32)), 0),
+                ("".join(f"extend a w{at:02} : p\n" for at in range(33)), 4),
+                ("words " + " ".join(f"w{at:03}" for at in range(198)), 0),
+                ("words " + " ".join(f"w{at:03}" for at in range(199)), 4),
+                ("domain a\n  inherit" + " b" * 15, 0),
+                ("domain a\n  nest " + " ".join(f"w{at:02}" for at in range(15)), 0),
+                ("words " + "a" * 31, 0)]:
+            for call in CALLS:
+                self.assertEqual(number(text, call), want, text)
+
+    def test_every_truncation(self):
+        sheet = sheet_of(GOOD + "  mark derive 7\n  alias x\nextend a f : p q.f\n")
+        for size in range(len(sheet)):
+            self.assertEqual(number(sheet[:size]), 3)
+
+    def test_equal_annotations(self):
+        for own, want in [
+                ("associate f|associate f", 6), ("associate f|associate d.f", 6),
+                ("nest f|nest d.f", 6), ("associate f|nest f", 0), ("associate|associate", 6),
+                ("associate f g|associate g f", 6), ("associate f g|associate f.g", 0),
+                ("associate f d.f", 6), ("nest f f", 6),
+                ("inherit a b|inherit b a", 0), ("inherit a|inherit a a", 0),
+                ("inherit a b|inherit a b", 6), ("inherit|inherit", 6),
+                ("derive 1|derive 1", 6), ("derive 1|derive 2", 0),
+                ("alias f|alias f", 6), ("alias f|alias g", 0),
+                ("makelist|makelist", 6), ("noderive|noderive", 6), ("makelist|noderive", 0)]:
+            text = "domain d\n  " + own.replace("|", "\n  ")
+            self.assertEqual(number(text, "order"), want, own)
+
+    def test_equal_names(self):
+        self.assertEqual(number("domain a.b\ndomain a\ndomain b", "order"), 0)
+        self.assertEqual(number("domain a.b\ndomain a.b", "order"), 6)
+        self.assertEqual(number("extend a b : p\nextend a b : q", "order"), 6)
+        self.assertEqual(number("extend a b : p\nextend a.b b : p\nextend b b : p", "order"), 0)
+
+    def test_extensions(self):
+        lines = run("""
+            domain a
+              associate f
+            resource f
+            extend zz f : self
+            extend a f : self zz.f zz.f
+            """)
+        self.assertIn("R a.f 0 f,resource,self,zz.f,zz.f -", lines)
+
+    def test_other_annotations(self):
+        """Kinds other than the associates change nothing, and no parent is added."""
+        plain = "resource f\n  mark derive 5\ndomain a\n  associate f\ndomain b : a\n"
+        more = plain.replace("associate f", "noderive\n  derive 3\n  inherit zz b\n  alias b\n"
+                             "  makelist\n  associate f").replace("  mark", "  derive 9\n  mark")
+        self.assertEqual(run(more), run(plain))
+
+
+class Diagnosis8(unittest.TestCase):
+    """Corners of the order and of refusal 8."""
+
+    def check(self, text, *rows):
+        for call in CALLS:
+            self.assertEqual(run(text, call), ["refused 8"] + ["D " + row for row in rows])
+
+    def test_self(self):
+        self.check("domain a : self self", "1 a self -", "1 a self -")
+        self.check("domain a\ndomain b : a self", "1 b self -")
+        self.check("domain b : a self\ndomain a : self\ndomain c.d : self",
+                   "1 a self -", "1 b self -", "1 c.d self -")
+        self.check("domain self\ndomain a : self", "1 a self -")
+        self.check("domain self : self", "1 self self -")
+        self.check("domain a : self b\ndomain b : a\ndomain self : a",
+                   "2 self a -", "2 b a -", "2 a b -", "2 a self -")
+        # A name of two words is not `self`.
+        self.check("domain c\ndomain a : self.c", "3 a self.c -")
+
+    def test_first_bad_parent(self):
+        self.check("domain a : b a zz\ndomain b : zz", "2 a a -", "3 b zz -")
+        self.check("domain a : b b\ndomain b : zz", "3 b zz -", "3 b zz -", "3 b zz -")
+        self.check("domain a : b c\ndomain b : a\ndomain c : zz",
+                   "2 b a -", "3 c zz -", "2 a b -", "3 c zz -")
+
+    def test_placed_types(self):
+        self.check("domain a : b c\ndomain b\ndomain c : c b", "2 c c -", "2 c c -")
+        self.assertEqual(run("domain c : b\ndomain b : a\ndomain a", "order"), ["T a", "T b", "T c"])
+        # A type ready in its parent's round waits for the next one.
+        self.assertEqual(run("domain a\ndomain b : a\ndomain c", "order"), ["T a", "T c", "T b"])
+
+    def test_row_limit(self):
+        def text(count):
+            return "".join(f"domain t{at:02} :{' self' * min(8, count - 8 * at)}\n"
+                           for at in range((count + 7) // 8))
+        for count, rows, flag in [(255, 255, 0), (256, 256, 0), (257, 256, 1)]:
+            result = model.order(sheet_of(text(count)), LISTING, DIAGNOSIS)
+            self.assertEqual(result[:4], (8, 0, rows, flag))
+            self.assertEqual(result.diagnosis[6 * rows:], DIAGNOSIS[6 * rows:])
+            self.assertEqual(result.listing, LISTING)
+        self.assertEqual(run(text(257))[-1], "more")
+        self.assertEqual(model.order(sheet_of(text(257)), LISTING, bytes(384), 64)[:4], (8, 0, 64, 1))
+
+    def test_exponential(self):
+        """Paths that double at each step end at the row past the limit."""
+        text = "".join(f"domain t{at:02} :{f' t{at + 1:02}' * 8}\n" for at in range(62))
+        result = model.schedule(sheet_of(text + "domain t62 : zz"), LISTING, DIAGNOSIS)
+        self.assertEqual(result[:4], (8, 0, 256, 1))
+        text += "domain t62\n  associate f\nresource f"
+        self.assertEqual(number(text), 0)
+
+
+class Synthesis(unittest.TestCase):
+    """Corners of the lines and of refusal 9."""
+
+    def rows(self, text, *rows):
+        self.assertEqual(run(text), ["refused 9"] + ["D " + row for row in rows])
+        self.assertEqual(number(text, "order"), 0)
+
+    def lines(self, text, *lines):
+        self.assertEqual([line for line in run(text) if line[0] != "T"], list(lines))
+
+    def refused(self, text):
+        """The types that 01 calls refused."""
+        types = model.read_sheet(sheet_of(text))
+        names = model.items_of(types, model.organize_type_map(types))[1]
+        return {".".join(types.words[w].decode() for w in name) for name in names}
+
+    def test_failed_parents(self):
+        """A call that fails passes nothing at that listing, and everything when listed again;
+        so a refused type can be without a row."""
+        base = "resource f\ndomain p\n  associate f\n  associate zz\n"
+        self.rows(base + "domain c : p", "4 p zz zz")
+        self.assertEqual(self.refused(base + "domain c : p"), {"p", "c"})
+        self.rows(base + "domain q : p", "4 p zz zz", "4 q zz zz")
+        self.rows(base + "domain c : p p", "4 p zz zz", "4 c zz zz")
+        self.rows(base + "domain b : c c\ndomain c : p", "4 p zz zz", "4 b zz zz")
+
+    def test_row_without_refusal(self):
+        """q fails, so that a has p.f alone as first parent: a row, though a is not refused."""
+        text = ("resource f\nresource g\nresource p.f\nresource q.g\ndomain p\n  nest f\n"
+                "domain q\n  nest f\n  associate g\ndomain a : p q\n  associate p.f\n")
+        self.rows(text, "6 q - g", "6 a - f")
+        self.assertEqual(self.refused(text), {"q"})
+
+    def test_nest_makes_nothing(self):
+        """An unknown class nested in a type refuses its children only."""
+        self.lines("domain p\n  nest zz")
+        self.rows("domain p\n  nest zz\ndomain b : p", "4 b zz zz")
+
+    def test_within_an_annotation(self):
+        self.rows("domain a\n  associate zz yy", "4 a yy yy")
+        self.rows("domain d\nresource f\ndomain a\n  associate d f zz", "5 a d d")
+        self.rows("domain d\nresource f\ndomain a\n  associate d zz", "5 a d d", "4 a zz zz")
+        self.rows("resource d\nresource a.d\ndomain a\n  associate d zz", "6 a - d", "4 a zz zz")
+        self.rows("resource d\nresource a.d\ndomain e\ndomain a\n  associate d e", "6 a - d")
+        self.rows("domain a\n  associate zz\n  associate yy", "4 a yy yy", "4 a zz zz")
+        self.rows("domain a\n  associate m zz\n  associate k yy", "4 a k k", "4 a m m")
+        # Kind 6 is not given where 5 is.
+        self.rows("domain f\nresource a.f\ndomain a\n  associate f", "5 a f f")
+        # A word's unknown classes each add a row; the first class that is no resource one.
+        self.rows("domain a\n  nest x.f y.g\ndomain b\n  nest y.f x.g\ndomain c : a b",
+                  "4 c x.f f", "4 c y.f f")
+        self.rows("domain f\ndomain x.f\ndomain a\n  nest x.f\ndomain b\n  nest f\ndomain c : a b",
+                  "5 c f f")
+
+    def test_order_of_inherited(self):
+        """As the dedup leaves them: not by words, and own Associates before own Nests."""
+        self.rows("domain a\n  nest x\n  nest c d\n  associate\ndomain b : a",
+                  "4 b c c", "4 b x x")
+        self.rows("domain p\n  nest m z\ndomain q\n  nest a m\ndomain t : p q",
+                  "4 t z z", "4 t m m", "4 t a a")
+        self.rows("domain p\n  nest m z\ndomain q\n  nest a m\ndomain t : q p",
+                  "4 t a a", "4 t m m", "4 t z z")
+
+    def test_doms(self):
+        """T's own doms join its children's inherited classes and not its own."""
+        self.lines("resource f\n  mark derive 1\nresource d.f\n  mark derive 2\n"
+                   "domain a\n  associate f\ndomain b : a\n  associate d.f\ndomain c : b\n",
+                   "R a.f 0 f,resource derive:1", "E a 00 f",
+                   "R b.f 0 d.f,resource derive:2", "R b.f 0 a.f,resource derive:1", "E b 00 f",
+                   "R c.f 0 b.f,resource derive:1,derive:2", "E c 00 f")
+
+    def test_names(self):
+        self.lines("resource f virtual\n  associate f", "R f.f 1 f,resource -", "E f 10 f")
+        self.lines("resource f\ndomain p trait\n  nest f\ndomain b trait : p",
+                   "R b.f 0 p.f,resource -", "E b 01 f")
+        self.lines("resource f\ndomain a.b\n  associate f\ndomain c.d : a.b",
+                   "R a.b.f 0 f,resource -", "E a.b 00 f",
+                   "R c.d.f 0 a.b.f,resource -", "E c.d 00 f")
+
+    def test_parents(self):
+        """P.r for direct parents alone, once each, ascending."""
+        self.lines("resource f\ndomain z\n  nest f\ndomain m : z\ndomain e\ndomain t : z m e z m",
+                   "R m.f 0 z.f,resource -", "E m 00 f",
+                   "R t.f 0 m.f,z.f,resource -", "E t 00 f")
+
+    def test_virtual_and_marks(self):
+        text = ("resource f virtual\n  mark makelist\n  mark makelist\nresource d.f virtual\n"
+                "  mark derive 255\ndomain a virtual\n  nest f\ndomain b virtual\n  nest d.f\n"
+                "domain c virtual trait : a b\n")
+        self.lines(text, "R c.f 1 a.f,b.f,resource makelist,makelist,derive:255", "E c 11 f")
+        self.lines(text.replace("d.f virtual", "d.f"),
+                   "R c.f 0 a.f,b.f,resource makelist,makelist,derive:255", "E c 11 f")
+
+    def test_identical(self):
+        self.rows("resource f\nresource g\ndomain a\n  associate f\n  associate f g", "6 a - f")
+        # Own resources stand by ascending class name, whichever annotation gives them.
+        for own in ["associate d.f\n  associate f g", "associate f\n  associate d.f g"]:
+            self.lines("resource f\nresource d.f\nresource g\ndomain a\n  " + own,
+                       "R a.f 0 d.f,resource -", "R a.f 0 f,resource -", "E a 00 f",
+                       "R a.g 0 g,resource -", "E a 00 g")
+        # An own resource of class P.r beside the inherited one.
+        text = "resource p.f\nresource q.f\ndomain p\n  nest q.f\ndomain t : p\n  associate p.f\n"
+        self.rows(text, "6 t - f")
+        self.lines("resource p.f\n  mark makelist\n" + text[13:],
+                   "R t.f 0 p.f,resource makelist", "R t.f 0 p.f,resource -", "E t 00 f")
+
+    def test_dedup(self):
+        def entry(words, parent):
+            return model.Inherited((model.ASSOCIATE, tuple((w, 1) for w in words)),
+                                   frozenset([parent]))
+        out = model.dedup_inherited_annotations([entry([1, 2, 3], "p"), entry([2, 5], "q"),
+                                                 entry([3, 5, 6], "r")])
+        self.assertEqual([(model.words_of(e.annotation), "".join(sorted(e.parents))) for e in out],
+                         [([1], "p"), ([3], "pr"), ([2], "pq"), ([5], "qr"), ([6], "r")])
+
+    def test_pairs_of_kinds(self):
+        """'Intersection' and 'Difference' for the seven kinds."""
+        both, less = model.intersection, model.difference
+        samples = [(0, None), (1, ((1, 1), (2, 1))), (2, ((1, 2),)), (3, 4), (4, ((1,),)), (5, 7),
+                   (6, None)]
+        for left in samples:
+            for right in samples:
+                if left[0] != right[0]:
+                    self.assertIsNone(both(left, right))
+                    self.assertEqual(less(left, right), left)
+        for at in (0, 3, 6):
+            self.assertEqual(both(samples[at], samples[at]), samples[at])
+            self.assertIsNone(less(samples[at], samples[at]))
+        self.assertIsNone(both((3, 4), (3, 5)))
+        self.assertEqual(less((3, 4), (3, 5)), (3, 4))
+        for at in (4, 5):
+            self.assertIsNone(both(samples[at], samples[at]))
+            self.assertEqual(less(samples[at], samples[at]), samples[at])
+        for kind in (1, 2):
+            left, right = (kind, ((1, 1), (2, 1))), (kind, ((2, 4), (3, 1)))
+            self.assertEqual(both(left, right), (kind, ((2, 5),)))
+            self.assertEqual(less(left, right), (kind, ((1, 1),)))
+            self.assertIsNone(less(left, left))
+            self.assertIsNone(both(left, (kind, ((3, 1),))))
+
+
+# ------------------------------------------------------------ random maps
+
+def rust_cycles(types, name, visited):
+    """find_cycles_or_bad_types, word for word: the rows, earlier answers dropped."""
+    out = []
+    for parent in types.types[name].parents:
+        if parent in visited or parent == name:
+            return [model.Row(2, name, parent, None)]
+        if parent not in types.types:
+            return [model.Row(3, name, parent, None)]
+        out += rust_cycles(types, parent, visited | {name})
+    return out
+
+
+def rust_organize(types):
+    """organize_type_map, word for word: (names, rows)."""
+    waiting, out, errors = sorted(types.types), [], []
+    while waiting:
+        ready = []
+        for name in waiting:
+            wait = False
+            for parent in types.types[name].parents:
+                if parent == (types.self_word,):
+                    errors.append(model.Row(1, name, parent, None))
+                elif parent not in out:
+                    wait = True
+            if not wait:
+                ready.append(name)
+        if not ready:
+            return out, [row for name in waiting for row in rust_cycles(types, name, frozenset())]
+        waiting = [name for name in waiting if name not in ready]
+        out += ready
+        if errors:
+            break
+    return out, errors
+
+
+class RustSynthesis(model.Synthesis):
+    """inherit_annotations, word for word: every call recurses anew."""
+
+    def __init__(self, types):
+        self.types, self.rows, self.makings, self.lines = types, [], {}, {}
+        self.interpreted = set()
+        for name in types.types:
+            self.inherit_annotations(types.types[name])
+
+    def inherit_annotations(self, info):
+        """The list passed on, or None where the call fails."""
+        got, fails = [], False
+        for parent in info.parents:
+            passed = self.inherit_annotations(self.types.types[parent])
+            fails = fails or passed is None
+            got += passed or []
+        inherited = model.dedup_inherited_annotations(got)
+        if info.name not in self.interpreted:
+            self.interpreted.add(info.name)
+            before = len(self.rows)
+            own = [model.Inherited(ann, frozenset()) for ann in info.annotations]
+            for entry in own + inherited:
+                if entry.annotation[0] == model.ASSOCIATE:
+                    self.interpret_associate(info, entry)
+            fails = fails or len(self.rows) > before
+        if fails:
+            return None
+        me = frozenset([info.name])
+        return [model.Inherited((1 if kind == 2 else kind, payload), me)
+                for kind, payload in info.annotations + [e.annotation for e in inherited]]
+
+
+def relisted(rng, type_map):
+    """The map with its records in another order, and the parents of each in another
+    order and with other repeats."""
+    text = sheetlib.to_text(type_map)
+    out = sheetlib.parse_text(text)
+    rng.shuffle(out.types)
+    for record in out.types:
+        names = list(dict.fromkeys(record.parents))
+        rng.shuffle(names)
+        record.parents = names + [rng.choice(names) for _ in range(rng.randint(0, 2)) if names]
+        record.parents = record.parents[:8]
+        rng.shuffle(record.parents)
+    return out
+
+
+def check_random_map(case, seed):
+    """One random map: round trips, the model's assertions, the word-for-word
+    transcriptions, relisting. Returns the number of the answer."""
+    rng = random.Random(seed)
+    type_map = random_maps.random_map(rng, rng.choice([4, 8, 12]), rng.choice([0, 0.02, 0.1, 0.3]))
+    sheet = sheetlib.encode(type_map)
+    case.assertEqual(sheetlib.sheet_of(sheetlib.to_text(type_map)), sheet)
+    case.assertEqual(sheetlib.sheet_of(sheetlib.text_of(sheet)), sheet)
+    result = model.schedule(sheet, LISTING, DIAGNOSIS)
+    case.assertIn(result.number, (0, 8, 9), seed)
+    types = model.read_sheet(sheet)
+    names, rows = rust_organize(types)
+    case.assertEqual(bool(rows), result.number == 8, seed)
+    if not rows:
+        case.assertEqual(model.organize_type_map(types), names)
+        rust, ours = RustSynthesis(types), model.Synthesis(types, names)
+        rows = rust.rows
+        case.assertEqual(ours.rows, rows, seed)
+        case.assertEqual((list(ours.makings), ours.lines), (list(rust.makings), rust.lines), seed)
+    written = b"".join(model.row_bytes(row) for row in rows[:256])
+    case.assertEqual(result.diagnosis, written + DIAGNOSIS[len(written):], seed)
+    case.assertEqual(result.flag, int(len(rows) > 256))
+    other = model.schedule(sheetlib.encode(relisted(rng, type_map)), LISTING, DIAGNOSIS)
+    case.assertEqual(other.number, result.number, seed)
+    case.assertEqual(other.listing, result.listing, seed)
+    return result.number
+
+
+class RandomMaps(unittest.TestCase):
+    """Random small maps; RANDOM_MAPS in the environment sets their number."""
+
+    def test_random_maps(self):
+        count = int(os.environ.get("RANDOM_MAPS", "1500"))
+        first = int(os.environ.get("RANDOM_FIRST", "0"))
+        met = {check_random_map(self, seed) for seed in range(first, first + count)}
+        self.assertEqual(met, {0, 8, 9})
+
+    def test_damaged_sheets(self):
+        """Flipped bits are answered, and what is readable reads as the tool reads it."""
+        rng = random.Random(1)
+        for _ in range(300):
+            sheet = bytearray(sheetlib.encode(random_maps.random_map(rng)))
+            for _ in range(rng.choice([1, 1, 2])):
+                bit = rng.randrange(8 * len(sheet))
+                sheet[bit // 8] ^= 128 >> bit % 8
+            sheet = bytes(sheet)
+            result = model.schedule(sheet, LISTING, DIAGNOSIS)
+            self.assertIn(result.number, (0, 3, 4, 5, 6, 7, 8, 9))
+            if result.number in (3, 7):
+                self.assertRaises(sheetlib.SheetError, sheetlib.decode, sheet)
+            elif result.number != 4:
+                self.assertEqual(sheetlib.sheet_of(sheetlib.text_of(sheet)), sheet)
+
+
+class Programs(unittest.TestCase):
+    """The tools as programs."""
+
+    def tool(self, name, *args, given=b""):
+        done = subprocess.run([sys.executable, os.path.join(HERE, name), *args], input=given,
+                              capture_output=True, check=False)
+        return done.returncode, done.stdout, done.stderr.decode()
+
+    def test_sheet(self):
+        self.assertEqual(self.tool("sheet", "--hex")[1][:11], b"10 24 39 32")
+        sheet = self.tool("sheet", given=GOOD.encode())[1]
+        self.assertEqual(sheet, sheet_of(GOOD))
+        self.assertEqual(self.tool("sheet", "--decode", given=sheet)[1].decode(), GOOD)
+        done = self.tool("sheet", "--truncate", "2", "--append", "ff00", "--flip", "0",
+                         "--flip", "31", given=GOOD.encode())
+        self.assertEqual(done[1], bytes([sheet[0] ^ 128, sheet[1], 255, 1]))
+
+    def test_errors(self):
+        for text, part in [("domain", "line 1"), ("\nfoo a", "line 2"), ("makelist", "no type"),
+                           ("domain a b", "no flag"), ("domain a.b.c", "one or two words"),
+                           ("domain a :" + " p" * 16,
+                            "line 1: type a: parents: count: 16 does not fit 4 bits"),
+                           ("domain a\n  derive 256",
+                            "line 2: type a: derive: tag: 256 does not fit 8 bits"),
+                           ("domain a\n\nextend a f :" + " p" * 16, "line 3: extension a f"),
+                           ("words " + "a" * 32, "does not fit 5 bits"),
+                           ("words! a\ndomain b", "not in the word list")]:
+            code, out, error = self.tool("sheet", given=text.encode())
+            self.assertEqual((code, out), (1, b""))
+            self.assertIn(part, error)
+
+    def test_model(self):
+        sheet = sheet_of("domain a : a")
+        self.assertEqual(self.tool("model.py", "order", given=sheet)[1], b"refused 8\nD 2 a a -\n")
+        self.assertEqual(self.tool("model.py", "order", "--listing", "0", given=sheet_of(""))[1],
+                         b"refused 10\n")
+        self.assertEqual(self.tool("model.py", "order", "--diagnosis", "1535", given=sheet)[1],
+                         b"refused 2\n")
+        self.assertEqual(self.tool("model.py", "order", given=sheet_of(""))[1], b"")
+
+
+if __name__ == "__main__":
+    unittest.main()
