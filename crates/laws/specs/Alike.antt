@@ -1,0 +1,153 @@
+-- Relisted inputs: the refusals of the two are alike one by one, so the answers are.
+use mathlib.Core.Bool.{Bool, true, false, not}
+use mathlib.Core.List.{List, [], _∷_}
+use mathlib.Core.Path.{_≡_, refl, sym, ap, ap₂, _∙_, subst, subst₂}
+use Prim.Native.Nat.{ℕ, _*_}
+use lib.Dec.{ltb}
+use lib.ListN.{length}
+use borrow.Author.Tests.{le-ltb}
+use Rattle.lists.specs.Lists.{In, null}
+use Rattle.lists.specs.Tests.{by}
+use Rattle.definitions.specs.Records.{Sheet, Schedule}
+use Rattle.definitions.specs.Bits.{bitsOf, size, pack}
+use Rattle.definitions.specs.Parse.{Parsed}
+use Rattle.definitions.specs.Reading.{sheet}
+use Rattle.definitions.specs.Checks.{badFill, badWords, somethingTwice}
+use Rattle.definitions.specs.Map.{TypeMap, typeMapOf, mapOf}
+use Rattle.definitions.specs.Order.{hasOrder, organizeTypeMap}
+use Rattle.definitions.specs.Items.{itemsOf}
+use Rattle.definitions.specs.Answer.{Settings, Call, schedule, order, Input, Outcome, overwrite, refusedBy, restOf, sheetOf, itemsFor, scheduleOf, bitsWritten, Refusal, synthesisRows, refusals, refuse, mapIn, accept, firstRefusal, outcome}
+use Rattle.definitions.specs.Relisted.{Holds, RelistedInputs, Alike}
+use Rattle.laws.specs.Orders.{names-once}
+use Rattle.laws.specs.Relisting.{relisted-map, relisted-order}
+
+-- ---- lists of refusals
+
+-- refusals that have one number, hold or do not hold alike, and name one size, as far as the first that holds
+data Match : List Refusal → List Refusal → Type 0 where
+  none : Match [] []
+  next : {r q : Refusal} {l k : List Refusal} → r .number ≡ q .number → r .holds tt ≡ q .holds tt → r .size tt ≡ q .size tt
+      → (r .holds tt ≡ false → Match l k) → Match (r ∷ l) (q ∷ k)
+
+first-holds : (i : Input) (r : Refusal) (l : List Refusal) → r .holds tt ≡ true → firstRefusal i (r ∷ l) ≡ refuse i r
+unfolding firstRefusal
+first-holds i r l e = rw (e, firstRefusal)
+
+first-passed : (i : Input) (r : Refusal) (l : List Refusal) → r .holds tt ≡ false → firstRefusal i (r ∷ l) ≡ firstRefusal i l
+unfolding firstRefusal
+first-passed i r l e = rw (e, firstRefusal)
+
+-- two outcomes have one number and one size, and leave one listing where it was one at entry
+record Same (i j : Input) (x y : Outcome) : Type 0 where
+  number : x .answer .number ≡ y .answer .number
+  size : x .answer .size ≡ y .answer .size
+  listing : i .listing ≡ j .listing → x .listing ≡ y .listing
+
+refuse-same : (i j : Input) (r q : Refusal) → r .number ≡ q .number → r .size tt ≡ q .size tt → Same i j (refuse i r) (refuse j q)
+unfolding refuse
+refuse-same i j r q n z = record { number = n; size = z; listing = λ e. e }
+
+match-same : (i j : Input) → Same i j (accept i) (accept j) → {l k : List Refusal} → Match l k → Same i j (firstRefusal i l) (firstRefusal j k)
+unfolding firstRefusal
+match-same i j a none = a
+match-same i j a (next {r = r} {q = q} {l = l} {k = k} n h z m) =
+    by (r .holds tt)
+    (λ e. subst₂ (Same i j) (sym (first-holds i r l e)) (sym (first-holds j q k (sym h ∙ e))) (refuse-same i j r q n z))
+    (λ e. subst₂ (Same i j) (sym (first-passed i r l e)) (sym (first-passed j q k (sym h ∙ e))) (match-same i j a (m e)))
+
+-- ---- what was read
+
+not-false : (b : Bool) → not b ≡ false → b ≡ true
+not-false true e = refl
+not-false false e = sym e
+
+-- what each test sees of bytes that hold a sheet
+module _ {bytes : List ℕ} {s : Sheet} (h : Holds bytes s) where
+  abbrev r : Parsed Sheet
+  r = sheet (bitsOf bytes)
+
+  not-long : ltb 40960 (length bytes) ≡ false
+  not-long = le-ltb 40960 (length bytes) (h .short)
+
+  not-refused : (n : ℕ) → refusedBy n r ≡ false
+  not-refused n = ap (refusedBy n) (h .read)
+
+  not-filled : badFill (restOf r) ≡ false
+  not-filled = ap (λ (p : Parsed Sheet). badFill (restOf p)) (h .read) ∙ h .fill
+
+  good-words : badWords (sheetOf r .words) ≡ false
+  good-words = ap (λ (p : Parsed Sheet). badWords (sheetOf p .words)) (h .read) ∙ h .words
+
+  nothing-twice : somethingTwice (sheetOf r) ≡ false
+  nothing-twice = ap (λ (p : Parsed Sheet). somethingTwice (sheetOf p)) (h .read) ∙ h .once
+
+  map-read : typeMapOf (sheetOf r) ≡ typeMapOf s
+  map-read = ap (λ (p : Parsed Sheet). typeMapOf (sheetOf p)) (h .read)
+
+-- ---- two inputs
+
+-- maps with one order, and one map as the lines see it, have one schedule
+items-same : (c : Call) (m n : TypeMap) → mapOf m ≡ mapOf n → itemsFor c m ≡ itemsFor c n
+items-same schedule m n e = ap itemsOf e
+items-same order m n e = refl
+
+schedule-same : (c : Call) (m n : TypeMap) → organizeTypeMap m ≡ organizeTypeMap n → mapOf m ≡ mapOf n → scheduleOf c m ≡ scheduleOf c n
+unfolding scheduleOf
+schedule-same c m n o e = λ i. record { order = o i; items = items-same c m n e i }
+
+module _ (i j : Input) (h : RelistedInputs i j) where
+  orders : (hasOrder (typeMapOf (h .s)) ≡ hasOrder (typeMapOf (h .t))) × (organizeTypeMap (typeMapOf (h .s)) ≡ organizeTypeMap (typeMapOf (h .t)))
+  orders = relisted-order (h .s) (h .t) (names-once (h .s) (h .left .once)) (h .relisted)
+
+  maps : mapOf (typeMapOf (h .s)) ≡ mapOf (typeMapOf (h .t))
+  maps = relisted-map (h .s) (h .t) (names-once (h .s) (h .left .once)) (h .relisted)
+
+  has-order : hasOrder (mapIn i) ≡ hasOrder (mapIn j)
+  unfolding mapIn
+  has-order = ap hasOrder (map-read (h .left)) ∙ orders .0 ∙ sym (ap hasOrder (map-read (h .right)))
+
+  schedules : scheduleOf (i .call) (mapIn i) ≡ scheduleOf (j .call) (mapIn j)
+  unfolding mapIn
+  schedules =
+      ap (scheduleOf (i .call)) (map-read (h .left))
+      ∙ schedule-same (i .call) (typeMapOf (h .s)) (typeMapOf (h .t)) (orders .1) maps
+      ∙ ap₂ scheduleOf (h .call) (sym (map-read (h .right)))
+
+  bits : bitsWritten (i .call) (scheduleOf (i .call) (mapIn i)) ≡ bitsWritten (j .call) (scheduleOf (j .call) (mapIn j))
+  bits = ap₂ bitsWritten (h .call) schedules
+
+  accept-same : Same i j (accept i) (accept j)
+  unfolding accept
+  accept-same = record { number = refl; size = ap (λ b. length (pack b)) bits; listing = λ e. ap₂ (λ b l. overwrite (pack b) l) bits e }
+
+  -- where there is an order, and the synthesis leaves no row of the one exactly if it leaves none of the other
+  module _ (rows : hasOrder (mapIn i) ≡ true → null (synthesisRows (i .call) (mapIn i)) ≡ null (synthesisRows (j .call) (mapIn j))) where
+    matches : Match (refusals i) (refusals j)
+    unfolding refusals mapIn
+    matches =
+        next refl (not-long (h .left) ∙ sym (not-long (h .right))) refl
+        (λ e. next refl (ap₂ (λ n (c : Settings). ltb n (6 * c .rows)) (h .diagnosis) (h .settings)) refl
+        (λ e. next refl (not-refused (h .left) 3 ∙ sym (not-refused (h .right) 3)) refl
+        (λ e. next refl (not-refused (h .left) 4 ∙ sym (not-refused (h .right) 4)) refl
+        (λ e. next refl (not-filled (h .left) ∙ sym (not-filled (h .right))) refl
+        (λ e. next refl (good-words (h .left) ∙ sym (good-words (h .right))) refl
+        (λ e. next refl (nothing-twice (h .left) ∙ sym (nothing-twice (h .right))) refl
+        (λ e. next refl (ap not has-order) refl
+        (λ o. next refl (ap not (rows (not-false (hasOrder (mapIn i)) o))) refl
+        (λ e. next refl (ap₂ (λ n b. ltb n (size (length b))) (h .listing) bits) (ap (λ b. size (length b)) bits)
+        (λ e. none))))))))))
+
+    outcome-same : Same i j (outcome i) (outcome j)
+    unfolding outcome
+    outcome-same = match-same i j accept-same matches
+
+    pub alike-bytes : i .listing ≡ j .listing → outcome i .listing ≡ outcome j .listing
+    alike-bytes = outcome-same .listing
+
+    pub alike : Alike i j
+    alike = record {
+      number = outcome-same .number;
+      size = outcome-same .size;
+      order = λ e. ap (λ (c : Schedule). c .order) schedules;
+      lines = λ e x. (subst (λ (c : Schedule). In x (c .items)) schedules, subst (λ (c : Schedule). In x (c .items)) (sym schedules));
+    }

@@ -1,0 +1,10 @@
+pub mod Orders
+pub mod Passes
+pub mod Statements
+pub mod Self
+pub mod Rounds
+pub mod Order
+pub mod Diagnosis
+pub mod Relisting
+pub mod Alike
+pub mod Examples

@@ -1,0 +1,82 @@
+-- The limits that 'The sheet, bit by bit' sets, as facts about a sheet, and those of the items that follow. Nothing here computes.
+use mathlib.Core.List.{List}
+use Prim.Native.Nat.{ℕ, _+_, _*_, _≤_, _<_}
+use lib.ListN.{length}
+use Rattle.lists.specs.Lists.{In}
+use Rattle.definitions.specs.Records.{Name, Resource, Annotation, Mark, makelistMark, deriveMark, TypeInfo, Extension, Sheet, Item, synthesized, extension}
+use Rattle.definitions.specs.Checks.{resourcesOf}
+use Rattle.definitions.specs.Map.{typeMapOf, declarationOf, mapOf}
+use Rattle.definitions.specs.Items.{ancestors, ownClasses, domsAbove, parentsAbove, wordsMade, itemsFor}
+
+-- a list of a to b words, each 'below W'
+pub record WordsWithin (W a b : ℕ) (n : List ℕ) : Type 0 where
+  pub least : a ≤ length n
+  pub most : length n ≤ b
+  pub below : (w : ℕ) → In w n → w < W
+
+-- 'A name is a word, a flag 1, and a second word if the flag is 1'
+abbrev pub NameWithin : ℕ → Name → Type 0
+NameWithin W n = WordsWithin W 1 2 n
+
+-- 'each a word, dom flag 1, dom word if 1'
+pub record ResourceWithin (W : ℕ) (u : Resource) : Type 0 where
+  pub word : u .word < W
+  pub dom : WordsWithin W 0 1 (u .dom)
+
+-- 'the two associates: count 4'
+pub record AnnotationWithin (W : ℕ) (a : Annotation) : Type 0 where
+  pub resources : length (resourcesOf a) ≤ 15
+  pub resource : (u : Resource) → In u (resourcesOf a) → ResourceWithin W u
+
+-- 'a tag 8 for derive'
+abbrev pub MarkWithin : Mark → Type 0
+MarkWithin makelistMark = Unit {0}
+MarkWithin (deriveMark t) = t < 256
+
+-- 'parents 4 (0 to 8), names; annotations 4 (0 to 12); marks 3 (0 to 7)'
+pub record TypeWithin (W : ℕ) (T : TypeInfo) : Type 0 where
+  pub name : NameWithin W (T .name)
+  pub parents : length (T .parents) ≤ 8
+  pub parent : (p : Name) → In p (T .parents) → NameWithin W p
+  pub annotations : length (T .annotations) ≤ 12
+  pub annotation : (a : Annotation) → In a (T .annotations) → AnnotationWithin W a
+  pub marks : length (T .marks) ≤ 7
+  pub mark : (k : Mark) → In k (T .marks) → MarkWithin k
+
+-- 'An extension: type name, resource word, parents 4 (1 to 8), names.'
+pub record ExtensionWithin (W : ℕ) (e : Extension) : Type 0 where
+  pub name : NameWithin W (e .name)
+  pub word : e .word < W
+  pub parents : length (e .parents) ≤ 8
+  pub parent : (p : Name) → In p (e .parents) → NameWithin W p
+
+-- 'words, W 8 (2 to 200); types, N 7 (0 to 64); extensions, 6 (0 to 32)'
+pub record Within (s : Sheet) : Type 0 where
+  pub least : 2 ≤ length (s .words)
+  pub words : length (s .words) ≤ 200
+  pub types : length (s .types) ≤ 64
+  pub type : (T : TypeInfo) → In T (s .types) → TypeWithin (length (s .words)) T
+  pub extensions : length (s .extensions) ≤ 32
+  pub extension : (e : Extension) → In e (s .extensions) → ExtensionWithin (length (s .words)) e
+
+-- ---- items
+
+-- how much there is of one type T: words with a making, own classes of a word, doms of an inherited word, parents that pass it on, and items
+pub record CountsWithin (s : Sheet) (T : TypeInfo) : Type 0 where
+  pub words : length (wordsMade (declarationOf T) (ancestors (mapOf (typeMapOf s)) (declarationOf T))) ≤ 200
+  pub owns : (r : ℕ) → length (ownClasses (declarationOf T) r) ≤ 12
+  pub doms : (r : ℕ) → length (domsAbove (ancestors (mapOf (typeMapOf s)) (declarationOf T)) r) ≤ 201
+  pub parents : (r : ℕ) → length (parentsAbove (mapOf (typeMapOf s)) (declarationOf T) r) ≤ 8
+  pub items : length (itemsFor (mapOf (typeMapOf s)) (declarationOf T) (ancestors (mapOf (typeMapOf s)) (declarationOf T))) ≤ 12 * 15 + 200 + 200
+
+-- 'parents 5, each a word count 2 (1 to 3) and its words; marks 9': what the fields of an item hold
+abbrev pub ItemWithin : ℕ → Item → Type 0
+ItemWithin W (synthesized n r v ps ms) = record {
+  type : NameWithin W n;
+  word : r < W;
+  parents : length ps ≤ 17;
+  parent : (p : Name) → In p ps → WordsWithin W 1 3 p;
+  marks : length ms ≤ 448;
+  mark : (k : Mark) → In k ms → MarkWithin k;
+}
+ItemWithin W (extension n v t r) = record { type : NameWithin W n; word : r < W }

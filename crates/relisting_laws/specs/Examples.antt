@@ -1,0 +1,238 @@
+-- Pairs of different bytes that are relisted, through both calls: accepted, and refused by 2, 8, 9 and 10. In the pairs of 8 and 9 the rows differ: they aren't
+-- compared.
+use mathlib.Core.Bool.{true, false}
+use mathlib.Core.List.{List, [], _∷_, List·Permᴰ·nil, List·Permᴰ·cons, List·Permᴰ·swap, List·Permᴰ·trans}
+use mathlib.Core.Path.{_≡_, refl}
+use Prim.Native.Nat.{ℕ}
+use lib.Dec.{lit≤}
+use lib.ListN.{take}
+use Rattle.lists.specs.Lists.{all}
+use Rattle.lists.specs.Tests.{all-in}
+use Rattle.definitions.specs.Records.{Name, associate, nestAssociate, Annotation, Variant, domain, resource, TypeInfo, Sheet}
+use Rattle.definitions.specs.Orders.{elemName}
+use Rattle.definitions.specs.Bits.{bitsOf}
+use Rattle.definitions.specs.Reading.{sheet}
+use Rattle.definitions.specs.Checks.{resourceBytes, selfBytes}
+use Rattle.definitions.specs.Answer.{Call, schedule, order, Input, Answer, standard, restOf, outcome}
+use Rattle.definitions.specs.Relisted.{SameButParents, end, and, Relisted, Holds, RelistedInputs, Alike}
+use Rattle.definitions.specs.Cases.{hex, lent, run}
+use Rattle.laws.specs.Orders.{elem-of}
+use Rattle.relisting_laws.specs.Alike.{answers-alike, listings-equal}
+
+-- ---- types and inputs
+
+abbrev type : ℕ → Variant → List Name → List Annotation → TypeInfo
+type w v ps xs = record { name = w ∷ []; variant = v; virtual = false; trait = false; parents = ps; annotations = xs; marks = [] }
+
+-- parents that each stand in the other list too
+reparent : (w : ℕ) (v : Variant) (ps qs : List Name) (xs : List Annotation) → all (λ p. elemName p qs) ps ≡ true → all (λ p. elemName p ps) qs ≡ true
+    → SameButParents (type w v ps xs) (type w v qs xs)
+reparent w v ps qs xs f g = record {
+  name = refl;
+  variant = refl;
+  virtual = refl;
+  trait = refl;
+  annotations = refl;
+  marks = refl;
+  parents = λ p. (λ i. elem-of p qs (all-in (λ p. elemName p qs) f i), λ i. elem-of p ps (all-in (λ p. elemName p ps) g i));
+}
+
+abbrev asked : Call → List ℕ → ℕ → ℕ → Input
+asked c bytes l d = record { settings = standard; call = c; sheet = bytes; listing = lent l; diagnosis = lent d }
+
+-- relisted bytes go to one call with slices of equal lengths
+pair : (c : Call) (l d : ℕ) {a b : List ℕ} {s t : Sheet} → Holds a s → Holds b t → Relisted s t → RelistedInputs (asked c a l d) (asked c b l d)
+pair c l d {s = s} {t = t} h k r = record { settings = refl; call = refl; listing = refl; diagnosis = refl; s = s; t = t; left = h; right = k; relisted = r }
+
+abbrev answer : ℕ → ℕ → ℕ → Answer
+answer number size rows = record { number = number; size = size; rows = rows; more = false }
+
+-- ---- accepted, 2 and 10
+
+-- resource f
+-- domain a
+--   associate f
+-- domain b : a
+-- domain c : a b
+abbrev listed : List ℕ
+listed = hex 41 0x1060b085882c616643932b9b7bab931b291cd95b198201900000000488180080400000804000100000
+
+-- records shuffled, parents reordered and repeated
+-- domain c : b a b
+-- domain b : a a
+-- resource f
+-- domain a
+--   associate f
+abbrev relisted : List ℕ
+relisted = hex 43 0x1060b085882c616643932b9b7bab931b291cd95b19820100c04000100010100000000c800000002440c000
+
+abbrev a : Name
+a = 0 ∷ []
+
+abbrev b : Name
+b = 1 ∷ []
+
+abbrev associates : List Annotation
+associates = associate (record { word = 3; dom = [] } ∷ []) ∷ []
+
+abbrev sheetA : List TypeInfo → Sheet
+sheetA ts = record { words = (97 ∷ []) ∷ (98 ∷ []) ∷ (99 ∷ []) ∷ (102 ∷ []) ∷ resourceBytes ∷ selfBytes ∷ []; types = ts; extensions = [] }
+
+abbrev listedSheet : Sheet
+listedSheet = sheetA (type 3 resource [] [] ∷ type 0 domain [] associates ∷ type 1 domain (a ∷ []) [] ∷ type 2 domain (a ∷ b ∷ []) [] ∷ [])
+
+abbrev relistedSheet : Sheet
+relistedSheet = sheetA (type 2 domain (b ∷ a ∷ b ∷ []) [] ∷ type 1 domain (a ∷ a ∷ []) [] ∷ type 3 resource [] [] ∷ type 0 domain [] associates ∷ [])
+
+listed-holds : Holds listed listedSheet
+unfolding run
+listed-holds = record { rest = restOf (sheet (bitsOf listed)); short = lit≤ tt; read = refl; fill = refl; words = refl; once = refl }
+
+relisted-holds : Holds relisted relistedSheet
+unfolding run
+relisted-holds = record { rest = restOf (sheet (bitsOf relisted)); short = lit≤ tt; read = refl; fill = refl; words = refl; once = refl }
+
+records-relisted : Relisted listedSheet relistedSheet
+records-relisted = record {
+  words = refl;
+  extensions = refl;
+  shuffled = type 2 domain (a ∷ b ∷ []) [] ∷ type 1 domain (a ∷ []) [] ∷ type 3 resource [] [] ∷ type 0 domain [] associates ∷ [];
+  shuffle =
+      List·Permᴰ·trans (List·Permᴰ·cons refl (List·Permᴰ·swap refl refl))
+      (List·Permᴰ·trans (List·Permᴰ·swap refl refl)
+      (List·Permᴰ·trans (List·Permᴰ·cons refl (List·Permᴰ·cons refl (List·Permᴰ·swap refl refl)))
+      (List·Permᴰ·trans (List·Permᴰ·cons refl (List·Permᴰ·swap refl refl)) (List·Permᴰ·swap refl refl))));
+  types =
+      and (reparent 2 domain (a ∷ b ∷ []) (b ∷ a ∷ b ∷ []) [] refl refl)
+      (and (reparent 1 domain (a ∷ []) (a ∷ a ∷ []) [] refl refl)
+      (and (reparent 3 resource [] [] [] refl refl)
+      (and (reparent 0 domain [] [] associates refl refl) end)));
+}
+
+both : (c : Call) (l d : ℕ) → RelistedInputs (asked c listed l d) (asked c relisted l d)
+both c l d = pair c l d listed-holds relisted-holds records-relisted
+
+both-alike : (c : Call) (l d : ℕ) → Alike (asked c listed l d) (asked c relisted l d)
+both-alike c l d = answers-alike (asked c listed l d) (asked c relisted l d) (both c l d)
+
+both-bytes : (c : Call) (l d : ℕ) → outcome (asked c listed l d) .listing ≡ outcome (asked c relisted l d) .listing
+both-bytes c l d = listings-equal (asked c listed l d) (asked c relisted l d) (both c l d) refl
+
+-- through the schedule call and through the order-only call
+accepted : (outcome (asked schedule listed 40 1536) .answer ≡ answer 0 39 0) × (outcome (asked order listed 40 1536) .answer ≡ answer 0 6 0)
+unfolding run
+accepted = (refl, refl)
+
+slice-short : (outcome (asked schedule listed 40 1535) .answer ≡ answer 2 0 0) × (outcome (asked order listed 40 1535) .answer ≡ answer 2 0 0)
+unfolding run
+slice-short = (refl, refl)
+
+listing-short : (outcome (asked schedule listed 5 1536) .answer ≡ answer 10 39 0) × (outcome (asked order listed 5 1536) .answer ≡ answer 10 6 0)
+unfolding run
+listing-short = (refl, refl)
+
+-- ---- 8, with other rows
+
+-- domain a : a b
+abbrev cyclic : List ℕ
+cyclic = hex 25 0x1040b085890e4cae6deeae4c6ca473656c6602000200008000
+
+-- domain a : b a
+abbrev undeclared : List ℕ
+undeclared = hex 25 0x1040b085890e4cae6deeae4c6ca473656c6602000201000000
+
+abbrev sheetB : List Name → Sheet
+sheetB ps = record { words = (97 ∷ []) ∷ (98 ∷ []) ∷ resourceBytes ∷ selfBytes ∷ []; types = type 0 domain ps [] ∷ []; extensions = [] }
+
+cyclic-holds : Holds cyclic (sheetB (a ∷ b ∷ []))
+unfolding run
+cyclic-holds = record { rest = restOf (sheet (bitsOf cyclic)); short = lit≤ tt; read = refl; fill = refl; words = refl; once = refl }
+
+undeclared-holds : Holds undeclared (sheetB (b ∷ a ∷ []))
+unfolding run
+undeclared-holds = record { rest = restOf (sheet (bitsOf undeclared)); short = lit≤ tt; read = refl; fill = refl; words = refl; once = refl }
+
+no-order-alike : (c : Call) (l d : ℕ) → Alike (asked c cyclic l d) (asked c undeclared l d)
+no-order-alike c l d =
+    answers-alike (asked c cyclic l d) (asked c undeclared l d) (pair c l d cyclic-holds undeclared-holds (record {
+      words = refl;
+      extensions = refl;
+      shuffled = type 0 domain (a ∷ b ∷ []) [] ∷ [];
+      shuffle = List·Permᴰ·cons refl List·Permᴰ·nil;
+      types = and (reparent 0 domain (a ∷ b ∷ []) (b ∷ a ∷ []) [] refl refl) end;
+    }))
+
+no-order : (outcome (asked schedule cyclic 5 1536) .answer ≡ answer 8 0 1) × (outcome (asked order cyclic 5 1536) .answer ≡ answer 8 0 1)
+unfolding run
+no-order = (refl, refl)
+
+no-order-rows : (take 6 (outcome (asked order cyclic 5 1536) .diagnosis) ≡ hex 6 0x0200ff00ffff)
+    × (take 6 (outcome (asked order undeclared 5 1536) .diagnosis) ≡ hex 6 0x0300ff01ffff)
+unfolding run
+no-order-rows = (refl, refl)
+
+-- ---- 9, with other rows; the order-only call accepts
+
+-- domain b
+--   nest y
+-- domain c
+--   nest x
+-- domain d : b c
+abbrev unknown : List ℕ
+unknown = hex 40 0x1070b1058c2c887265736f75726365239b2b63305e02f20c00002841800400284140080400010000
+
+-- domain d : c b c
+-- domain c
+--   nest x
+-- domain b
+--   nest y
+abbrev unknownTurned : List ℕ
+unknownTurned = hex 41 0x1070b1058c2c887265736f75726365239b2b63305e02f20c0806020000800080050828000005083000
+
+abbrev nests : ℕ → List Annotation
+nests w = nestAssociate (record { word = w; dom = [] } ∷ []) ∷ []
+
+abbrev sheetC : List TypeInfo → Sheet
+sheetC ts = record {
+  words = (98 ∷ []) ∷ (99 ∷ []) ∷ (100 ∷ []) ∷ resourceBytes ∷ selfBytes ∷ (120 ∷ []) ∷ (121 ∷ []) ∷ [];
+  types = ts;
+  extensions = [];
+}
+
+abbrev unknownSheet : Sheet
+unknownSheet = sheetC (type 0 domain [] (nests 6) ∷ type 1 domain [] (nests 5) ∷ type 2 domain (a ∷ b ∷ []) [] ∷ [])
+
+abbrev unknownTurnedSheet : Sheet
+unknownTurnedSheet = sheetC (type 2 domain (b ∷ a ∷ b ∷ []) [] ∷ type 1 domain [] (nests 5) ∷ type 0 domain [] (nests 6) ∷ [])
+
+unknown-holds : Holds unknown unknownSheet
+unfolding run
+unknown-holds = record { rest = restOf (sheet (bitsOf unknown)); short = lit≤ tt; read = refl; fill = refl; words = refl; once = refl }
+
+unknown-turned-holds : Holds unknownTurned unknownTurnedSheet
+unfolding run
+unknown-turned-holds = record { rest = restOf (sheet (bitsOf unknownTurned)); short = lit≤ tt; read = refl; fill = refl; words = refl; once = refl }
+
+unknown-alike : (c : Call) (l d : ℕ) → Alike (asked c unknown l d) (asked c unknownTurned l d)
+unknown-alike c l d =
+    answers-alike (asked c unknown l d) (asked c unknownTurned l d) (pair c l d unknown-holds unknown-turned-holds (record {
+      words = refl;
+      extensions = refl;
+      shuffled = type 2 domain (a ∷ b ∷ []) [] ∷ type 1 domain [] (nests 5) ∷ type 0 domain [] (nests 6) ∷ [];
+      shuffle =
+          List·Permᴰ·trans (List·Permᴰ·swap refl refl)
+          (List·Permᴰ·trans (List·Permᴰ·cons refl (List·Permᴰ·swap refl refl)) (List·Permᴰ·swap refl refl));
+      types =
+          and (reparent 2 domain (a ∷ b ∷ []) (b ∷ a ∷ b ∷ []) [] refl refl)
+          (and (reparent 1 domain [] [] (nests 5) refl refl)
+          (and (reparent 0 domain [] [] (nests 6) refl refl) end));
+    }))
+
+unknown-refused : (outcome (asked schedule unknown 5 1536) .answer ≡ answer 9 0 2) × (outcome (asked order unknown 5 1536) .answer ≡ answer 0 5 0)
+unfolding run
+unknown-refused = (refl, refl)
+
+unknown-rows : (take 12 (outcome (asked schedule unknown 5 1536) .diagnosis) ≡ hex 12 0x0402ff06ff060402ff05ff05)
+    × (take 12 (outcome (asked schedule unknownTurned 5 1536) .diagnosis) ≡ hex 12 0x0402ff05ff050402ff06ff06)
+unfolding run
+unknown-rows = (refl, refl)

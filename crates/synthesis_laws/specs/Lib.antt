@@ -1,0 +1,15 @@
+pub mod Statements
+pub mod Entries
+pub mod Merged
+pub mod Annotations
+pub mod Dedup
+pub mod Again
+pub mod Kinds
+pub mod Handed
+pub mod Interpreted
+pub mod Visited
+pub mod Jobs
+pub mod Rows
+pub mod Handing
+pub mod Bounds
+pub mod Examples
