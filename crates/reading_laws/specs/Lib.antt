@@ -1,0 +1,10 @@
+pub mod Statements
+pub mod Packed
+pub mod Parsers
+pub mod Constructs
+pub mod Sizes
+pub mod Rules
+pub mod RoundTrip
+pub mod Refusals
+pub mod Answers
+pub mod Examples
