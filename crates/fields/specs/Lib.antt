@@ -1,0 +1,4 @@
+pub mod Tabulate
+pub mod ParseLaws
+pub mod Fields
+pub mod FieldLaws

@@ -1,0 +1,156 @@
+// The keys of the types and of the extensions, and whether one stands twice. 01, refusal 6: 'a name twice among types, a key among extensions'.
+use fields::Name;
+use types::Extension;
+use types::Extensions;
+use types::TypeInfo;
+use types::Types;
+ghost use mathlib.Core.List.{[], _∷_, _++_};
+ghost use mathlib.Core.Path.{_≡_};
+ghost use Prim.Native.Nat.{_+_, _≤_, _<_};
+ghost use lib.ListN.{drop};
+ghost use Rattle.lists.specs.Lists.{any, repeats};
+ghost use Rattle.fields.specs.Fields.{nameOf};
+ghost use Rattle.types.specs.Types.{ofTypes};
+ghost use Rattle.types.specs.Extensions.{ofExtensions};
+ghost use Rattle.keys.specs.Keys.{keyOf, keyAt, ofKeys, sameKey, typeKey, typeKeys, extensionKey, extensionKeys, sameTypeName, sameExtensionKey};
+
+// The first count keys: a name, and a resource word (0 for a type).
+pub struct Keys {
+    pub count: usize,
+    pub first: [u8; 64],
+    pub second: [u8; 64],
+    pub word: [u8; 64],
+}
+
+pub fn no_keys() -> Keys
+    ensures { λ r. ⌜ (ofKeys r ≡ []) × (r .count ≡ 0) ⌝ }
+{
+    Keys {
+        count: 0,
+        first: [255u8; 64],
+        second: [255u8; 64],
+        word: [0u8; 64],
+    }
+}
+
+// The keys with one more.
+pub fn with_key(t: Keys, n: Name, w: u8) -> Keys
+    requires { ⌜ t .count < 64 ⌝ }
+    ensures { λ r. ⌜ (ofKeys r ≡ ofKeys t ++ (keyOf (nameOf n) w ∷ [])) × (r .count ≡ t .count + 1) ⌝ }
+{
+    let mut r = t;
+    let i = t.count;
+    r.first[i] = n.first;
+    r.second[i] = n.second;
+    r.word[i] = w;
+    r.count = i + 1;
+    r
+}
+
+pub fn is_same_key(t: Keys, i: usize, j: usize) -> bool
+    requires { ⌜ (i < 64) × (j < 64) ⌝ }
+    ensures { λ r. ⌜ r ≡ sameKey (keyAt t i) (keyAt t j) ⌝ }
+{
+    if t.first[i] == t.first[j] {
+        if t.second[i] == t.second[j] {
+            t.word[i] == t.word[j]
+        } else {
+            false
+        }
+    } else {
+        false
+    }
+}
+
+// Whether the key at i stands again behind it.
+fn is_key_again(t: Keys, i: usize) -> bool
+    requires { ⌜ (i < t .count) × (t .count ≤ 64) ⌝ }
+    ensures { λ r. ⌜ r ≡ any (sameKey (keyAt t i)) (drop (i + 1) (ofKeys t)) ⌝ }
+{
+    let mut j = i + 1;
+    while j < t.count {
+        if is_same_key(t, i, j) {
+            return true;
+        }
+        j += 1;
+    }
+    false
+}
+
+pub fn has_key_twice(t: Keys) -> bool
+    requires { ⌜ t .count ≤ 64 ⌝ }
+    ensures { λ r. ⌜ r ≡ repeats sameKey (ofKeys t) ⌝ }
+{
+    let mut i = 0;
+    while i < t.count {
+        if is_key_again(t, i) {
+            return true;
+        }
+        i += 1;
+    }
+    false
+}
+
+fn with_type_key(k: Keys, x: TypeInfo) -> Keys
+    requires { ⌜ k .count < 64 ⌝ }
+    ensures { λ r. ⌜ (ofKeys r ≡ ofKeys k ++ (typeKey x ∷ [])) × (r .count ≡ k .count + 1) ⌝ }
+{
+    let n = x.name;
+    with_key(k, n, 0)
+}
+
+// The names of the types.
+pub fn keys_of_types(t: Types) -> Keys
+    requires { ⌜ t .count ≤ 64 ⌝ }
+    ensures { λ r. ⌜ (ofKeys r ≡ typeKeys t) × (r .count ≡ t .count) ⌝ }
+{
+    let mut keys = no_keys();
+    let mut i = 0;
+    while i < t.count {
+        let x = t.items[i];
+        keys = with_type_key(keys, x);
+        i += 1;
+    }
+    keys
+}
+
+fn with_extension_key(k: Keys, x: Extension) -> Keys
+    requires { ⌜ k .count < 64 ⌝ }
+    ensures { λ r. ⌜ (ofKeys r ≡ ofKeys k ++ (extensionKey x ∷ [])) × (r .count ≡ k .count + 1) ⌝ }
+{
+    let n = x.name;
+    with_key(k, n, x.word)
+}
+
+// 'a key among extensions': type name and resource word.
+pub fn keys_of_extensions(t: Extensions) -> Keys
+    requires { ⌜ t .count ≤ 32 ⌝ }
+    ensures { λ r. ⌜ (ofKeys r ≡ extensionKeys t) × (r .count ≡ t .count) ⌝ }
+{
+    let mut keys = no_keys();
+    let mut i = 0;
+    while i < t.count {
+        let x = t.items[i];
+        keys = with_extension_key(keys, x);
+        i += 1;
+    }
+    keys
+}
+
+// Whether a name stands twice among the types.
+pub fn has_name_twice(t: Types) -> bool
+    requires { ⌜ t .count ≤ 64 ⌝ }
+    ensures { λ r. ⌜ r ≡ repeats sameTypeName (ofTypes t) ⌝ }
+{
+    let keys = keys_of_types(t);
+    has_key_twice(keys)
+}
+
+// Whether a key stands twice among the extensions.
+pub fn has_extension_twice(t: Extensions) -> bool
+    requires { ⌜ t .count ≤ 32 ⌝ }
+    ensures { λ r. ⌜ r ≡ repeats sameExtensionKey (ofExtensions t) ⌝ }
+{
+    let keys = keys_of_extensions(t);
+    has_key_twice(keys)
+}

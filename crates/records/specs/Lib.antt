@@ -1,0 +1,4 @@
+pub mod Annotations
+pub mod Marks
+pub mod AnnotationLaws
+pub mod MarkLaws

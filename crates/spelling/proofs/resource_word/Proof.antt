@@ -1,0 +1,48 @@
+use mathlib.Core.Path.{refl}
+use Rattle.fields.specs.Tabulate.{tabulate, places}
+use Rattle.words.specs.Words.{wordOf}
+use borrow.Author.Needs.{needs}
+use Rattle.spelling.proofs.resource_word.Statement.{statement}
+use Rattle.spelling.proofs.resource_word.Tie as tie
+
+array-write-bytes : tie.Need-array-write-bytes
+array-write-bytes c = search needs
+
+array-write-bytes-2 : tie.Need-array-write-bytes-2
+array-write-bytes-2 c = search needs
+
+array-write-bytes-3 : tie.Need-array-write-bytes-3
+array-write-bytes-3 c = search needs
+
+array-write-bytes-4 : tie.Need-array-write-bytes-4
+array-write-bytes-4 c = search needs
+
+array-write-bytes-5 : tie.Need-array-write-bytes-5
+array-write-bytes-5 c = search needs
+
+array-write-bytes-6 : tie.Need-array-write-bytes-6
+array-write-bytes-6 c = search needs
+
+array-write-bytes-7 : tie.Need-array-write-bytes-7
+array-write-bytes-7 c = search needs
+
+array-write-bytes-8 : tie.Need-array-write-bytes-8
+array-write-bytes-8 c = search needs
+
+returns : tie.Need-returns
+unfolding wordOf places tabulate
+returns c = refl
+
+pub resource-word-spec : {M : Type 1} → statement M
+resource-word-spec =
+    tie.close
+    (tie.spec
+    array-write-bytes
+    array-write-bytes-2
+    array-write-bytes-3
+    array-write-bytes-4
+    array-write-bytes-5
+    array-write-bytes-6
+    array-write-bytes-7
+    array-write-bytes-8
+    returns)

@@ -1,0 +1,137 @@
+// Words compared by their bytes, and refusal 5: 'words not ascending, or `resource` or `self` missing'.
+use words::Word;
+use words::Words;
+ghost use mathlib.Core.Bool.{Bool};
+ghost use mathlib.Core.Path.{_≡_};
+ghost use Prim.Native.Nat.{_+_, _≤_, _<_};
+ghost use lib.Dec.{eqb};
+ghost use lib.ListN.{getD};
+ghost use Rattle.lists.specs.Lists.{sameList, ascends, placeOf};
+ghost use Rattle.definitions.specs.Orders.{bytesBefore};
+ghost use Rattle.definitions.specs.Checks.{resourceBytes, selfBytes, badWords};
+ghost use Rattle.words.specs.Words.{wordOf, ofWords};
+
+// The byte at i; 0 past the array.
+fn byte_at(w: Word, i: usize) -> u8
+    ensures { λ r. ⌜ r ≡ getD (w .bytes) i 0 ⌝ }
+{
+    if i < 31 { w.bytes[i] } else { 0 }
+}
+
+pub fn is_same_word(a: Word, b: Word) -> bool
+    ensures { λ r. ⌜ r ≡ sameList eqb (wordOf a) (wordOf b) ⌝ }
+{
+    let n = a.count;
+    if n == b.count {
+        let mut i = 0;
+        while i < n {
+            if byte_at(a, i) == byte_at(b, i) {
+                i += 1;
+            } else {
+                return false;
+            }
+        }
+        true
+    } else {
+        false
+    }
+}
+
+// 01: 'Words ascend strictly by bytes'. The first byte that differs decides; a word comes before its extensions.
+pub fn is_word_before(a: Word, b: Word) -> bool
+    ensures { λ r. ⌜ r ≡ bytesBefore (wordOf a) (wordOf b) ⌝ }
+{
+    let n = a.count;
+    let m = b.count;
+    let mut i = 0;
+    while i < n {
+        if m <= i {
+            return false;
+        }
+        let x = byte_at(a, i);
+        let y = byte_at(b, i);
+        if x < y {
+            return true;
+        }
+        if y < x {
+            return false;
+        }
+        i += 1;
+    }
+    i < m
+}
+
+pub fn is_ascending(t: Words) -> bool
+    requires { ⌜ t .count ≤ 200 ⌝ }
+    ensures { λ r. ⌜ r ≡ ascends bytesBefore (ofWords t) ⌝ }
+{
+    let mut i = 1;
+    while i < t.count {
+        let a = t.items[i - 1];
+        let b = t.items[i];
+        if is_word_before(a, b) {
+            i += 1;
+        } else {
+            return false;
+        }
+    }
+    true
+}
+
+// The number of a word by its bytes; the count of the words where it is missing.
+pub fn place_of(t: Words, w: Word) -> usize
+    requires { ⌜ t .count ≤ 200 ⌝ }
+    ensures { λ r. ⌜ r ≡ placeOf (sameList eqb (wordOf w)) (ofWords t) ⌝ }
+{
+    let mut i = 0;
+    while i < t.count {
+        let x = t.items[i];
+        if is_same_word(w, x) {
+            return i;
+        }
+        i += 1;
+    }
+    i
+}
+
+pub fn resource_word() -> Word
+    ensures { λ r. ⌜ wordOf r ≡ resourceBytes ⌝ }
+{
+    let mut bytes = [0u8; 31];
+    bytes[0] = 114;
+    bytes[1] = 101;
+    bytes[2] = 115;
+    bytes[3] = 111;
+    bytes[4] = 117;
+    bytes[5] = 114;
+    bytes[6] = 99;
+    bytes[7] = 101;
+    Word { count: 8, bytes }
+}
+
+pub fn self_word() -> Word
+    ensures { λ r. ⌜ wordOf r ≡ selfBytes ⌝ }
+{
+    let mut bytes = [0u8; 31];
+    bytes[0] = 115;
+    bytes[1] = 101;
+    bytes[2] = 108;
+    bytes[3] = 102;
+    Word { count: 4, bytes }
+}
+
+// Refusal 5.
+pub fn is_bad_words(t: Words) -> bool
+    requires { ⌜ t .count ≤ 200 ⌝ }
+    ensures { λ r. ⌜ r ≡ badWords (ofWords t) ⌝ }
+{
+    if !is_ascending(t) {
+        return true;
+    }
+    let resource = resource_word();
+    if t.count <= place_of(t, resource) {
+        return true;
+    }
+    let own = self_word();
+    t.count <= place_of(t, own)
+}

@@ -1,0 +1,28 @@
+-- What the answers of the code on extensions mean, as the definitions' parsers give it.
+use mathlib.Core.Bool.{Bool, cond}
+use mathlib.Core.List.{List, []}
+use lib.ListN.{drop}
+use Rattle.definitions.specs.Parse.{Parsed, done, refused}
+use Rattle.definitions.specs.Records as records
+use Rattle.fields.specs.Tabulate.{places}
+use Rattle.fields.specs.Fields.{nameOf, ofNames}
+use Rattle.types.specs.declared.Extension.{Extension}
+use Rattle.types.specs.declared.ExtensionRead.{ExtensionRead}
+use Rattle.types.specs.declared.Extensions.{Extensions}
+use Rattle.types.specs.declared.ExtensionsRead.{ExtensionsRead}
+
+unfoldable pub extensionOf : Extension → records.Extension
+extensionOf e = record { name = nameOf (e .name); word = e .word; parents = ofNames (e .parents) }
+
+abbrev pub ofExtensionRead : List Bool → ExtensionRead → Parsed records.Extension
+ofExtensionRead bs r = cond (r .ok) (done (extensionOf (r .extension)) (drop (r .next .at) bs)) (refused (r .refusal))
+
+-- what stands past the end of an array of extensions
+abbrev pub zeroExtension : Extension
+zeroExtension = record { name = record { first = 0; second = 0 }; word = 0; parents = record { count = 0; first = []; second = [] } }
+
+unfoldable pub ofExtensions : Extensions → List records.Extension
+ofExtensions t = places extensionOf zeroExtension (t .items) (t .count)
+
+abbrev pub ofExtensionsRead : List Bool → ExtensionsRead → Parsed (List records.Extension)
+ofExtensionsRead bs r = cond (r .ok) (done (ofExtensions (r .extensions)) (drop (r .next .at) bs)) (refused (r .refusal))

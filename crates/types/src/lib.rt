@@ -1,0 +1,398 @@
+// The types and the extensions of a sheet.
+use bits::Cursor;
+use bits::Read;
+use fields::ByteRead;
+use fields::Field;
+use fields::Name;
+use fields::NameRead;
+use fields::Names;
+use records::Annotations;
+use records::Marks;
+ghost use mathlib.Core.Bool.{false};
+ghost use mathlib.Core.List.{[], _∷_, _++_};
+ghost use mathlib.Core.Path.{_≡_};
+ghost use Prim.Native.Nat.{_+_, _≤_, _<_};
+ghost use lib.ListN.{length, drop};
+ghost use Rattle.definitions.specs.Bits.{bitsOf};
+ghost use Rattle.definitions.specs.Parse.{repeat, counted};
+ghost use Rattle.definitions.specs.Reading.{typeInfo, extension};
+ghost use Rattle.types.specs.Types.{headingOf, head, body, ofHeadRead, typeInfoOf, ofTypeInfoRead, ofTypes, ofTypesRead};
+ghost use Rattle.types.specs.Extensions.{extensionOf, ofExtensionRead, ofExtensions, ofExtensionsRead};
+
+// What a type begins with. The variant is 01's number: 0 domain, 1 resource, 2 other.
+pub struct Head {
+    pub name: Name,
+    pub variant: usize,
+    pub is_virtual: bool,
+    pub is_trait: bool,
+}
+
+pub enum HeadRead {
+    At(Head, Cursor),
+    Refused(usize),
+}
+
+pub struct TypeInfo {
+    pub name: Name,
+    pub variant: usize,
+    pub is_virtual: bool,
+    pub is_trait: bool,
+    pub parents: Names,
+    pub annotations: Annotations,
+    pub marks: Marks,
+}
+
+// ok: the type and the cursor behind it. Else a refusal.
+pub struct TypeInfoRead {
+    pub ok: bool,
+    pub refusal: usize,
+    pub next: Cursor,
+    pub info: TypeInfo,
+}
+
+// The first count types.
+pub struct Types {
+    pub count: usize,
+    pub items: [TypeInfo; 64],
+}
+
+pub struct TypesRead {
+    pub ok: bool,
+    pub refusal: usize,
+    pub next: Cursor,
+    pub types: Types,
+}
+
+pub struct Extension {
+    pub name: Name,
+    pub word: u8,
+    pub parents: Names,
+}
+
+pub struct ExtensionRead {
+    pub ok: bool,
+    pub refusal: usize,
+    pub next: Cursor,
+    pub extension: Extension,
+}
+
+// The first count extensions.
+pub struct Extensions {
+    pub count: usize,
+    pub items: [Extension; 32],
+}
+
+pub struct ExtensionsRead {
+    pub ok: bool,
+    pub refusal: usize,
+    pub next: Cursor,
+    pub extensions: Extensions,
+}
+
+// 01: 'A type: name; variant 2 (0 domain, 1 resource, 2 other); virtual 1; trait 1'.
+fn read_head(s: &[u8], c: Cursor, limit: usize) -> HeadRead
+    requires { ⌜ (length (now s) ≤ 40960) × (limit ≤ 255) ⌝ }
+    ensures { λ r. ⌜ ofHeadRead (bitsOf (now (s .entry))) r ≡ head limit (drop (c .at) (bitsOf (now (s .entry)))) ⌝ }
+{
+    match fields::read_name(s, c, limit) {
+        NameRead::At(name, c1) => match fields::read_between(s, c1, 2, 0, 2) {
+            Field::At(variant, c2) => match c2.read(s, 1) {
+                Read::Value(v, c3) => match c3.read(s, 1) {
+                    Read::Value(t, c4) => HeadRead::At(
+                        Head {
+                            name,
+                            variant,
+                            is_virtual: v == 1,
+                            is_trait: t == 1,
+                        },
+                        c4,
+                    ),
+                    Read::Past => HeadRead::Refused(3),
+                },
+                Read::Past => HeadRead::Refused(3),
+            },
+            Field::Refused(r) => HeadRead::Refused(r),
+        },
+        NameRead::Refused(r) => HeadRead::Refused(r),
+    }
+}
+
+pub fn no_type() -> TypeInfo {
+    let parents = fields::no_names();
+    let annotations = records::no_annotations();
+    let marks = records::no_marks();
+    TypeInfo {
+        name: Name {
+            first: 255,
+            second: 255,
+        },
+        variant: 0,
+        is_virtual: false,
+        is_trait: false,
+        parents,
+        annotations,
+        marks,
+    }
+}
+
+fn type_refused(r: usize) -> TypeInfoRead
+    ensures { λ x. ⌜ (x .ok ≡ false) × (x .refusal ≡ r) ⌝ }
+{
+    let info = no_type();
+    TypeInfoRead {
+        ok: false,
+        refusal: r,
+        next: Cursor { at: 0 },
+        info,
+    }
+}
+
+// 01: 'parents 4 (0 to 8), names; annotations 4 (0 to 12); marks 3 (0 to 7).'
+fn read_body(s: &[u8], c: Cursor, limit: usize, h: Head) -> TypeInfoRead
+    requires { ⌜ (length (now s) ≤ 40960) × (limit ≤ 255) ⌝ }
+    ensures { λ r. ⌜ ofTypeInfoRead (bitsOf (now (s .entry))) r ≡ body limit (headingOf h) (drop (c .at) (bitsOf (now (s .entry)))) ⌝ }
+{
+    let ps = fields::read_names(s, c, limit, 0, 8);
+    if !ps.ok {
+        return type_refused(ps.refusal);
+    }
+    let name = h.name;
+    let single = name.second == 255;
+    let c1 = ps.next;
+    let aa = records::read_annotations(s, c1, limit, single);
+    if !aa.ok {
+        return type_refused(aa.refusal);
+    }
+    let c2 = aa.next;
+    let ms = records::read_marks(s, c2);
+    if !ms.ok {
+        return type_refused(ms.refusal);
+    }
+    let parents = ps.names;
+    let annotations = aa.annotations;
+    let marks = ms.marks;
+    let next = ms.next;
+    TypeInfoRead {
+        ok: true,
+        refusal: 0,
+        next,
+        info: TypeInfo {
+            name,
+            variant: h.variant,
+            is_virtual: h.is_virtual,
+            is_trait: h.is_trait,
+            parents,
+            annotations,
+            marks,
+        },
+    }
+}
+
+pub fn read_type(s: &[u8], c: Cursor, limit: usize) -> TypeInfoRead
+    requires { ⌜ (length (now s) ≤ 40960) × (limit ≤ 255) ⌝ }
+    ensures { λ r. ⌜ ofTypeInfoRead (bitsOf (now (s .entry))) r ≡ typeInfo limit (drop (c .at) (bitsOf (now (s .entry)))) ⌝ }
+{
+    match read_head(s, c, limit) {
+        HeadRead::At(h, next) => read_body(s, next, limit, h),
+        HeadRead::Refused(r) => type_refused(r),
+    }
+}
+
+pub fn no_types() -> Types
+    ensures { λ r. ⌜ (ofTypes r ≡ []) × (r .count ≡ 0) ⌝ }
+{
+    let info = no_type();
+    Types {
+        count: 0,
+        items: [info; 64],
+    }
+}
+
+// The types with one more.
+fn with_type(t: Types, x: TypeInfo) -> Types
+    requires { ⌜ t .count < 64 ⌝ }
+    ensures { λ r. ⌜ (ofTypes r ≡ ofTypes t ++ (typeInfoOf x ∷ [])) × (r .count ≡ t .count + 1) ⌝ }
+{
+    let mut r = t;
+    let i = t.count;
+    r.items[i] = x;
+    r.count = i + 1;
+    r
+}
+
+pub fn types_refused(r: usize) -> TypesRead
+    ensures { λ x. ⌜ (x .ok ≡ false) × (x .refusal ≡ r) ⌝ }
+{
+    let types = no_types();
+    TypesRead {
+        ok: false,
+        refusal: r,
+        next: Cursor { at: 0 },
+        types,
+    }
+}
+
+// n types.
+fn read_each_type(s: &[u8], c: Cursor, limit: usize, n: usize) -> TypesRead
+    requires { ⌜ (length (now s) ≤ 40960) × (limit ≤ 255) × (n ≤ 64) ⌝ }
+    ensures { λ r. ⌜ ofTypesRead (bitsOf (now (s .entry))) r ≡ repeat (typeInfo limit) n (drop (c .at) (bitsOf (now (s .entry)))) ⌝ }
+{
+    let mut next = c;
+    let mut types = no_types();
+    let mut left = n;
+    while 0 < left {
+        let r = read_type(s, next, limit);
+        if r.ok {
+            let x = r.info;
+            types = with_type(types, x);
+            next = r.next;
+        } else {
+            return types_refused(r.refusal);
+        }
+        left -= 1;
+    }
+    TypesRead {
+        ok: true,
+        refusal: 0,
+        next,
+        types,
+    }
+}
+
+// 01: 'types, N 7 (0 to 64)'.
+pub fn read_types(s: &[u8], c: Cursor, limit: usize) -> TypesRead
+    requires { ⌜ (length (now s) ≤ 40960) × (limit ≤ 255) ⌝ }
+    ensures { λ r. ⌜ ofTypesRead (bitsOf (now (s .entry))) r ≡ counted 7 0 64 (typeInfo limit) (drop (c .at) (bitsOf (now (s .entry)))) ⌝ }
+{
+    match fields::read_between(s, c, 7, 0, 64) {
+        Field::At(n, next) => read_each_type(s, next, limit, n),
+        Field::Refused(r) => types_refused(r),
+    }
+}
+
+pub fn no_extension() -> Extension {
+    let parents = fields::no_names();
+    Extension {
+        name: Name {
+            first: 255,
+            second: 255,
+        },
+        word: 255,
+        parents,
+    }
+}
+
+fn extension_refused(r: usize) -> ExtensionRead
+    ensures { λ x. ⌜ (x .ok ≡ false) × (x .refusal ≡ r) ⌝ }
+{
+    let extension = no_extension();
+    ExtensionRead {
+        ok: false,
+        refusal: r,
+        next: Cursor { at: 0 },
+        extension,
+    }
+}
+
+// 01: 'An extension: type name, resource word, parents 4 (1 to 8), names.'
+pub fn read_extension(s: &[u8], c: Cursor, limit: usize) -> ExtensionRead
+    requires { ⌜ (length (now s) ≤ 40960) × (limit ≤ 255) ⌝ }
+    ensures { λ r. ⌜ ofExtensionRead (bitsOf (now (s .entry))) r ≡ extension limit (drop (c .at) (bitsOf (now (s .entry)))) ⌝ }
+{
+    match fields::read_name(s, c, limit) {
+        NameRead::At(name, c1) => match fields::read_word_field(s, c1, limit) {
+            ByteRead::At(word, c2) => {
+                let ps = fields::read_names(s, c2, limit, 1, 8);
+                if !ps.ok {
+                    return extension_refused(ps.refusal);
+                }
+                let parents = ps.names;
+                let next = ps.next;
+                ExtensionRead {
+                    ok: true,
+                    refusal: 0,
+                    next,
+                    extension: Extension {
+                        name,
+                        word,
+                        parents,
+                    },
+                }
+            }
+            ByteRead::Refused(r) => extension_refused(r),
+        },
+        NameRead::Refused(r) => extension_refused(r),
+    }
+}
+
+pub fn no_extensions() -> Extensions
+    ensures { λ r. ⌜ (ofExtensions r ≡ []) × (r .count ≡ 0) ⌝ }
+{
+    let extension = no_extension();
+    Extensions {
+        count: 0,
+        items: [extension; 32],
+    }
+}
+
+// The extensions with one more.
+fn with_extension(t: Extensions, x: Extension) -> Extensions
+    requires { ⌜ t .count < 32 ⌝ }
+    ensures { λ r. ⌜ (ofExtensions r ≡ ofExtensions t ++ (extensionOf x ∷ [])) × (r .count ≡ t .count + 1) ⌝ }
+{
+    let mut r = t;
+    let i = t.count;
+    r.items[i] = x;
+    r.count = i + 1;
+    r
+}
+
+pub fn extensions_refused(r: usize) -> ExtensionsRead
+    ensures { λ x. ⌜ (x .ok ≡ false) × (x .refusal ≡ r) ⌝ }
+{
+    let extensions = no_extensions();
+    ExtensionsRead {
+        ok: false,
+        refusal: r,
+        next: Cursor { at: 0 },
+        extensions,
+    }
+}
+
+// n extensions.
+fn read_each_extension(s: &[u8], c: Cursor, limit: usize, n: usize) -> ExtensionsRead
+    requires { ⌜ (length (now s) ≤ 40960) × (limit ≤ 255) × (n ≤ 32) ⌝ }
+    ensures { λ r. ⌜ ofExtensionsRead (bitsOf (now (s .entry))) r ≡ repeat (extension limit) n (drop (c .at) (bitsOf (now (s .entry)))) ⌝ }
+{
+    let mut next = c;
+    let mut extensions = no_extensions();
+    let mut left = n;
+    while 0 < left {
+        let r = read_extension(s, next, limit);
+        if r.ok {
+            let x = r.extension;
+            extensions = with_extension(extensions, x);
+            next = r.next;
+        } else {
+            return extensions_refused(r.refusal);
+        }
+        left -= 1;
+    }
+    ExtensionsRead {
+        ok: true,
+        refusal: 0,
+        next,
+        extensions,
+    }
+}
+
+// 01: 'extensions, 6 (0 to 32)'.
+pub fn read_extensions(s: &[u8], c: Cursor, limit: usize) -> ExtensionsRead
+    requires { ⌜ (length (now s) ≤ 40960) × (limit ≤ 255) ⌝ }
+    ensures { λ r. ⌜ ofExtensionsRead (bitsOf (now (s .entry))) r ≡ counted 6 0 32 (extension limit) (drop (c .at) (bitsOf (now (s .entry)))) ⌝ }
+{
+    match fields::read_between(s, c, 6, 0, 32) {
+        Field::At(n, next) => read_each_extension(s, next, limit, n),
+        Field::Refused(r) => extensions_refused(r),
+    }
+}
