@@ -1,0 +1,64 @@
+-- The rows of the types passed have gone out.
+use mathlib.Core.Path.{_≡_, refl, _∙_, ap}
+use Prim.Native.Nat.{_-_, _≤_}
+use native.Mathlib.Omega.{arith}
+use borrow.Author.Needs.{needs}
+use lib.ListN.{length}
+use Rattle.diagnosis.specs.Emit.{emit, emit-append}
+use Rattle.diagnosis.specs.Walk.{selfBefore, self-step, self-all}
+use Rattle.diagnosis.proofs.self_errors.Statement.{statement}
+use Rattle.diagnosis.proofs.self_errors.Tie as tie
+
+abbrev Inv-loop : tie.InvT-loop
+Inv-loop p buf₀ limit types total₀ t₀ buf total t =
+    (t ≤ types)
+    × (length buf ≡ length buf₀)
+    × ((buf, total) ≡ emit limit (buf₀, 0) (selfBefore p t))
+
+abbrev μ-loop : tie.MeasureT-loop
+μ-loop p buf₀ limit types total₀ t₀ buf total t = types - t
+
+loop-holds : tie.Need-loop-holds Inv-loop μ-loop
+unfolding emit selfBefore
+loop-holds c = (omega arith, refl, refl)
+
+put-self-rows-requires : tie.Need-put-self-rows-requires Inv-loop μ-loop
+put-self-rows-requires c κs =
+    let s = c .before .before .before .before in
+    (s .pre .0, (omega arith, omega (arith, s .pre .1)))
+
+add-t : tie.Need-add-t Inv-loop μ-loop
+add-t c = omega (arith, c .before .before .before .before .before .before .before .pre .0 .types)
+
+loop-less : tie.Need-loop-less Inv-loop μ-loop
+loop-less c = omega arith
+
+loop-again : tie.Need-loop-again Inv-loop μ-loop
+loop-again c =
+    let s = c .before .before .before .before .before .before .before in
+    let l = c .before .before .before .before .before .loop in
+    let f = c .before .before .put-self-rows in
+    (omega arith, f .kept .1 .1 .0 ∙ l .inv .1, rw (self-step (s .args .p) (l .t), emit-append, ← (l .inv .2)) (f .ensures))
+
+same-length : tie.Need-same-length Inv-loop μ-loop
+same-length c = search needs
+
+returns : tie.Need-returns Inv-loop μ-loop
+returns c =
+    let s = c .before .before .before in
+    let e : c .before .loop .t ≡ s .args .p .count = omega arith in
+    c .before .loop .inv .2 ∙ ap (emit (s .args .limit) (s .args .buf .now, 0)) (ap (selfBefore (s .args .p)) e ∙ self-all (s .args .p))
+
+pub self-errors-spec : {M : Type 1} → statement M
+self-errors-spec =
+    tie.close
+    (tie.spec
+    Inv-loop
+    μ-loop
+    loop-holds
+    put-self-rows-requires
+    add-t
+    loop-less
+    loop-again
+    same-length
+    returns)

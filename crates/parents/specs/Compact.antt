@@ -1,0 +1,54 @@
+-- What the steps of the compact form leave in its arrays.
+use mathlib.Core.Bool.{Bool, true, false, _&&_}
+use mathlib.Core.List.{List}
+use mathlib.Core.Path.{_≡_}
+use Prim.Native.Nat.{ℕ, _*_, _/_, _%_, _≤_, _<_}
+use lib.Dec.{eqb}
+use lib.ListN.{getD}
+use Rattle.fields.specs.declared.Names.{Names}
+use Rattle.types.specs.declared.TypeInfo.{TypeInfo}
+use Rattle.types.specs.declared.Types.{Types}
+use Rattle.types.specs.Types.{zeroType}
+use Rattle.ordering.specs.declared.Parents.{Parents}
+
+-- the type at a place of the array, and the parents that it lists
+abbrev pub itemAt : Types → ℕ → TypeInfo
+itemAt ts t = getD (ts .items) t zeroType
+
+abbrev pub listedBy : Types → ℕ → Names
+listedBy ts t = itemAt ts t .parents
+
+-- the counts are within the arrays
+pub record Few (ts : Types) : Type 0 where
+  pub types : ts .count ≤ 64
+  pub parents : (t : ℕ) → t < ts .count → listedBy ts t .count ≤ 8
+
+-- whether the name at place k has these words
+abbrev pub isNamed : List ℕ → List ℕ → ℕ → ℕ → ℕ → Bool
+isNamed firsts seconds a b k = eqb a (getD firsts k 0) && eqb b (getD seconds k 0)
+
+-- r is the first of n places whose name has these words; n where none has them
+pub record Place (firsts seconds : List ℕ) (n a b r : ℕ) : Type 0 where
+  pub within : r ≤ n
+  pub before : (k : ℕ) → k < r → isNamed firsts seconds a b k ≡ false
+  pub found : r < n → isNamed firsts seconds a b r ≡ true
+
+-- the names, and how many parents each type lists; q was there before
+pub record Named (ts : Types) (q p : Parents) : Type 0 where
+  pub count : p .count ≡ q .count
+  pub self : p .«self_word» ≡ q .«self_word»
+  pub first : (t : ℕ) → t < ts .count → getD (p .firsts) t 0 ≡ itemAt ts t .name .first
+  pub second : (t : ℕ) → t < ts .count → getD (p .seconds) t 0 ≡ itemAt ts t .name .second
+  pub most : (t : ℕ) → t < ts .count → getD (p .counts) t 0 ≡ listedBy ts t .count
+
+-- the parents; q was there before
+pub record Listed (ts : Types) (q p : Parents) : Type 0 where
+  pub count : p .count ≡ q .count
+  pub self : p .«self_word» ≡ q .«self_word»
+  pub firsts : p .firsts ≡ q .firsts
+  pub seconds : p .seconds ≡ q .seconds
+  pub counts : p .counts ≡ q .counts
+  pub first : (k : ℕ) → k < 8 * ts .count → getD (p .«parent_firsts») k 0 ≡ getD (listedBy ts (k / 8) .first) (k % 8) 0
+  pub second : (k : ℕ) → k < 8 * ts .count → getD (p .«parent_seconds») k 0 ≡ getD (listedBy ts (k / 8) .second) (k % 8) 0
+  pub place : (k : ℕ) → k < 8 * ts .count →
+      Place (q .firsts) (q .seconds) (ts .count) (getD (listedBy ts (k / 8) .first) (k % 8) 0) (getD (listedBy ts (k / 8) .second) (k % 8) 0) (getD (p .places) k 0)

@@ -1,0 +1,3 @@
+pub mod Compact
+pub mod Parents
+pub mod ParentLaws
