@@ -1,0 +1,48 @@
+use mathlib.Core.Path.{ap}
+use borrow.Author.Needs.{needs}
+use Rattle.rows.specs.Lists.{never}
+use Rattle.annotations.specs.Reading.{asOverlap}
+use Rattle.annotations.specs.Laws.{isByWord}
+use Rattle.dedup.proofs.shared_words.Statement.{statement}
+use Rattle.dedup.proofs.shared_words.Tie as tie
+
+overlap-of-requires : tie.Need-overlap-of-requires
+overlap-of-requires c κs = search needs
+
+enum-told : tie.Need-enum-told
+enum-told c = search needs
+
+empty-row-requires : tie.Need-empty-row-requires
+empty-row-requires c κs = search needs
+
+enum-told-2 : tie.Need-enum-told-2
+enum-told-2 c = search needs
+
+enum-told-3 : tie.Need-enum-told-3
+enum-told-3 c = search needs
+
+in-both-requires : tie.Need-in-both-requires
+in-both-requires c κs = search needs
+
+returns : tie.Need-returns
+returns c = never (ap isByWord (c .before .before .before .overlap-of .ensures)) (ap (λ o. isByWord (asOverlap o)) (c .before .enum-told .given .1))
+
+returns-2 : tie.Need-returns-2
+returns-2 c = never (ap isByWord (c .before .before .overlap-of .ensures)) (ap (λ o. isByWord (asOverlap o)) (c .enum-told2 .given .1))
+
+returns-3 : tie.Need-returns-3
+returns-3 c = search needs
+
+pub shared-words-spec : {M : Type 1} → statement M
+shared-words-spec =
+    tie.close
+    (tie.spec
+    overlap-of-requires
+    enum-told
+    empty-row-requires
+    enum-told-2
+    enum-told-3
+    in-both-requires
+    returns
+    returns-2
+    returns-3)

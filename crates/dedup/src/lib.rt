@@ -1,0 +1,303 @@
+// What a type inherits: `InheritedAnnotation` and its dedup, after compile.rs.
+use annotations::Overlap;
+use rows::Row;
+ghost use mathlib.Core.Path.{_≡_};
+ghost use mathlib.Core.List.{[], _∷_, map};
+ghost use Prim.Native.Nat.{_<_, _≤_};
+ghost use lib.ListN.{length, getD, set};
+ghost use Rattle.rows.specs.Rows.{common, without};
+ghost use Rattle.dedup.specs.Entries.{inter, diff, unlessEmpty, merge, joinAll, entriesOf, Sound, Apart};
+ghost use Rattle.dedup.specs.EntryLaws.{zeros, SameWords, PlaceOf};
+ghost use Rattle.dedup.specs.Reading.{noDoms, underPlace, Kept, Good, Nothing, Unites, Joins, JoinsAll};
+
+// The kind of every entry: 'an inherited NestAssociate entering it as an Associate'.
+const ASSOCIATE: u8 = 1;
+
+// An inherited Associate: its words as a row of bits, and the types that it is inherited from, by their places in name order.
+pub struct Entry {
+    pub words: Row,
+    pub parents: u64,
+}
+
+// The first `count` entries stand. No two share a word, so there are at most 200; one place is to spare.
+pub struct Entries {
+    pub count: usize,
+    pub items: [Entry; 201],
+}
+
+// What a type inherits. Since entries share no word, a dom set belongs to its word, whatever the entry.
+pub struct Inherited {
+    pub list: Entries,
+    pub doms: [Row; 200],
+}
+
+// The words of what two entries share. The kinds decide, as they do for two annotations.
+fn shared_words(x: Row, y: Row) -> Row
+    ensures { λ r. ⌜ r ≡ common x y ⌝ }
+{
+    let both = annotations::overlap_of(ASSOCIATE, ASSOCIATE);
+    match both {
+        Overlap::Nothing => rows::empty_row(),
+        Overlap::Whole => x,
+        Overlap::ByWord => rows::in_both(x, y),
+    }
+}
+
+// The words of what is left of the first.
+fn left_words(x: Row, y: Row) -> Row
+    ensures { λ r. ⌜ r ≡ without x y ⌝ }
+{
+    let both = annotations::overlap_of(ASSOCIATE, ASSOCIATE);
+    match both {
+        Overlap::Nothing => x,
+        Overlap::Whole => rows::empty_row(),
+        Overlap::ByWord => rows::in_first(x, y),
+    }
+}
+
+// `InheritedAnnotation::intersection`: 'Call intersect on the annotation and combine the parents'.
+pub fn intersection(x: Entry, y: Entry) -> Entry
+    ensures { λ r. ⌜ r ≡ inter x y ⌝ }
+{
+    let v = x.words;
+    let w = y.words;
+    let words = shared_words(v, w);
+    Entry {
+        words: words,
+        parents: x.parents | y.parents,
+    }
+}
+
+// `InheritedAnnotation::difference`: 'Call difference on the annotation and return just the left parents'.
+pub fn difference(x: Entry, y: Entry) -> Entry
+    ensures { λ r. ⌜ r ≡ diff x y ⌝ }
+{
+    let v = x.words;
+    let w = y.words;
+    let words = left_words(v, w);
+    Entry {
+        words: words,
+        parents: x.parents,
+    }
+}
+
+// How many entries stand for it: one, or 'none if empty'.
+pub fn standing(e: Entry) -> usize
+    ensures { λ r. ⌜ r ≡ length (unlessEmpty e) ⌝ }
+{
+    let words = e.words;
+    if rows::is_none(words) {
+        return 0;
+    }
+    1
+}
+
+// The newcomer alone.
+pub fn alone(newcomer: Entry) -> Entries
+    ensures { λ r. ⌜ (entriesOf r ≡ newcomer ∷ []) × (r .count ≡ 1) ⌝ }
+{
+    let items = [newcomer; 201];
+    Entries {
+        count: 1,
+        items: items,
+    }
+}
+
+// 'of each earlier entry its rest, then what it shares, and last the newcomer's rest'. An entry is stored at k, and k moves on if the
+// entry stands. One that shares nothing is its own rest, and the newcomer stays.
+pub fn merged(l: Entries, newcomer: Entry) -> Entries
+    requires { ⌜ Apart (entriesOf l) ⌝ }
+    requires { ⌜ (l .count ≤ 200) × Sound newcomer ⌝ }
+    ensures { λ r. ⌜ (entriesOf r ≡ merge (entriesOf l) newcomer) × (r .count ≤ 200) ⌝ }
+{
+    let count = l.count;
+    let old = l.items;
+    let mut out = old;
+    let mut n = newcomer;
+    let mut k: usize = 0;
+    let mut i: usize = 0;
+    while i < count {
+        let a = old[i];
+        let both = intersection(a, n);
+        if standing(both) == 0 {
+            out[k] = a;
+            k += standing(a);
+        } else {
+            let rest = difference(a, n);
+            out[k] = rest;
+            k += standing(rest);
+            out[k] = both;
+            k += 1;
+            n = difference(n, a);
+        }
+        i += 1;
+    }
+    out[k] = n;
+    k += standing(n);
+    Entries {
+        count: k,
+        items: out,
+    }
+}
+
+// Whether two sets of words are one.
+fn same_words(x: Row, y: Row) -> bool
+    ensures { λ r. ⌜ SameWords x y r ⌝ }
+{
+    if x.a != y.a {
+        return false;
+    }
+    if x.b != y.b {
+        return false;
+    }
+    if x.c != y.c {
+        return false;
+    }
+    x.d == y.d
+}
+
+// The place of the entry that has the newcomer's words, or the count. Most newcomers come again, from another parent.
+fn place_of(l: Entries, n: Entry) -> usize
+    requires { ⌜ (0 < l .count) × (l .count ≤ 200) ⌝ }
+    ensures { λ r. ⌜ PlaceOf l n r ⌝ }
+{
+    let count = l.count;
+    let items = l.items;
+    let words = n.words;
+    let first = items[0];
+    if standing(first) == 0 {
+        return count;
+    }
+    let mut i: usize = 0;
+    while i < count {
+        let e = items[i];
+        let w = e.words;
+        if same_words(w, words) {
+            return i;
+        }
+        i += 1;
+    }
+    count
+}
+
+// What the entry at a place shares with the newcomer, in its place: all its words, under the parents of both.
+fn shared_at(l: Entries, at: usize, n: Entry) -> Entries
+    requires { ⌜ at < 201 ⌝ }
+    ensures { λ r. ⌜ (r .count ≡ l .count) × (r .items ≡ set (l .items) at (inter (getD (l .items) at zeros) n)) ⌝ }
+{
+    let mut items = l.items;
+    let e = items[at];
+    let both = intersection(e, n);
+    items[at] = both;
+    Entries {
+        count: l.count,
+        items: items,
+    }
+}
+
+// 'Take a list of annotations and a new one to append.' The first of a list stays as it is, an associate without resources as well.
+pub fn dedup_inherited_annotations_one(l: Entries, newcomer: Entry) -> Entries
+    requires { ⌜ Kept l ⌝ }
+    requires { ⌜ Sound newcomer ⌝ }
+    ensures { λ r. ⌜ Joins l newcomer r ⌝ }
+{
+    if l.count == 0 {
+        return alone(newcomer);
+    }
+    let at = place_of(l, newcomer);
+    if at < l.count {
+        return shared_at(l, at, newcomer);
+    }
+    merged(l, newcomer)
+}
+
+// No entries.
+fn no_entries() -> [Entry; 201] {
+    let words = rows::empty_row();
+    let e = Entry {
+        words: words,
+        parents: 0,
+    };
+    [e; 201]
+}
+
+// Dom sets in which nothing stands.
+fn no_doms() -> [Row; 200]
+    ensures { λ r. ⌜ r ≡ noDoms ⌝ }
+{
+    let r = rows::empty_row();
+    [r; 200]
+}
+
+// Nothing is inherited.
+pub fn nothing() -> Inherited
+    ensures { λ r. ⌜ Nothing r ⌝ }
+{
+    let items = no_entries();
+    let list = Entries {
+        count: 0,
+        items: items,
+    };
+    let doms = no_doms();
+    Inherited {
+        list: list,
+        doms: doms,
+    }
+}
+
+// 'union their dom sets', word by word. A word that an entry has not has no doms, so that all words go alike.
+pub fn united(doms: [Row; 200], given: [Row; 200]) -> [Row; 200]
+    ensures { λ r. ⌜ Unites doms given r ⌝ }
+{
+    let mut out = doms;
+    let mut w: usize = 0;
+    while w < 200 {
+        let x = doms[w];
+        let y = given[w];
+        let z = rows::in_either(x, y);
+        out[w] = z;
+        w += 1;
+    }
+    out
+}
+
+// The entries of a parent join a list, one after the other, under that parent.
+pub fn joined_entries(l: Entries, p: Entries, parent: u64) -> Entries
+    requires { ⌜ Kept l ⌝ }
+    requires { ⌜ Kept p ⌝ }
+    ensures { λ r. ⌜ Kept r × (entriesOf r ≡ joinAll (entriesOf l) (map (underPlace parent) (entriesOf p))) ⌝ }
+{
+    let items = p.items;
+    let count = p.count;
+    let mut out = l;
+    let mut i: usize = 0;
+    while i < count {
+        let e = items[i];
+        let words = e.words;
+        let n = Entry {
+            words: words,
+            parents: parent,
+        };
+        out = dedup_inherited_annotations_one(out, n);
+        i += 1;
+    }
+    out
+}
+
+// What a type inherits from one parent more, which itself inherits p. The dom sets are united once for all its entries.
+pub fn dedup_inherited_annotations(h: Inherited, p: Inherited, parent: u64) -> Inherited
+    requires { ⌜ Good h ⌝ }
+    requires { ⌜ Good p ⌝ }
+    ensures { λ r. ⌜ JoinsAll h p parent r ⌝ }
+{
+    let l = h.list;
+    let m = p.list;
+    let list = joined_entries(l, m, parent);
+    let d = h.doms;
+    let g = p.doms;
+    let doms = united(d, g);
+    Inherited {
+        list: list,
+        doms: doms,
+    }
+}

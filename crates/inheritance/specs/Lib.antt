@@ -1,0 +1,4 @@
+pub mod Own
+pub mod OwnLaws
+pub mod Handing
+pub mod Cases

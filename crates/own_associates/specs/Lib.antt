@@ -1,0 +1,6 @@
+pub mod Associates
+pub mod AssociateLaws
+pub mod Owning
+pub mod OwningLaws
+pub mod Joining
+pub mod Cases
