@@ -1,0 +1,120 @@
+// What a type has from above, for a type and a word, over tables of rows that are lent as slices of numbers.
+// A table has 804 numbers to a type, types in name order: the row of the words that the type gives, and then for each word the row of the doms that it gives
+// that word, 0 for none and d + 1 for the word d.
+use ordering::Parents;
+use rows::Row;
+ghost use mathlib.Core.Path.{_≡_};
+ghost use Prim.Native.Nat.{_<_, _≤_, _*_, _+_};
+ghost use lib.ListN.{length};
+ghost use Rattle.rows.specs.Rows.{hasBit};
+ghost use Rattle.ordering.specs.Reading.{Valid};
+ghost use Rattle.ancestry.specs.Rows.{ParentsBelow};
+ghost use Rattle.above.specs.Tables.{rowAt, JoinedIf, WithType, United, Passed, WithMaking, Passing};
+
+// The row at a place.
+fn row_at(s: &[u64], at: usize) -> Row
+    requires { ⌜ (at + 4 ≤ length (now s)) × (length (now s) < 1000000) ⌝ }
+    ensures { λ r. ⌜ r ≡ rowAt (now (s .entry)) at ⌝ }
+{
+    let a = s[at];
+    let b = s[at + 1];
+    let c = s[at + 2];
+    let d = s[at + 3];
+    Row {
+        a: a,
+        b: b,
+        c: c,
+        d: d,
+    }
+}
+
+// Whether type a stands in a row of types.
+fn stands(types: u64, a: usize) -> bool
+    requires { ⌜ a < 64 ⌝ }
+    ensures { λ r. ⌜ r ≡ hasBit types a ⌝ }
+{
+    (types >> a) & 1 == 1
+}
+
+// A row, with another if it counts.
+fn joined_if(x: Row, y: Row, counts: bool) -> Row
+    ensures { λ r. ⌜ JoinedIf x y counts r ⌝ }
+{
+    if counts {
+        return rows::in_either(x, y);
+    }
+    x
+}
+
+// A row of types, with a type if it counts.
+fn with_type(types: u64, a: usize, counts: bool) -> u64
+    requires { ⌜ a < 64 ⌝ }
+    ensures { λ r. ⌜ WithType types a counts r ⌝ }
+{
+    if counts {
+        let one: u64 = 1;
+        let bit = one << a;
+        return types | bit;
+    }
+    types
+}
+
+// What the types of a row have at a slot of the table, united: slot 0 for the words that they give, slot r + 1 for the doms that they give the word r.
+// 'every dom that any proper ancestor gives r'
+pub fn united(table: &[u64], slot: usize, types: u64, count: usize) -> Row
+    requires { ⌜ (slot < 201) × (count ≤ 64) × (804 * count ≤ length (now table)) × (length (now table) < 1000000) ⌝ }
+    ensures { λ r. ⌜ United (now (table .entry)) slot types count r ⌝ }
+{
+    let mut out = rows::empty_row();
+    let mut a: usize = 0;
+    while a < count {
+        let row = row_at(table, 804 * a + 4 * slot);
+        let counts = stands(types, a);
+        out = joined_if(out, row, counts);
+        a += 1;
+    }
+    out
+}
+
+// The words that type t passes on: those that it gives, and those that a type of the row gives.
+// 'each direct parent P that associates r, or has an ancestor that does'
+pub fn words_passed(table: &[u64], t: usize, types: u64, count: usize) -> Row
+    requires { ⌜ (t < count) × (count ≤ 64) × (804 * count ≤ length (now table)) × (length (now table) < 1000000) ⌝ }
+    ensures { λ r. ⌜ Passed (now (table .entry)) t types count r ⌝ }
+{
+    let own = row_at(table, 804 * t);
+    let above = united(table, 0, types, count);
+    rows::in_either(own, above)
+}
+
+// The words with a making: `own` has those of the own Associates, and the others come from a type of the row.
+// 'each resource of each own Associate', 'each word r associated, nested or not, by a proper ancestor'
+pub fn words_made(table: &[u64], own: Row, types: u64, count: usize) -> Row
+    requires { ⌜ (count ≤ 64) × (804 * count ≤ length (now table)) × (length (now table) < 1000000) ⌝ }
+    ensures { λ r. ⌜ WithMaking (now (table .entry)) own types count r ⌝ }
+{
+    let others = united(table, 0, types, count);
+    rows::in_either(own, others)
+}
+
+// The direct parents of type t that pass on the word r. `passed` has four numbers to a type, the row of the words that it passes on.
+// 'Its first parents are P.r for each direct parent P that associates r, or has an ancestor that does, ascending by P, each once.'
+pub fn parents_passing(p: Parents, passed: &[u64], t: usize, r: usize) -> u64
+    requires { ⌜ Valid p ⌝ }
+    requires { ⌜ (t < p .count) × ParentsBelow p t × (r < 256) × (4 * p .count ≤ length (now passed)) × (length (now passed) < 1000000) ⌝ }
+    ensures { λ x. ⌜ Passing p (now (passed .entry)) t r x ⌝ }
+{
+    let count = p.counts[t] as usize;
+    let base = 8 * t;
+    let mut out: u64 = 0;
+    let mut i = 0;
+    while i < count {
+        let at = base + i;
+        let place = p.places[at] as usize;
+        let words = row_at(passed, 4 * place);
+        let counts = rows::holds(words, r);
+        out = with_type(out, place, counts);
+        i += 1;
+    }
+    out
+}

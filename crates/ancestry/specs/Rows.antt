@@ -1,0 +1,59 @@
+-- What the rows of ancestors say of the definitions' ancestors.
+use mathlib.Core.Bool.{Bool, true, false, _||_}
+use mathlib.Core.List.{List, map}
+use mathlib.Core.Path.{_≡_}
+use Prim.Native.Nat.{ℕ, _≤_, _<_}
+use lib.Dec.{eqb}
+use lib.ListN.{length, getD}
+use Rattle.lists.specs.Lists.{In, any}
+use Rattle.definitions.specs.Map.{TypeMap, Declaration, declarationOf, mapOf}
+use Rattle.definitions.specs.Items.{ancestors}
+use Rattle.rows.specs.Rows.{hasBit}
+use Rattle.ordering.specs.Lists.{below}
+use Rattle.ordering.specs.Reading.{Parent, listed, typeAt, Reads}
+use Rattle.ordering.specs.Rounds.{final, listsSelf}
+use Rattle.ordering.specs.Organized.{placesIn}
+use Rattle.ordering.specs.declared.Parents.{Parents}
+use Rattle.ordering.specs.declared.Order.{Order}
+
+-- the declaration of the type at a place in name order
+abbrev pub declarationAt : TypeMap → ℕ → Declaration
+declarationAt m t = declarationOf (typeAt m t)
+
+-- the types of a row, ascending by place
+abbrev pub typesIn : TypeMap → ℕ → ℕ → List Declaration
+typesIn m n row = map (declarationAt m) (below (hasBit row) n)
+
+-- the row of type t has its proper ancestors, for every map that p reads, and nothing else
+pub record RowOf (p : Parents) (row t : ℕ) : Type 0 where
+  pub above : (m : TypeMap) → Reads p m → ancestors (mapOf m) (declarationAt m t) ≡ typesIn m (p .count) row
+  pub within : (a : ℕ) → p .count ≤ a → hasBit row a ≡ false
+
+-- each type has its row
+pub record Ancestors (p : Parents) (rows : List ℕ) : Type 0 where
+  pub right : (t : ℕ) → t < p .count → RowOf p (getD rows t 0) t
+
+-- the order has every type, and no parent is listed as `self`
+pub record Ordered (p : Parents) (o : Order) : Type 0 where
+  pub places : placesIn o ≡ final p
+  pub count : o .count ≡ length (final p)
+  pub whole : length (final p) ≡ p .count
+  pub noSelf : listsSelf p ≡ false
+
+-- ---- one row
+
+-- a row with a parent and what is above it
+pub record Joined (row over place r : ℕ) : Type 0 where
+  pub bits : (a : ℕ) → hasBit r a ≡ (hasBit row a || (eqb place a || hasBit over a))
+
+-- a is the parent q, or above it
+abbrev pub reaches : List ℕ → ℕ → Parent → Bool
+reaches rows a q = eqb (q .place) a || hasBit (getD rows (q .place) 0) a
+
+-- the parents of type t are declared
+pub record ParentsBelow (p : Parents) (t : ℕ) : Type 0 where
+  pub lower : (q : Parent) → In q (listed p t) → q .place < p .count
+
+-- the parents of type t, and what is above each of them
+pub record Gathered (p : Parents) (rows : List ℕ) (t row : ℕ) : Type 0 where
+  pub bits : (a : ℕ) → hasBit row a ≡ any (reaches rows a) (listed p t)

@@ -1,0 +1,4 @@
+pub mod Giving
+pub mod GivingLaws
+pub mod Tables
+pub mod Instance
