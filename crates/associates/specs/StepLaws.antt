@@ -1,0 +1,131 @@
+-- Laws of one word of an annotation.
+use mathlib.Core.Bool.{Bool, true, false, cond}
+use mathlib.Core.List.{List, [], _∷_, _++_}
+use mathlib.Core.Path.{_≡_, refl, sym, ap, _∙_, subst}
+use Prim.Native.Nat.{ℕ, zero, suc, _+_, _≤_, _<_}
+use native.Mathlib.Omega.{arith}
+use lib.ListN.{length, getD, length-append}
+use Rattle.lists.specs.Lists.{null, filter, firstOf}
+use Rattle.lists.specs.Tests.{never}
+use Rattle.rows.specs.declared.Row.{Row}
+use Rattle.definitions.specs.Records.{Name, Mark, AssociatedResource, Item, synthesized, extension}
+use Rattle.definitions.specs.Map.{Map, Declaration}
+use Rattle.definitions.specs.Making.{declared, classNames, isResource, extensionParents, marksOf, createSyntheticResource}
+use Rattle.definitions.specs.Packing.{rowBytes}
+use Rattle.definitions.specs.Synthesis.{Verdict, unknownClasses, ends, noResource, duplicate, makes, judge, classRow, isDuplicate, withMaking, Interpreted, interpreted, behindRow, behindRows, firstParents, interpretWords}
+use Rattle.fields.specs.Fields.{twoWords}
+use Rattle.making.specs.Making as making
+use Rattle.making.specs.Making.{itemOf}
+use Rattle.making.specs.MakingLaws.{length-parentsOf, length-marksOf}
+use Rattle.making.specs.declared.Making.{Making}
+use Rattle.table.specs.declared.Table.{Table}
+use Rattle.table.specs.Table.{nameAt, declarationAt, tableMap}
+use Rattle.synthetic.specs.Made.{classesOf, firstsOf, Fits, created}
+use Rattle.interpretation.specs.Emit.{State, emitBytes, emit, name-bytes}
+use Rattle.interpretation.specs.Judged.{isUnknown, isOther}
+use Rattle.interpretation.specs.JudgedLaws.{row-bytes}
+use Rattle.duplicates.specs.Held.{heldItems}
+use Rattle.associates.specs.Step.{rowsIn, endsIn, failsIn, itemsIn, verdictOf, SteppedBy}
+use Rattle.associates.specs.declared.Progress.{Progress}
+
+-- ---- the verdict
+
+judge-unknown : (f : Bool) (xs ns : List Name) (twice : Bool) → null xs ≡ false → judge f xs ns twice ≡ unknownClasses xs
+judge-unknown f [] ns twice e = never refl e
+judge-unknown true (x ∷ xs) ns twice e = refl
+judge-unknown false (x ∷ xs) ns twice e = refl
+
+judge-ends : (f : Bool) (xs ns : List Name) (twice : Bool) → null xs ≡ true → f ≡ true → judge f xs ns twice ≡ ends
+judge-ends true [] ns twice e p = refl
+judge-ends false [] ns twice e p = never p refl
+judge-ends f (x ∷ xs) ns twice e p = never e refl
+
+judge-other : (f : Bool) (xs ns : List Name) (twice : Bool) (c : Name) → null xs ≡ true → f ≡ false → ns ≡ c ∷ [] → judge f xs ns twice ≡ noResource c
+judge-other true [] ns twice c e p q = never refl p
+judge-other false [] ns twice c e p q = rw q
+judge-other f (x ∷ xs) ns twice c e p q = never e refl
+
+judge-last : (f : Bool) (xs ns : List Name) (twice : Bool) → null xs ≡ true → f ≡ false → ns ≡ [] → judge f xs ns twice ≡ cond twice duplicate makes
+judge-last true [] ns twice e p q = never refl p
+judge-last false [] ns true e p q = rw q
+judge-last false [] ns false e p q = rw q
+judge-last f (x ∷ xs) ns twice e p q = never e refl
+
+module _ (t : Table) (T r : ℕ) (doms : Row) (ps : ℕ) (f : Bool) (is : List Item) where
+  pub verdict-unknown : null (filter (isUnknown t) (classesOf doms r)) ≡ false → verdictOf t T r doms ps f is ≡ unknownClasses (filter (isUnknown t) (classesOf doms r))
+  unfolding verdictOf
+  verdict-unknown e = judge-unknown f (filter (isUnknown t) (classesOf doms r)) (firstOf (isOther t) (classesOf doms r)) (isDuplicate (tableMap t) (declarationAt t T) r (created t T r doms ps) is) e
+
+  pub verdict-ends : null (filter (isUnknown t) (classesOf doms r)) ≡ true → f ≡ true → verdictOf t T r doms ps f is ≡ ends
+  unfolding verdictOf
+  verdict-ends e p = judge-ends f (filter (isUnknown t) (classesOf doms r)) (firstOf (isOther t) (classesOf doms r)) (isDuplicate (tableMap t) (declarationAt t T) r (created t T r doms ps) is) e p
+
+  pub verdict-other : (c : Name) → null (filter (isUnknown t) (classesOf doms r)) ≡ true → f ≡ false → firstOf (isOther t) (classesOf doms r) ≡ c ∷ [] →
+      verdictOf t T r doms ps f is ≡ noResource c
+  unfolding verdictOf
+  verdict-other c e p q = judge-other f (filter (isUnknown t) (classesOf doms r)) (firstOf (isOther t) (classesOf doms r)) (isDuplicate (tableMap t) (declarationAt t T) r (created t T r doms ps) is) c e p q
+
+  pub verdict-last : (twice : Bool) → null (filter (isUnknown t) (classesOf doms r)) ≡ true → f ≡ false → firstOf (isOther t) (classesOf doms r) ≡ [] →
+      twice ≡ isDuplicate (tableMap t) (declarationAt t T) r (created t T r doms ps) is → verdictOf t T r doms ps f is ≡ cond twice duplicate makes
+  unfolding verdictOf
+  verdict-last twice e p q d = judge-last f (filter (isUnknown t) (classesOf doms r)) (firstOf (isOther t) (classesOf doms r)) (isDuplicate (tableMap t) (declarationAt t T) r (created t T r doms ps) is) e p q ∙ ap (λ b. cond b duplicate makes) (sym d)
+
+-- ---- the making's counts
+
+abbrev parentsIn : Item → List Name
+parentsIn (synthesized n r v ps ms) = ps
+parentsIn (extension n v t r) = []
+
+abbrev marksIn : Item → List Mark
+marksIn (synthesized n r v ps ms) = ms
+marksIn (extension n v t r) = []
+
+abbrev wordIn : Item → ℕ
+wordIn (synthesized n r v ps ms) = r
+wordIn (extension n v t r) = 0
+
+pub record Counted (new : Making) (r : ℕ) : Type 0 where
+  pub word : new .word ≡ r
+  pub parents : new .parents .count ≤ 17
+  pub marks : new .marks .count ≤ 448
+
+pub counted : (t : Table) (T r : ℕ) (doms : Row) (ps : ℕ) (new : Making) → Fits t T r doms ps → itemOf new ≡ created t T r doms ps → Counted new r
+unfolding created createSyntheticResource declarationAt
+counted t T r doms ps new f e =
+    let a = ap (λ x. length (parentsIn x)) e in
+    let b = ap (λ x. length (marksIn x)) e in
+    record {
+      word = ap wordIn e;
+      parents = omega (arith, a, length-parentsOf (new .parents), length-append (firstsOf t doms ps r) ((tableMap t .resource ∷ []) ∷ extensionParents (tableMap t) (nameAt t T) r), f .firsts, f .added);
+      marks = omega (arith, b, length-marksOf (new .marks), f .marks);
+    }
+
+-- ---- rows 5 and 6
+
+pub row-one : (limit kind : ℕ) (D : Declaration) (w f s a b : ℕ) (c : Name) (st st′ : State) → D .name ≡ twoWords f s → c ≡ twoWords a b →
+    st′ ≡ emitBytes limit st (kind ∷ f ∷ s ∷ a ∷ b ∷ w ∷ []) → st′ ≡ emit limit st (classRow kind D w c ∷ [])
+unfolding emit
+row-one limit kind D w f s a b c st st′ p q e = e ∙ ap (emitBytes limit st) (sym (row-bytes kind D w f s a b c p q))
+
+pub row-none : (limit kind : ℕ) (D : Declaration) (w f s : ℕ) (st st′ : State) → D .name ≡ twoWords f s →
+    st′ ≡ emitBytes limit st (kind ∷ f ∷ s ∷ 255 ∷ 255 ∷ w ∷ []) → st′ ≡ emit limit st (classRow kind D w [] ∷ [])
+unfolding emit rowBytes
+row-none limit kind D w f s st st′ p e = e ∙ rw (p, name-bytes f s)
+
+pub no-rows : (limit : ℕ) (st : State) → st ≡ emit limit st []
+unfolding emit
+no-rows limit st = refl
+
+pub named-at : (t : Table) (T : ℕ) → declarationAt t T .name ≡ twoWords (getD (t .firsts) T 0) (getD (t .seconds) T 0)
+unfolding declarationAt
+named-at t T = refl
+
+-- the step of the verdict that was reached
+pub by-verdict : {t : Table} {T r : ℕ} {doms : Row} {ps limit : ℕ} {s : Progress} {b : List ℕ} {p : Progress} {b′ : List ℕ} {v w : Verdict} → v ≡ w →
+    SteppedBy t T r doms ps limit s b p b′ w → SteppedBy t T r doms ps limit s b p b′ v
+by-verdict {t} {T} {r} {doms} {ps} {limit} {s} {b} {p} {b′} e x = subst (λ z. SteppedBy t T r doms ps limit s b p b′ z) (sym e) x
+
+-- the test on the making is the test on its item
+pub duplicate-same : (m : Map) (D : Declaration) (w w′ : ℕ) (x x′ : Item) (is : List Item) (r b : Bool) → r ≡ isDuplicate m D w x is → w ≡ w′ → x ≡ x′ → r ≡ b →
+    b ≡ isDuplicate m D w′ x′ is
+duplicate-same m D w w′ x x′ is r b e p q f = sym f ∙ e ∙ (λ i. isDuplicate m D (p i) (q i) is)

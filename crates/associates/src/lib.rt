@@ -1,0 +1,111 @@
+// `interpret_associate`, after compile.rs: one word of an annotation.
+use duplicates::Makings;
+use fields::Name;
+use rows::Row;
+use table::Table;
+ghost use mathlib.Core.Bool.{true, false};
+ghost use mathlib.Core.Path.{_≡_};
+ghost use Rattle.lists.specs.Lists.{null, filter};
+ghost use Rattle.synthetic.specs.Made.{classesOf};
+ghost use Rattle.interpretation.specs.Judged.{isUnknown};
+ghost use Rattle.associates.specs.Step.{Ready, Stepped};
+
+// How far an annotation is: whether a row 5 or 6 stands, whether it ended, the count of rows, and the makings of its type.
+pub struct Progress {
+    pub failed: bool,
+    pub ended: bool,
+    pub rows: usize,
+    pub made: Makings,
+}
+
+// A word whose classes are all declared: '5 first class that is no resource, 6 duplicate (not given where 5 is)', or its making.
+fn interpret_known(
+    t: Table,
+    place: usize,
+    word: u8,
+    doms: Row,
+    parents: u64,
+    s: Progress,
+    buf: &mut [u8],
+    limit: usize,
+) -> Progress
+    requires { ⌜ Ready t place word doms parents limit s (now buf) ⌝ }
+    requires { ⌜ (null (filter (isUnknown t) (classesOf doms word)) ≡ true) × (s .failed ≡ false) ⌝ }
+    ensures { λ r. ⌜ Stepped t place word doms parents limit s (now (buf .entry)) r (now (buf .exit)) ⌝ }
+{
+    let n = s.rows;
+    let made = s.made;
+    let subject = Name {
+        first: t.firsts[place],
+        second: t.seconds[place],
+    };
+    let k = interpretation::first_other(t, doms, word);
+    if k < 201 {
+        let other = table::class_name(k, word);
+        let rows = interpretation::put_row(buf, limit, n, 5, subject, other, word);
+        return Progress {
+            failed: true,
+            ended: false,
+            rows: rows,
+            made: made,
+        };
+    }
+    let new = synthetic::create_synthetic_resource(t, place, word, doms, parents);
+    if duplicates::is_duplicate(t, place, new, made) {
+        let none = Name {
+            first: 255,
+            second: 255,
+        };
+        let rows = interpretation::put_row(buf, limit, n, 6, subject, none, word);
+        return Progress {
+            failed: true,
+            ended: false,
+            rows: rows,
+            made: made,
+        };
+    }
+    let more = duplicates::with_making(made, word, doms, parents);
+    Progress {
+        failed: false,
+        ended: false,
+        rows: n,
+        made: more,
+    }
+}
+
+// 'A word's unknown classes each add a row and then end the annotation; after a class that is no resource, or a duplicate, the annotation's next word adds only
+// its unknown classes, and there it ends.'
+pub fn interpret_word(
+    t: Table,
+    place: usize,
+    word: u8,
+    doms: Row,
+    parents: u64,
+    s: Progress,
+    buf: &mut [u8],
+    limit: usize,
+) -> Progress
+    requires { ⌜ Ready t place word doms parents limit s (now buf) ⌝ }
+    ensures { λ r. ⌜ Stepped t place word doms parents limit s (now (buf .entry)) r (now (buf .exit)) ⌝ }
+{
+    let n = s.rows;
+    let made = s.made;
+    if interpretation::all_known(t, doms, word) {
+        if s.failed {
+            return Progress {
+                failed: true,
+                ended: true,
+                rows: n,
+                made: made,
+            };
+        }
+        return interpret_known(t, place, word, doms, parents, s, buf, limit);
+    }
+    let rows = interpretation::unknown_rows(t, place, doms, word, buf, limit, n);
+    Progress {
+        failed: true,
+        ended: true,
+        rows: rows,
+        made: made,
+    }
+}

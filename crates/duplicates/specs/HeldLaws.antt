@@ -1,0 +1,156 @@
+-- Laws of held makings.
+use mathlib.Core.Bool.{Bool, true, false, _&&_, _||_, not, cond, or-false, or-assoc, and-false}
+use mathlib.Core.List.{List, [], _∷_, _++_}
+use mathlib.Core.Path.{_≡_, refl, sym, ap, ap₂, _∙_}
+use Prim.Native.Nat.{ℕ, zero, suc, _+_, _≤_, _<_}
+use native.Mathlib.Numerals.{add-one}
+use native.Mathlib.Omega.{arith}
+use borrow.Author.Tests.{ne-eqb, eq-eqb, eqb-true, eqb-false, lt-ltb, le-ltb}
+use lib.Dec.{eqb, ltb}
+use lib.ListN.{length, getD, set}
+use lib.Seq
+use Rattle.lists.specs.Lists.{any, null, keep, sameList, filter}
+use Rattle.lists.specs.Tests.{by, never, not-so}
+use Rattle.lists.specs.Lexicographic.{same-numbers}
+use Rattle.rows.specs.Lists.{any-append, filter-append}
+use Rattle.rows.specs.declared.Row.{Row}
+use Rattle.rows.specs.Rows.{empty}
+use Rattle.definitions.specs.Records.{Name, Mark, Item, synthesized, extension}
+use Rattle.definitions.specs.Orders.{sameName, lookUp, dotted}
+use Rattle.definitions.specs.Map.{Declaration}
+use Rattle.definitions.specs.Making.{declared, createSyntheticResource, extensionLine, sameItem}
+use Rattle.definitions.specs.Synthesis.{withMaking}
+use Rattle.fields.specs.Fields.{optional, twoWords}
+use Rattle.fields.specs.Tabulate.{tabulate}
+use Rattle.table.specs.declared.Table.{Table}
+use Rattle.table.specs.Table.{nameAt, declarationAt, tableMap, Sound, Finds, typeAt}
+use Rattle.table.specs.TableLaws.{declared-at}
+use Rattle.synthetic.specs.Made.{Fits, created}
+use Rattle.duplicates.specs.Held.{wordAt, domsAt, parentsAt, heldItems, Holding}
+use Rattle.duplicates.specs.declared.Makings.{Makings}
+
+-- ---- what stands among the items
+
+-- an extension line is no making
+kept-none : (b : Bool) (n : Name) (r : ℕ) (v : Bool) (ps : List Name) (ms : List Mark) (D : Declaration) (w : ℕ) →
+    any (sameItem (synthesized n r v ps ms)) (keep b (extensionLine D w) []) ≡ false
+unfolding sameItem extensionLine
+kept-none true n r v ps ms D w = refl
+kept-none false n r v ps ms D w = refl
+
+made-step : (n : Name) (r : ℕ) (v : Bool) (ps : List Name) (ms : List Mark) (D : Declaration) (w : ℕ) (new : Item) (is : List Item) →
+    any (sameItem (synthesized n r v ps ms)) (withMaking D w new is) ≡ (any (sameItem (synthesized n r v ps ms)) is || sameItem (synthesized n r v ps ms) new)
+unfolding withMaking
+made-step n r v ps ms D w new is =
+    any-append (sameItem (synthesized n r v ps ms)) is (new ∷ keep (not (any (sameItem (extensionLine D w)) is)) (extensionLine D w) [])
+    ∙ ap (λ b. any (sameItem (synthesized n r v ps ms)) is || (sameItem (synthesized n r v ps ms) new || b))
+    (kept-none (not (any (sameItem (extensionLine D w)) is)) n r v ps ms D w)
+    ∙ ap (λ b. any (sameItem (synthesized n r v ps ms)) is || b) (or-false (sameItem (synthesized n r v ps ms) new))
+
+module _ (t : Table) (T : ℕ) (h : Makings) (n : Name) (r : ℕ) (v : Bool) (ps : List Name) (ms : List Mark) where
+  abbrev x : Item
+  x = synthesized n r v ps ms
+
+  held-step : (i : ℕ) → any (sameItem x) (heldItems t T h (i + 1)) ≡ (any (sameItem x) (heldItems t T h i) || sameItem x (created t T (wordAt h i) (domsAt h i) (parentsAt h i)))
+  unfolding heldItems
+  held-step i =
+      ap (λ (k : ℕ). any (sameItem x) (heldItems t T h k)) (add-one i)
+      ∙ made-step n r v ps ms (declarationAt t T) (wordAt h i) (created t T (wordAt h i) (domsAt h i) (parentsAt h i)) (heldItems t T h i)
+
+  pub held-start : any (sameItem x) (heldItems t T h 0) ≡ false
+  unfolding heldItems
+  held-start = refl
+
+  -- not yet one that is the same
+  pub held-next : (i : ℕ) → any (sameItem x) (heldItems t T h i) ≡ false → sameItem x (created t T (wordAt h i) (domsAt h i) (parentsAt h i)) ≡ false →
+      any (sameItem x) (heldItems t T h (i + 1)) ≡ false
+  held-next i p q = held-step i ∙ rw (p, q)
+
+  -- one that is the same
+  pub held-found : (i j : ℕ) → i < j → sameItem x (created t T (wordAt h i) (domsAt h i) (parentsAt h i)) ≡ true → any (sameItem x) (heldItems t T h j) ≡ true
+  held-found i zero l q = absurd (omega arith)
+  held-found i (suc j) l q =
+      ap (λ (k : ℕ). any (sameItem x) (heldItems t T h k)) (sym (add-one j))
+      ∙ held-step j
+      ∙ by (eqb i j)
+      (λ e. let z : i ≡ j = eqb-true i j e in rw (← z, q) (mathlib.Core.Bool.or-true (any (sameItem x) (heldItems t T h i))))
+      (λ e. rw (held-found i j (omega (arith, eqb-false i j e)) q))
+
+  -- makings of other words are not the same
+  pub unlike-word : (w : ℕ) (doms : Row) (qs : ℕ) → (w ≡ r → ⊥) → sameItem x (created t T w doms qs) ≡ false
+  unfolding created createSyntheticResource sameItem
+  unlike-word w doms qs e = rw (ne-eqb r w (λ z. e (sym z))) (and-false (sameName n (declarationAt t T .name)))
+
+-- ---- one more
+
+same-items : (t : Table) (T : ℕ) (h r : Makings) (n : ℕ) → ((i : ℕ) → i < n → wordAt r i ≡ wordAt h i) → ((i : ℕ) → i < n → domsAt r i ≡ domsAt h i) →
+    ((i : ℕ) → i < n → parentsAt r i ≡ parentsAt h i) → heldItems t T r n ≡ heldItems t T h n
+unfolding heldItems
+same-items t T h r zero a b c = refl
+same-items t T h r (suc n) a b c =
+    rw (same-items t T h r n (λ i l. a i (omega arith)) (λ i l. b i (omega arith)) (λ i l. c i (omega arith)), a n (omega arith), b n (omega arith), c n (omega arith))
+
+held-one : (t : Table) (T : ℕ) (h r : Makings) (n word : ℕ) (doms : Row) (ps : ℕ) → heldItems t T r n ≡ heldItems t T h n → wordAt r n ≡ word → domsAt r n ≡ doms →
+    parentsAt r n ≡ ps → heldItems t T r (n + 1) ≡ withMaking (declarationAt t T) word (created t T word doms ps) (heldItems t T h n)
+unfolding heldItems
+held-one t T h r n word doms ps p a b c = ap (λ (k : ℕ). heldItems t T r k) (add-one n) ∙ (λ i. withMaking (declarationAt t T) (a i) (created t T (a i) (b i) (c i)) (p i))
+
+pub items-more : (h : Makings) (word : ℕ) (doms : Row) (ps : ℕ) → h .count < length (h .words) → h .count < length (h .doms) → h .count < length (h .parents) →
+    (t : Table) (T : ℕ) →
+    heldItems t T
+    (record { count = h .count + 1; words = set (h .words) (h .count) word; doms = set (h .doms) (h .count) doms; parents = set (h .parents) (h .count) ps })
+    (h .count + 1)
+    ≡ withMaking (declarationAt t T) word (created t T word doms ps) (heldItems t T h (h .count))
+items-more h word doms ps p q s t T =
+    let n = h .count in
+    let r : Makings = record { count = n + 1; words = set (h .words) n word; doms = set (h .doms) n doms; parents = set (h .parents) n ps } in
+    held-one t T h r n word doms ps
+    (same-items t T h r n
+    (λ i l. Seq.getD-set-other (h .words) n i word 0 (λ e. omega arith))
+    (λ i l. Seq.getD-set-other (h .doms) n i doms empty (λ e. omega arith))
+    (λ i l. Seq.getD-set-other (h .parents) n i ps 0 (λ e. omega arith)))
+    (Seq.getD-set-same (h .words) n word 0 p)
+    (Seq.getD-set-same (h .doms) n doms empty q)
+    (Seq.getD-set-same (h .parents) n ps 0 s)
+
+pub holding-more : (h : Makings) (word : ℕ) (doms : Row) (ps : ℕ) → h .count < 380 → h .count < length (h .words) → h .count < length (h .doms) → h .count < length (h .parents) →
+    (t : Table) (T : ℕ) → Holding t T h → Fits t T word doms ps →
+    Holding t T (record { count = h .count + 1; words = set (h .words) (h .count) word; doms = set (h .doms) (h .count) doms; parents = set (h .parents) (h .count) ps })
+holding-more h word doms ps b p q s t T k f =
+    record {
+      room = omega arith;
+      fits = λ i l.
+          by (eqb i (h .count))
+          (λ e.
+          let z : i ≡ h .count = eqb-true i (h .count) e in
+          rw (z, Seq.getD-set-same (h .words) (h .count) word 0 p, Seq.getD-set-same (h .doms) (h .count) doms empty q, Seq.getD-set-same (h .parents) (h .count) ps 0 s) f)
+          (λ e.
+          let z = eqb-false i (h .count) e in
+          rw (Seq.getD-set-other (h .words) (h .count) i word 0 z, Seq.getD-set-other (h .doms) (h .count) i doms empty z, Seq.getD-set-other (h .parents) (h .count) i ps 0 z)
+          (k .fits i (omega arith)));
+    }
+
+-- ---- T.r
+
+tail-longer : (b d w : ℕ) → (d ≡ 255 → ⊥) → sameName (optional b) (optional d ++ (w ∷ [])) ≡ false
+tail-longer b d w h = rw (ne-eqb d 255 h) (by (eqb b 255) (λ e. rw e) (λ e. rw e (and-false (eqb b d))))
+
+no-match : {A : Type 0} (f : A → Bool) (g : ℕ → A) (n : ℕ) → ((i : ℕ) → f (g i) ≡ false) → filter f (tabulate g n) ≡ []
+unfolding tabulate
+no-match f g zero h = refl
+no-match f g (suc n) h = rw (filter-append f (tabulate g n) (g n ∷ []), no-match f g n h, h n)
+
+-- a name of three words is not declared
+pub three-words : (t : Table) (place word : ℕ) → (getD (t .seconds) place 0 ≡ 255 → ⊥) → declared (tableMap t) (dotted (nameAt t place) word) ≡ []
+unfolding tableMap lookUp declarationAt
+three-words t place word h =
+    no-match (λ (D : Declaration). sameName (D .name) (dotted (nameAt t place) word)) (declarationAt t) (t .count)
+    (λ i.
+    ap (λ x. eqb (getD (t .firsts) i 0) (getD (t .firsts) place 0) && x) (tail-longer (getD (t .seconds) i 0) (getD (t .seconds) place 0) word h)
+    ∙ and-false (eqb (getD (t .firsts) i 0) (getD (t .firsts) place 0)))
+
+pub one-word : (t : Table) (place word : ℕ) → getD (t .seconds) place 0 ≡ 255 → word < 255 → twoWords (getD (t .firsts) place 0) word ≡ dotted (nameAt t place) word
+one-word t place word h l = rw (h, ne-eqb word 255 (λ e. omega arith))
+
+pub declared-there : (t : Table) → Sound t → (c : Name) (r : ℕ) → Finds (t .firsts) (t .seconds) (t .count) c r → ltb r (t .count) ≡ not (null (declared (tableMap t) c))
+declared-there t s c r f = rw (declared-at t s c r f) (by (ltb r (t .count)) (λ e. rw e) (λ e. rw e))

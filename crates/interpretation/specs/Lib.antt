@@ -1,0 +1,3 @@
+pub mod Emit
+pub mod Judged
+pub mod JudgedLaws

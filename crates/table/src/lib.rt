@@ -1,0 +1,68 @@
+// What the synthesis and the schedule look up of the types and the extensions, in a compact form. 'Borrowed `&TypeInfo` becomes a type number': its place in name
+// order.
+use fields::Name;
+use records::Marks;
+use types::Extensions;
+ghost use mathlib.Core.Path.{_≡_};
+ghost use Prim.Native.Nat.{_<_, _≤_};
+ghost use Rattle.definitions.specs.Orders.{sameName, dotted};
+ghost use Rattle.fields.specs.Fields.{twoWords, nameOf};
+ghost use Rattle.annotations.specs.Reading.{domAt};
+ghost use Rattle.table.specs.Table.{Finds};
+
+// The first count types. A place more than there can be types is the place of a name that is not declared. The variant is 01's number: 0 domain, 1 resource,
+// 2 other.
+pub struct Table {
+    pub resource: u8,
+    pub count: usize,
+    pub firsts: [u8; 65],
+    pub seconds: [u8; 65],
+    pub variants: [usize; 65],
+    pub virtuals: [bool; 65],
+    pub traits: [bool; 65],
+    pub marks: [Marks; 65],
+    pub extensions: Extensions,
+}
+
+// 'Names compare by their bytes': by their words.
+pub fn same_words(a: u8, b: u8, c: u8, d: u8) -> bool
+    ensures { λ r. ⌜ r ≡ sameName (twoWords a b) (twoWords c d) ⌝ }
+{
+    if a == c {
+        return b == d;
+    }
+    false
+}
+
+// The place of the type of that name, or the count where none is declared. 'Lookup by name only.' The names are lent, since there is a call for each class.
+pub fn find<'a>(firsts: &'a [u8; 65], seconds: &'a [u8; 65], count: usize, n: Name) -> usize
+    requires { ⌜ count ≤ 64 ⌝ }
+    ensures { λ r. ⌜ Finds (now (firsts .entry)) (now (seconds .entry)) count (nameOf n) r ⌝ }
+{
+    let mut i: usize = 0;
+    while i < count {
+        if same_words(firsts[i], seconds[i], n.first, n.second) {
+            return i;
+        }
+        i += 1;
+    }
+    i
+}
+
+// 'a resource T.r whose class is `r`, or `dom.r`': the dom 0 is none, d + 1 the word d.
+pub fn class_name(dom: usize, word: u8) -> Name
+    requires { ⌜ (dom < 256) × (word < 255) ⌝ }
+    ensures { λ n. ⌜ nameOf n ≡ dotted (domAt dom) word ⌝ }
+{
+    if dom == 0 {
+        return Name {
+            first: word,
+            second: 255,
+        };
+    }
+    let d = (dom - 1) as u8;
+    Name {
+        first: d,
+        second: word,
+    }
+}
