@@ -1,0 +1,342 @@
+// The schedule's bits. Each part has its number of bits, found before anything is written, and a writer at a cursor whose contract is the definitions' list of bits.
+use bits::Cursor;
+use fields::Name;
+use making::Line;
+use making::Making;
+use making::Mark;
+use making::Marks;
+use making::Parent;
+use making::Parents;
+ghost use mathlib.Core.List.{[], _∷_};
+ghost use mathlib.Core.Path.{_≡_};
+ghost use Prim.Native.Nat.{_+_, _≤_};
+ghost use lib.ListN.{length};
+ghost use Rattle.lists.specs.Lists.{each};
+ghost use Rattle.definitions.specs.Bits.{toBits};
+ghost use Rattle.definitions.specs.Packing.{nameBits, parentBits, markBits, itemBits, orderBits, countedBits};
+ghost use Rattle.bits.specs.Writing.{Wrote};
+ghost use Rattle.fields.specs.Fields.{optional, nameOf};
+ghost use Rattle.making.specs.Making.{parentOf, parentsOf, markOf, marksOf, itemOf, lineOf, Bounded};
+ghost use Rattle.packing.specs.Room.{Room};
+ghost use Rattle.packing.specs.Order.{nameAt, orderNames, Listing};
+
+// One bit.
+fn write_flag(buf: &mut [u8], c: Cursor, v: bool) -> Cursor
+    requires { ⌜ Room (now buf) (c .at) 1 ⌝ }
+    ensures { λ r. ⌜ Wrote (now (buf .entry)) (now (buf .exit)) (c .at) (r .at) (v ∷ []) ⌝ }
+{
+    if v {
+        c.write(buf, 1, 1)
+    } else {
+        c.write(buf, 1, 0)
+    }
+}
+
+// 01: 'A name is a word, a flag 1, and a second word if the flag is 1'.
+pub fn name_bits(n: Name) -> usize
+    ensures { λ r. ⌜ (r ≡ length (nameBits (nameOf n))) × (r ≤ 17) ⌝ }
+{
+    if n.second == 255 { 9 } else { 17 }
+}
+
+pub fn write_name(buf: &mut [u8], c: Cursor, n: Name) -> Cursor
+    requires { ⌜ Room (now buf) (c .at) (length (nameBits (nameOf n))) ⌝ }
+    ensures { λ r. ⌜ Wrote (now (buf .entry)) (now (buf .exit)) (c .at) (r .at) (nameBits (nameOf n)) ⌝ }
+{
+    let d = c.write(buf, 8, n.first as usize);
+    if n.second == 255 {
+        d.write(buf, 1, 0)
+    } else {
+        let e = d.write(buf, 1, 1);
+        e.write(buf, 8, n.second as usize)
+    }
+}
+
+// How many words there are: 255 stands for none.
+fn present(w: u8) -> usize
+    ensures { λ r. ⌜ (r ≡ length (optional w)) × (r ≤ 1) ⌝ }
+{
+    if w == 255 { 0 } else { 1 }
+}
+
+// The word, if there is one.
+fn write_present(buf: &mut [u8], c: Cursor, w: u8) -> Cursor
+    requires { ⌜ Room (now buf) (c .at) (length (each (toBits 8) (optional w))) ⌝ }
+    ensures { λ r. ⌜ Wrote (now (buf .entry)) (now (buf .exit)) (c .at) (r .at) (each (toBits 8) (optional w)) ⌝ }
+{
+    if w == 255 {
+        c
+    } else {
+        c.write(buf, 8, w as usize)
+    }
+}
+
+// 01: 'each a word count 2 (1 to 3) and its words'.
+fn parent_bits(second: u8, third: u8) -> usize
+    ensures { λ r. ⌜ (r ≡ 10 + length (each (toBits 8) (optional second)) + length (each (toBits 8) (optional third))) × (r ≤ 26) ⌝ }
+{
+    10 + 8 * present(second) + 8 * present(third)
+}
+
+fn write_parent(buf: &mut [u8], c: Cursor, p: Parent) -> Cursor
+    requires { ⌜ Room (now buf) (c .at) (length (parentBits (parentOf p))) ⌝ }
+    ensures { λ r. ⌜ Wrote (now (buf .entry)) (now (buf .exit)) (c .at) (r .at) (parentBits (parentOf p)) ⌝ }
+{
+    let d = c.write(buf, 2, 1 + present(p.second) + present(p.third));
+    let e = d.write(buf, 8, p.first as usize);
+    let f = write_present(buf, e, p.second);
+    write_present(buf, f, p.third)
+}
+
+// 01: 'parents 5'.
+fn parents_bits(t: Parents) -> usize
+    requires { ⌜ t .count ≤ 17 ⌝ }
+    ensures { λ r. ⌜ (r ≡ length (countedBits 5 parentBits (parentsOf t))) × (r ≤ 447) ⌝ }
+{
+    let mut total: usize = 5;
+    let mut i = 0;
+    while i < t.count {
+        total += parent_bits(t.seconds[i], t.thirds[i]);
+        i += 1;
+    }
+    total
+}
+
+fn write_each_parent(buf: &mut [u8], c: Cursor, t: Parents) -> Cursor
+    requires { ⌜ t .count ≤ 17 ⌝ }
+    requires { ⌜ Room (now buf) (c .at) (length (each parentBits (parentsOf t))) ⌝ }
+    ensures { λ r. ⌜ Wrote (now (buf .entry)) (now (buf .exit)) (c .at) (r .at) (each parentBits (parentsOf t)) ⌝ }
+{
+    let mut at = c;
+    let mut i = 0;
+    while i < t.count {
+        let p = Parent {
+            first: t.firsts[i],
+            second: t.seconds[i],
+            third: t.thirds[i],
+        };
+        at = write_parent(buf, at, p);
+        i += 1;
+    }
+    at
+}
+
+fn write_parents(buf: &mut [u8], c: Cursor, t: Parents) -> Cursor
+    requires { ⌜ t .count ≤ 17 ⌝ }
+    requires { ⌜ Room (now buf) (c .at) (length (countedBits 5 parentBits (parentsOf t))) ⌝ }
+    ensures { λ r. ⌜ Wrote (now (buf .entry)) (now (buf .exit)) (c .at) (r .at) (countedBits 5 parentBits (parentsOf t)) ⌝ }
+{
+    let d = c.write(buf, 5, t.count);
+    write_each_parent(buf, d, t)
+}
+
+// 01: 'A mark: 0 makelist, or 1 and a tag 8 for derive.'
+fn mark_bits(m: Mark) -> usize
+    ensures { λ r. ⌜ (r ≡ length (markBits (markOf m))) × (r ≤ 9) ⌝ }
+{
+    if m.derive == 1 { 9 } else { 1 }
+}
+
+fn write_mark(buf: &mut [u8], c: Cursor, m: Mark) -> Cursor
+    requires { ⌜ Room (now buf) (c .at) (length (markBits (markOf m))) ⌝ }
+    ensures { λ r. ⌜ Wrote (now (buf .entry)) (now (buf .exit)) (c .at) (r .at) (markBits (markOf m)) ⌝ }
+{
+    if m.derive == 1 {
+        let d = c.write(buf, 1, 1);
+        d.write(buf, 8, m.tag as usize)
+    } else {
+        c.write(buf, 1, 0)
+    }
+}
+
+// 01: 'marks 9'.
+fn marks_bits(t: Marks) -> usize
+    requires { ⌜ t .count ≤ 448 ⌝ }
+    ensures { λ r. ⌜ (r ≡ length (countedBits 9 markBits (marksOf t))) × (r ≤ 4041) ⌝ }
+{
+    let mut total: usize = 9;
+    let mut i = 0;
+    while i < t.count {
+        let m = Mark {
+            derive: t.derives[i],
+            tag: t.tags[i],
+        };
+        total += mark_bits(m);
+        i += 1;
+    }
+    total
+}
+
+fn write_each_mark(buf: &mut [u8], c: Cursor, t: Marks) -> Cursor
+    requires { ⌜ t .count ≤ 448 ⌝ }
+    requires { ⌜ Room (now buf) (c .at) (length (each markBits (marksOf t))) ⌝ }
+    ensures { λ r. ⌜ Wrote (now (buf .entry)) (now (buf .exit)) (c .at) (r .at) (each markBits (marksOf t)) ⌝ }
+{
+    let mut at = c;
+    let mut i = 0;
+    while i < t.count {
+        let m = Mark {
+            derive: t.derives[i],
+            tag: t.tags[i],
+        };
+        at = write_mark(buf, at, m);
+        i += 1;
+    }
+    at
+}
+
+fn write_marks(buf: &mut [u8], c: Cursor, t: Marks) -> Cursor
+    requires { ⌜ t .count ≤ 448 ⌝ }
+    requires { ⌜ Room (now buf) (c .at) (length (countedBits 9 markBits (marksOf t))) ⌝ }
+    ensures { λ r. ⌜ Wrote (now (buf .entry)) (now (buf .exit)) (c .at) (r .at) (countedBits 9 markBits (marksOf t)) ⌝ }
+{
+    let d = c.write(buf, 9, t.count);
+    write_each_mark(buf, d, t)
+}
+
+// 01: 'Bit 0, a synthesized resource: type name, resource word, virtual 1, parents 5, marks 9'.
+pub fn making_bits(m: Making) -> usize
+    requires { ⌜ Bounded m ⌝ }
+    ensures { λ r. ⌜ (r ≡ length (itemBits (itemOf m))) × (r ≤ 4515) ⌝ }
+{
+    let name = m.name;
+    let parents = m.parents;
+    let marks = m.marks;
+    10 + name_bits(name) + parents_bits(parents) + marks_bits(marks)
+}
+
+pub fn write_making(buf: &mut [u8], c: Cursor, m: Making) -> Cursor
+    requires { ⌜ Bounded m ⌝ }
+    requires { ⌜ Room (now buf) (c .at) (length (itemBits (itemOf m))) ⌝ }
+    ensures { λ r. ⌜ Wrote (now (buf .entry)) (now (buf .exit)) (c .at) (r .at) (itemBits (itemOf m)) ⌝ }
+{
+    let name = m.name;
+    let parents = m.parents;
+    let marks = m.marks;
+    let c1 = c.write(buf, 1, 0);
+    let c2 = write_name(buf, c1, name);
+    let c3 = c2.write(buf, 8, m.word as usize);
+    let c4 = write_flag(buf, c3, m.is_virtual);
+    let c5 = write_parents(buf, c4, parents);
+    write_marks(buf, c5, marks)
+}
+
+// 01: 'Bit 1, an extension line: type name, virtual 1, trait 1, resource word.'
+pub fn line_bits(l: Line) -> usize
+    ensures { λ r. ⌜ (r ≡ length (itemBits (lineOf l))) × (r ≤ 28) ⌝ }
+{
+    let name = l.name;
+    11 + name_bits(name)
+}
+
+pub fn write_line(buf: &mut [u8], c: Cursor, l: Line) -> Cursor
+    requires { ⌜ Room (now buf) (c .at) (length (itemBits (lineOf l))) ⌝ }
+    ensures { λ r. ⌜ Wrote (now (buf .entry)) (now (buf .exit)) (c .at) (r .at) (itemBits (lineOf l)) ⌝ }
+{
+    let name = l.name;
+    let c1 = c.write(buf, 1, 1);
+    let c2 = write_name(buf, c1, name);
+    let c3 = write_flag(buf, c2, l.is_virtual);
+    let c4 = write_flag(buf, c3, l.is_trait);
+    c4.write(buf, 8, l.word as usize)
+}
+
+// The name of type t. Past the arrays both words are 0, as in the definition of the names, so that callers need not show that t is a type.
+fn name_at(firsts: [u8; 64], seconds: [u8; 64], t: usize) -> Name
+    ensures { λ r. ⌜ nameOf r ≡ nameAt firsts seconds t ⌝ }
+{
+    if t < 64 {
+        Name {
+            first: firsts[t],
+            second: seconds[t],
+        }
+    } else {
+        Name {
+            first: 0,
+            second: 0,
+        }
+    }
+}
+
+fn names_bits(firsts: [u8; 64], seconds: [u8; 64], items: [u8; 64], n: usize) -> usize
+    requires { ⌜ n ≤ 64 ⌝ }
+    ensures { λ r. ⌜ (r ≡ length (each nameBits (orderNames firsts seconds items n))) × (r ≤ 1088) ⌝ }
+{
+    let mut total: usize = 0;
+    let mut i = 0;
+    while i < n {
+        total += name_bits(name_at(firsts, seconds, items[i] as usize));
+        i += 1;
+    }
+    total
+}
+
+fn write_names(
+    buf: &mut [u8],
+    c: Cursor,
+    firsts: [u8; 64],
+    seconds: [u8; 64],
+    items: [u8; 64],
+    n: usize,
+) -> Cursor
+    requires { ⌜ n ≤ 64 ⌝ }
+    requires { ⌜ Room (now buf) (c .at) (length (each nameBits (orderNames firsts seconds items n))) ⌝ }
+    ensures { λ r. ⌜ Wrote (now (buf .entry)) (now (buf .exit)) (c .at) (r .at) (each nameBits (orderNames firsts seconds items n)) ⌝ }
+{
+    let mut at = c;
+    let mut i = 0;
+    while i < n {
+        at = write_name(buf, at, name_at(firsts, seconds, items[i] as usize));
+        i += 1;
+    }
+    at
+}
+
+// 01: 'N in 7, names in order'.
+pub fn order_bits(firsts: [u8; 64], seconds: [u8; 64], items: [u8; 64], n: usize) -> usize
+    requires { ⌜ n ≤ 64 ⌝ }
+    ensures { λ r. ⌜ (r ≡ length (orderBits (orderNames firsts seconds items n))) × (r ≤ 1095) ⌝ }
+{
+    7 + names_bits(firsts, seconds, items, n)
+}
+
+pub fn write_order_bits(
+    buf: &mut [u8],
+    c: Cursor,
+    firsts: [u8; 64],
+    seconds: [u8; 64],
+    items: [u8; 64],
+    n: usize,
+) -> Cursor
+    requires { ⌜ n ≤ 64 ⌝ }
+    requires { ⌜ Room (now buf) (c .at) (length (orderBits (orderNames firsts seconds items n))) ⌝ }
+    ensures { λ r. ⌜ Wrote (now (buf .entry)) (now (buf .exit)) (c .at) (r .at) (orderBits (orderNames firsts seconds items n)) ⌝ }
+{
+    let d = c.write(buf, 7, n);
+    write_names(buf, d, firsts, seconds, items, n)
+}
+
+// 01: '10 answers the needed size, acceptance the size written'.
+pub struct Listed {
+    pub short: bool,
+    pub size: usize,
+}
+
+// 01: 'The order-only call writes N and the names'. Nothing is touched where the listing is too short.
+pub fn write_order(
+    listing: &mut [u8],
+    firsts: [u8; 64],
+    seconds: [u8; 64],
+    items: [u8; 64],
+    n: usize,
+) -> Listed
+    requires { ⌜ n ≤ 64 ⌝ }
+    ensures { λ r. ⌜ Listing (now (listing .entry)) (now (listing .exit)) (orderBits (orderNames firsts seconds items n)) r ⌝ }
+{
+    let size = (order_bits(firsts, seconds, items, n) + 7) / 8;
+    if listing.len() < size {
+        return Listed { short: true, size };
+    }
+    write_order_bits(listing, Cursor { at: 0 }, firsts, seconds, items, n);
+    Listed { short: false, size }
+}
