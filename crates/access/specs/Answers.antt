@@ -1,0 +1,21 @@
+-- What the answers mean: 01's number, size, row count and flag for each case; 'parts of the answer not named are 0'.
+use mathlib.Core.Bool.{Bool, false}
+use mathlib.Core.List.{List}
+use Prim.Native.Nat.{ℕ}
+use Rattle.definitions.specs.Answer as rules
+use Rattle.definitions.specs.Answer.{standard, Input, Outcome}
+use Rattle.access.specs.declared.Answer.{Answer}
+
+abbrev pub answerOf : Answer → rules.Answer
+answerOf (Answer.Accepted size) = record { number = 0; size = size; rows = 0; more = false }
+answerOf (Answer.Refused number) = record { number = number; size = 0; rows = 0; more = false }
+answerOf (Answer.Diagnosed number rows more) = record { number = number; size = 0; rows = rows; more = more }
+answerOf (Answer.TooShort size) = record { number = 10; size = size; rows = 0; more = false }
+
+-- an answer with both slices at exit
+abbrev pub outcomeOf : Answer → List ℕ → List ℕ → Outcome
+outcomeOf a listing diagnosis = record { answer = answerOf a; listing = listing; diagnosis = diagnosis }
+
+-- the input of the order-only call: the sheet, and both slices at entry
+abbrev pub orderInput : List ℕ → List ℕ → List ℕ → Input
+orderInput sheet listing diagnosis = record { settings = standard; call = rules.order; sheet = sheet; listing = listing; diagnosis = diagnosis }

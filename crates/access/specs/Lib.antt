@@ -1,0 +1,7 @@
+pub mod Answers
+pub mod Ending
+pub mod Testing
+pub mod AnswerLaws
+pub mod ReadLaws
+pub mod EndLaws
+pub mod TestLaws
