@@ -1,5 +1,5 @@
-// Answers for each sheet of standard input with its refusal by 3 to 7, 0 for none: the sheet alone, or also cut to each shorter length and with each single bit
-// flipped. tools/damage makes the input, and by a model of its own what must come out.
+// Answers for each sheet of standard input: with its refusal by 3 to 7, 0 for none, of the sheet alone, or also of the sheet cut to each shorter length and with
+// each single bit flipped; or with what the order program prints for it. tools/damage makes the input, and by a model of its own what must come out.
 use access::Answer;
 ghost use Prim.Native.Nat.{_+_, _≤_, _<_};
 ghost use lib.ListN.{length};
@@ -58,10 +58,14 @@ fn print_all_flipped(sheet: &mut [u8]) {
     }
 }
 
-// One record: the sheet, and where it is asked for what becomes of it when it is damaged.
-fn answer(sheet: &mut [u8], damaged: bool) {
+// One record: by its mode what the order program prints, or the sheet's refusal, and where it is asked for those of the damaged sheet.
+fn answer(sheet: &mut [u8], mode: u8) {
+    if mode == 2 {
+        printing::print_order(sheet);
+        return;
+    }
     print(sheet);
-    if !damaged {
+    if mode == 0 {
         io::write_all(1, b"\n");
         return;
     }
@@ -82,13 +86,13 @@ fn record(input: &mut [u8], at: usize) -> usize
         return total;
     }
     let size = wide(input[at]) * 256 + wide(input[at + 1]);
-    let damaged = input[at + 2] == 1;
+    let mode = input[at + 2];
     let start = at + 3;
     let end = start + size;
     if total < end {
         return total;
     }
-    answer(&mut input[start..end], damaged);
+    answer(&mut input[start..end], mode);
     end
 }
 

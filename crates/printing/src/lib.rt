@@ -1,0 +1,14 @@
+// What the programs do with a sheet: they lend the slices, call, and print what then stands in them.
+use access::Answer;
+
+// The order-only call. 01: 'lends a listing of 65,536 bytes'; 1,536 bytes hold 256 rows.
+pub fn print_order(sheet: &[u8]) {
+    let mut listing = io::large_buffer();
+    let mut diagnosis = [0u8; 1536];
+    match access::order(sheet, &mut listing, &mut diagnosis) {
+        Answer::Accepted(_) => text::print_order(sheet, &listing),
+        Answer::Refused(n) => text::print_refusal(sheet, &diagnosis, n, 0, false),
+        Answer::Diagnosed(n, rows, more) => text::print_refusal(sheet, &diagnosis, n, rows, more),
+        Answer::TooShort(_) => text::print_refusal(sheet, &diagnosis, 10, 0, false),
+    }
+}
