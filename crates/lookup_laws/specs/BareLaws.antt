@@ -1,0 +1,89 @@
+-- What makes a resource is the same over a map without the parents and the annotations of its types.
+use mathlib.Core.Bool.{Bool, not, _&&_, _||_}
+use mathlib.Core.List.{List, [], _∷_, map}
+use mathlib.Core.Path.{_≡_, refl, ap, ap₂, _∙_}
+use Prim.Native.Nat.{ℕ}
+use Rattle.lists.specs.Lists.{any, all, null, keep, filter, each, firstOf}
+use Rattle.lists.specs.Appending.{filter-map, each-map, each-same}
+use Rattle.definitions.specs.Records.{Name, Item}
+use Rattle.definitions.specs.Orders.{lookUp, dotted, sameName}
+use Rattle.definitions.specs.Map.{Declaration, Map}
+use Rattle.definitions.specs.Making.{declared, isResourceVariant, isResource, extensionParents, marksOf, allVirtual, createSyntheticResource, extensionLine, sameItem}
+use Rattle.definitions.specs.Synthesis.{classRow, isDuplicate, withMaking}
+use Rattle.lookup_laws.specs.Bare.{bare, bareMap}
+
+-- ---- lists
+
+null-map : {A B : Type 0} (f : A → B) (l : List A) → null (map f l) ≡ null l
+null-map f [] = refl
+null-map f (x ∷ l) = refl
+
+all-map : {A B : Type 0} (g : B → Bool) (f : A → B) (l : List A) → all g (map f l) ≡ all (λ x. g (f x)) l
+all-map g f [] = refl
+all-map g f (x ∷ l) = ap (λ b. g (f x) && b) (all-map g f l)
+
+pub all-same : {A : Type 0} (f g : A → Bool) → ((x : A) → f x ≡ g x) → (l : List A) → all f l ≡ all g l
+all-same f g h [] = refl
+all-same f g h (x ∷ l) = ap₂ (λ a b. a && b) (h x) (all-same f g h l)
+
+pub filter-same : {A : Type 0} (f g : A → Bool) → ((x : A) → f x ≡ g x) → (l : List A) → filter f l ≡ filter g l
+filter-same f g h [] = refl
+filter-same f g h (x ∷ l) = ap₂ (λ b k. keep b x k) (h x) (filter-same f g h l)
+
+pub first-same : {A : Type 0} (f g : A → Bool) → ((x : A) → f x ≡ g x) → (l : List A) → firstOf f l ≡ firstOf g l
+first-same f g h [] = refl
+first-same f g h (x ∷ l) = ap₂ (λ b k. mathlib.Core.Bool.cond b (x ∷ []) k) (h x) (first-same f g h l)
+
+-- ---- looking up
+
+module _ (M : Map) where
+  pub bare-declared : (c : Name) → declared (bareMap M) c ≡ map bare (declared M c)
+  unfolding lookUp bareMap bare
+  bare-declared c = filter-map (λ (D : Declaration). sameName (D .name) c) bare (M .types)
+
+  pub bare-unknown : (c : Name) → null (declared (bareMap M) c) ≡ null (declared M c)
+  bare-unknown c = ap null (bare-declared c) ∙ null-map bare (declared M c)
+
+  pub bare-resource : (c : Name) → isResource (bareMap M) c ≡ isResource M c
+  unfolding bare
+  bare-resource c = ap (all (λ (D : Declaration). isResourceVariant (D .variant))) (bare-declared c) ∙ all-map (λ (D : Declaration). isResourceVariant (D .variant)) bare (declared M c)
+
+  pub bare-marks : (cs : List Name) → marksOf (bareMap M) cs ≡ marksOf M cs
+  unfolding marksOf bare
+  bare-marks cs =
+      each-same (λ c. each (λ (D : Declaration). D .marks) (declared (bareMap M) c)) (λ c. each (λ (D : Declaration). D .marks) (declared M c)) cs
+      (λ c i. ap (each (λ (D : Declaration). D .marks)) (bare-declared c) ∙ each-map (λ (D : Declaration). D .marks) bare (declared M c))
+
+  pub bare-virtual : (cs : List Name) → allVirtual (bareMap M) cs ≡ allVirtual M cs
+  unfolding allVirtual bare
+  bare-virtual cs =
+      all-same (λ c. all (λ (D : Declaration). D .virtual) (declared (bareMap M) c)) (λ c. all (λ (D : Declaration). D .virtual) (declared M c))
+      (λ c. ap (all (λ (D : Declaration). D .virtual)) (bare-declared c) ∙ all-map (λ (D : Declaration). D .virtual) bare (declared M c)) cs
+
+  pub bare-extension : (n : Name) (r : ℕ) → extensionParents (bareMap M) n r ≡ extensionParents M n r
+  unfolding extensionParents bareMap
+  bare-extension n r = refl
+
+-- ---- making
+
+module _ (T : Declaration) where
+  pub bare-line : (r : ℕ) → extensionLine (bare T) r ≡ extensionLine T r
+  unfolding extensionLine bare
+  bare-line r = refl
+
+  pub bare-row : (kind r : ℕ) (c : Name) → classRow kind (bare T) r c ≡ classRow kind T r c
+  unfolding bare
+  bare-row kind r c = refl
+
+  pub bare-making : (r : ℕ) (new : Item) (is : List Item) → withMaking (bare T) r new is ≡ withMaking T r new is
+  unfolding withMaking
+  bare-making r new is = rw (bare-line r)
+
+module _ (M : Map) (T : Declaration) where
+  pub bare-created : (r : ℕ) (cs fs : List Name) → createSyntheticResource (bareMap M) (bare T) r cs fs ≡ createSyntheticResource M T r cs fs
+  unfolding createSyntheticResource bare bareMap
+  bare-created r cs fs = rw (bare-virtual M cs, bare-extension M (T .name) r, bare-marks M cs)
+
+  pub bare-duplicate : (r : ℕ) (new : Item) (is : List Item) → isDuplicate (bareMap M) (bare T) r new is ≡ isDuplicate M T r new is
+  unfolding isDuplicate bare
+  bare-duplicate r new is = ap (λ b. not b || any (sameItem new) is) (bare-unknown M (dotted (T .name) r))

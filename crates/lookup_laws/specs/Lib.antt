@@ -1,0 +1,3 @@
+pub mod Bare
+pub mod BareLaws
+pub mod BareWords

@@ -1,0 +1,3 @@
+pub mod Trail
+pub mod Extends
+pub mod TwoSteps
