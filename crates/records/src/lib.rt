@@ -205,18 +205,6 @@ pub fn no_annotations() -> Annotations
     }
 }
 
-// The annotations with one more.
-fn with_annotation(t: Annotations, a: Annotation) -> Annotations
-    requires { ⌜ t .count < 12 ⌝ }
-    ensures { λ r. ⌜ (ofAnnotations r ≡ ofAnnotations t ++ (annotationOf a ∷ [])) × (r .count ≡ t .count + 1) ⌝ }
-{
-    let mut r = t;
-    let i = t.count;
-    r.items[i] = a;
-    r.count = i + 1;
-    r
-}
-
 fn annotations_refused(r: usize) -> AnnotationsRead
     ensures { λ x. ⌜ (x .ok ≡ false) × (x .refusal ≡ r) ⌝ }
 {
@@ -247,7 +235,9 @@ fn read_each_annotation(
         let r = read_annotation(s, next, limit, single);
         if r.ok {
             let a = r.annotation;
-            annotations = with_annotation(annotations, a);
+            let i = annotations.count;
+            annotations.items[i] = a;
+            annotations.count = i + 1;
             next = r.next;
         } else {
             return annotations_refused(r.refusal);

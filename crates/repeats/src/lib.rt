@@ -29,13 +29,14 @@ fn dom_at(a: Annotation, i: usize) -> u8
     if i < 15 { a.doms[i] } else { 0 }
 }
 
-// Whether w is among the words from place j on.
+// Whether w is among the words from place j on. The word is taken here, since a call would copy the annotation at each place.
 fn has_word_from(a: Annotation, w: u8, from: usize) -> bool
     ensures { λ r. ⌜ r ≡ any (eqb w) (drop from (wordsOf a)) ⌝ }
 {
     let mut j = from;
     while j < a.count {
-        if w == word_at(a, j) {
+        let v = if j < 15 { a.words[j] } else { 0 };
+        if w == v {
             return true;
         }
         j += 1;
@@ -200,13 +201,13 @@ fn annotation_at(t: Annotations, i: usize) -> Annotation
     no_annotation()
 }
 
-// Whether x is equal to one of the annotations from place j on.
+// Whether x is equal to one of the annotations from place j on, which are not copied at each place either.
 fn has_annotation_from(t: Annotations, x: Annotation, from: usize) -> bool
     ensures { λ r. ⌜ r ≡ any (sameAnnotation (annotationOf x)) (drop from (ofAnnotations t)) ⌝ }
 {
     let mut j = from;
     while j < t.count {
-        let y = annotation_at(t, j);
+        let y = if j < 12 { t.items[j] } else { no_annotation() };
         if is_same_annotation(x, y) {
             return true;
         }
@@ -256,25 +257,17 @@ fn is_repeating(x: TypeInfo) -> bool
     }
 }
 
-// The same of the type at i; not past the array.
-fn is_repeating_at(t: Types, i: usize) -> bool
-    ensures { λ r. ⌜ r ≡ typeRepeats (typeInfoOf (getD (t .items) i zeroType)) ⌝ }
-{
-    if i < 64 {
-        let x = t.items[i];
-        return is_repeating(x);
-    }
-    false
-}
-
 // Whether within a type a word stands twice in an associate, or an annotation twice.
 pub fn has_annotation_twice(t: Types) -> bool
     ensures { λ r. ⌜ r ≡ any typeRepeats (ofTypes t) ⌝ }
 {
     let mut i = 0;
     while i < t.count {
-        if is_repeating_at(t, i) {
-            return true;
+        if i < 64 {
+            let x = t.items[i];
+            if is_repeating(x) {
+                return true;
+            }
         }
         i += 1;
     }

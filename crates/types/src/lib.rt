@@ -208,18 +208,6 @@ pub fn no_types() -> Types
     }
 }
 
-// The types with one more.
-fn with_type(t: Types, x: TypeInfo) -> Types
-    requires { ⌜ t .count < 64 ⌝ }
-    ensures { λ r. ⌜ (ofTypes r ≡ ofTypes t ++ (typeInfoOf x ∷ [])) × (r .count ≡ t .count + 1) ⌝ }
-{
-    let mut r = t;
-    let i = t.count;
-    r.items[i] = x;
-    r.count = i + 1;
-    r
-}
-
 pub fn types_refused(r: usize) -> TypesRead
     ensures { λ x. ⌜ (x .ok ≡ false) × (x .refusal ≡ r) ⌝ }
 {
@@ -244,7 +232,9 @@ fn read_each_type(s: &[u8], c: Cursor, limit: usize, n: usize) -> TypesRead
         let r = read_type(s, next, limit);
         if r.ok {
             let x = r.info;
-            types = with_type(types, x);
+            let i = types.count;
+            types.items[i] = x;
+            types.count = i + 1;
             next = r.next;
         } else {
             return types_refused(r.refusal);
@@ -335,18 +325,6 @@ pub fn no_extensions() -> Extensions
     }
 }
 
-// The extensions with one more.
-fn with_extension(t: Extensions, x: Extension) -> Extensions
-    requires { ⌜ t .count < 32 ⌝ }
-    ensures { λ r. ⌜ (ofExtensions r ≡ ofExtensions t ++ (extensionOf x ∷ [])) × (r .count ≡ t .count + 1) ⌝ }
-{
-    let mut r = t;
-    let i = t.count;
-    r.items[i] = x;
-    r.count = i + 1;
-    r
-}
-
 pub fn extensions_refused(r: usize) -> ExtensionsRead
     ensures { λ x. ⌜ (x .ok ≡ false) × (x .refusal ≡ r) ⌝ }
 {
@@ -371,7 +349,9 @@ fn read_each_extension(s: &[u8], c: Cursor, limit: usize, n: usize) -> Extension
         let r = read_extension(s, next, limit);
         if r.ok {
             let x = r.extension;
-            extensions = with_extension(extensions, x);
+            let i = extensions.count;
+            extensions.items[i] = x;
+            extensions.count = i + 1;
             next = r.next;
         } else {
             return extensions_refused(r.refusal);

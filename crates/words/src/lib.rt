@@ -169,18 +169,6 @@ pub fn no_words() -> Words
     }
 }
 
-// The words with one more.
-fn with_word(t: Words, w: Word) -> Words
-    requires { ⌜ t .count < 200 ⌝ }
-    ensures { λ r. ⌜ (ofWords r ≡ ofWords t ++ (wordOf w ∷ [])) × (r .count ≡ t .count + 1) ⌝ }
-{
-    let mut r = t;
-    let i = t.count;
-    r.items[i] = w;
-    r.count = i + 1;
-    r
-}
-
 fn words_refused(r: usize) -> WordsRead
     ensures { λ x. ⌜ (x .ok ≡ false) × (x .refusal ≡ r) ⌝ }
 {
@@ -205,7 +193,9 @@ fn read_each_word(s: &[u8], c: Cursor, n: usize) -> WordsRead
         let r = read_word(s, next);
         if r.ok {
             let w = r.word;
-            words = with_word(words, w);
+            let i = words.count;
+            words.items[i] = w;
+            words.count = i + 1;
             next = r.next;
         } else {
             return words_refused(r.refusal);

@@ -4,10 +4,12 @@ use native.Mathlib.Omega.{arith}
 use denote.Ref.{now}
 use Rattle.definitions.specs.Bits.{bitsOf}
 use Prim.Native.Nat.{_+_}
-use lib.ListN.{drop}
+use lib.ListN.{length, drop, length-set}
 use Rattle.definitions.specs.Parse.{repeatOnto, repeat}
 use Rattle.definitions.specs.Reading.{typeInfo}
 use Rattle.types.specs.Types.{typeInfoOf, ofTypes}
+use Rattle.types.specs.TypeLaws.{types-more}
+use Rattle.fields.specs.Tabulate.{length-mapped}
 use Rattle.fields.specs.ParseLaws.{repeat-none, repeat-done, repeat-refused}
 use Rattle.types.proofs.read_each_type.Statement.{statement}
 use Rattle.types.proofs.read_each_type.Tie as tie
@@ -16,6 +18,7 @@ abbrev Inv-loop : tie.InvT-loop
 Inv-loop s limit n next₀ types₀ left₀ next types left =
     (types .count + left ≡ n)
     × (repeat (typeInfo limit) n (drop (next₀ .at) (bitsOf s)) ≡ repeatOnto (ofTypes types) (typeInfo limit) left (drop (next .at) (bitsOf s)))
+    × (length (types .items) ≡ 64)
 
 abbrev μ-loop : tie.MeasureT-loop
 μ-loop s limit n next₀ types₀ left₀ next types left = left
@@ -24,13 +27,19 @@ no-types-requires : tie.Need-no-types-requires Inv-loop μ-loop
 no-types-requires c κs = search needs
 
 loop-holds : tie.Need-loop-holds Inv-loop μ-loop
-loop-holds c = (omega (arith, c .no-types .ensures .1), rw (c .no-types .ensures .0) refl)
+loop-holds c = (omega (arith, c .no-types .ensures .1), rw (c .no-types .ensures .0) refl, search length-mapped)
 
 read-type-requires : tie.Need-read-type-requires Inv-loop μ-loop
 read-type-requires c κs = search needs
 
-with-type-requires : tie.Need-with-type-requires Inv-loop μ-loop
-with-type-requires c κs = search needs
+mul-x : tie.Need-mul-x Inv-loop μ-loop
+mul-x c = search needs
+
+element-set-from-x : tie.Need-element-set-from-x Inv-loop μ-loop
+element-set-from-x c = search needs
+
+add-types : tie.Need-add-types Inv-loop μ-loop
+add-types c = search needs
 
 types-refused-requires : tie.Need-types-refused-requires Inv-loop μ-loop
 types-refused-requires c κs = search needs
@@ -53,15 +62,16 @@ loop-less c = search needs
 
 loop-again : tie.Need-loop-again Inv-loop μ-loop
 loop-again c =
-    let l = c .before .before .before .before .before .before .loop in
-    let a = c .before .before .before .before .before .before .before .before .before .args in
-    let r = c .before .before .before .before .read-type in
+    let l = c .before .before .before .before .before .loop in
+    let a = c .before .before .before .before .before .before .before .before .args in
+    let r = c .before .before .before .read-type in
     let bs = bitsOf (now (a .s)) in (
-      omega (arith, c .before .with-type .ensures .1),
+      omega arith,
       l .inv .1
           ∙ repeat-done (ofTypes (l .types)) (typeInfo (a .limit)) (l .left) (drop (l .next .at) bs) (typeInfoOf (r .result .info)) (drop (r .result .next .at) bs) (omega arith)
-          (sym (r .ensures) ∙ rw (c .before .before .before .if1 .taken) refl)
-          ∙ rw (c .before .with-type .ensures .0) refl,
+          (sym (r .ensures) ∙ rw (c .before .before .if1 .taken) refl)
+          ∙ rw (← types-more (l .types) (r .result .info) (omega arith)) refl,
+      simp length-set (l .inv .2),
     )
 
 returns-2 : tie.Need-returns-2 Inv-loop μ-loop
@@ -79,7 +89,9 @@ read-each-type-spec =
     no-types-requires
     loop-holds
     read-type-requires
-    with-type-requires
+    mul-x
+    element-set-from-x
+    add-types
     types-refused-requires
     returns
     sub-left
