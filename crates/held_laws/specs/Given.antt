@@ -1,0 +1,63 @@
+-- What the types of a held map own and what their ancestors give keeps to the bounds that the rows ask.
+use mathlib.Core.List.{List, [], _∷_, _++_, List·Memᴰ·head, List·Memᴰ·append-cases}
+use mathlib.Core.Logic.{⊎-elim}
+use mathlib.Core.Path.{_≡_, refl}
+use Prim.Native.Nat.{ℕ, _<_}
+use native.Mathlib.Omega.{arith}
+use lib.ListN.{length}
+use Rattle.lists.specs.Lists.{In, each}
+use Rattle.definitions.specs.Records.{Dom, Resource, TypeInfo, Sheet}
+use Rattle.definitions.specs.Map.{typeMapOf, declarationOf, mapOf}
+use Rattle.definitions.specs.Items.{owned, given, ancestors}
+use Rattle.line_laws.specs.Within.{WordsWithin, ResourceWithin}
+use Rattle.line_laws.specs.Ancestors.{ancestor-type}
+use Rattle.line_laws.specs.Associating.{owned-of, above-is, given-is}
+use Rattle.line_laws.specs.Bounds.{gives-within, own-within}
+use Rattle.annotations.specs.Reading.{domAt}
+use Rattle.types.specs.declared.Types.{Types}
+use Rattle.types.specs.declared.Extensions.{Extensions}
+use Rattle.ordering.specs.Reading.{typeAt}
+use Rattle.ordering.specs.declared.Parents.{Parents}
+use Rattle.above.specs.Above.{placeOfDom, Bounded}
+use Rattle.held_map.specs.HeldMap.{HeldMap}
+use Rattle.held_laws.specs.HeldLaws.{type-in}
+use Rattle.held_laws.specs.Limits.{resource-more}
+
+dom-within : (d : Dom) → WordsWithin 200 0 1 d → (placeOfDom d < 201) × (domAt (placeOfDom d) ≡ d)
+dom-within [] w = (omega arith, refl)
+dom-within (d ∷ []) w = (omega (arith, w .below d (List·Memᴰ·head refl)), refl)
+dom-within (d ∷ e ∷ l) w = absurd (omega (arith, w .most))
+
+pub bounded-if : (us : List Resource) → ((u : Resource) → In u us → ResourceWithin 200 u) → Bounded us
+bounded-if us h = record { word = λ u i. h u i .word; dom = λ u i. dom-within (u .dom) (h u i .dom) }
+
+module _ (s : Sheet) (ts : Types) (es : Extensions) (p : Parents) (h : HeldMap s ts es p) where
+  more : {u : Resource} → ResourceWithin (length (s .words)) u → ResourceWithin 200 u
+  more w = resource-more (length (s .words)) 200 (h .within .words) w
+
+  own : (T : TypeInfo) → In T (s .types) → (u : Resource) → In u (owned (declarationOf T)) → ResourceWithin 200 u
+  own T t u i = let r = owned-of T i in more (own-within s (h .readable) (h .within) t (r .2))
+
+  above : (T : TypeInfo) → (u : Resource) → In u (each given (ancestors (mapOf (typeMapOf s)) (declarationOf T))) → ResourceWithin 200 u
+  above T u i = let r = above-is s (h .readable) T u .0 i in more (gives-within s (h .readable) (h .within) (ancestor-type (r .1)) (r .2))
+
+  -- what the ancestors of a type give
+  pub above-bounded : (i : ℕ) → i < ts .count → Bounded (each given (ancestors (mapOf (typeMapOf s)) (declarationOf (typeAt (typeMapOf s) i))))
+  above-bounded i l = bounded-if _ (above (typeAt (typeMapOf s) i))
+
+  -- what a type owns
+  pub owned-bounded : (i : ℕ) → i < ts .count → Bounded (owned (declarationOf (typeAt (typeMapOf s) i)))
+  owned-bounded i l = bounded-if _ (own (typeAt (typeMapOf s) i) (type-in s ts es p h i l))
+
+  -- what a type gives, nested or not
+  pub given-bounded : (i : ℕ) → i < ts .count → Bounded (given (declarationOf (typeAt (typeMapOf s) i)))
+  given-bounded i l =
+      let T = typeAt (typeMapOf s) i in
+      bounded-if _ (λ u j. more (gives-within s (h .readable) (h .within) (type-in s ts es p h i l) (given-is T u .0 j)))
+
+  -- both
+  pub made-bounded : (i : ℕ) → i < ts .count
+      → Bounded (owned (declarationOf (typeAt (typeMapOf s) i)) ++ each given (ancestors (mapOf (typeMapOf s)) (declarationOf (typeAt (typeMapOf s) i))))
+  made-bounded i l =
+      let T = typeAt (typeMapOf s) i in
+      bounded-if _ (λ u j. ⊎-elim (own T (type-in s ts es p h i l) u) (above T u) (List·Memᴰ·append-cases (owned (declarationOf T)) j))

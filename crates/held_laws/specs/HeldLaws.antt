@@ -1,0 +1,122 @@
+-- What follows from `HeldMap s ts es p`: how many types there are, which stand at which place, their names and their parents, and that there is an order.
+use mathlib.Core.Bool.{true, false, _&&_, not}
+use mathlib.Core.List.{List, map, Memᴰ·map}
+use mathlib.Core.Path.{_≡_, sym, ap, _∙_, subst}
+use Prim.Native.Nat.{ℕ, _≤_, _<_}
+use native.Mathlib.Omega.{arith}
+use borrow.Author.Tests.{eqb-true}
+use lib.Dec.{eqb}
+use lib.ListN.{length, getD}
+use Rattle.lists.specs.Lists.{In, ascends}
+use Rattle.lists.specs.Tests.{by, never, and-left, and-right}
+use Rattle.lists.specs.Sorting.{perm-length}
+use Rattle.lists.specs.Members as members
+use Rattle.definitions.specs.Records.{Name, TypeInfo, Sheet}
+use Rattle.definitions.specs.Orders.{nameBefore}
+use Rattle.definitions.specs.Checks.{namesTwice}
+use Rattle.definitions.specs.Map.{typeMapOf}
+use Rattle.definitions.specs.Synthesis.{listedParents}
+use Rattle.definitions.specs.OrderRows.{typeNamed}
+use Rattle.laws.specs.Orders.{names-once, types-perm, types-is, types-apart, types-ascend}
+use Rattle.fields.specs.Tabulate.{length-places}
+use Rattle.types.specs.Types.{typeInfoOf, zeroType, ofTypes}
+use Rattle.types.specs.declared.Types.{Types}
+use Rattle.types.specs.declared.Extensions.{Extensions}
+use Rattle.ordering.specs.Lists.{map-map}
+use Rattle.ordering.specs.Reading.{Parent, listed, noType, typeAt, placeIn, parentIn}
+use Rattle.ordering.specs.Rounds.{final, listsSelf}
+use Rattle.ordering.specs.Names.{order-found, named-yes}
+use Rattle.ordering.specs.Organized.{placesIn, Organized}
+use Rattle.ordering.specs.declared.Parents.{Parents}
+use Rattle.ordering.specs.declared.Order.{Order}
+use Rattle.ancestry.specs.Rows.{ParentsBelow, Ordered}
+use Rattle.ancestry.specs.Earlier.{all-below}
+use Rattle.held_map.specs.HeldMap.{HeldMap}
+use Rattle.held_laws.specs.Places.{getD-in, sorted-places, sorted-ascends, each-single, places-at}
+
+module _ (s : Sheet) (ts : Types) (es : Extensions) (p : Parents) (h : HeldMap s ts es p) where
+  -- ---- how many
+
+  pub count-types : ts .count ≡ length (typeMapOf s .types)
+  unfolding ofTypes
+  count-types = sym (length-places typeInfoOf zeroType (ts .items) (ts .count)) ∙ ap length (h .types)
+
+  pub count-sheet : length (typeMapOf s .types) ≡ length (s .types)
+  count-sheet = sym (perm-length (types-perm s))
+
+  pub count-most : ts .count ≤ 64
+  count-most = omega (arith, count-types, count-sheet, h .within .types)
+
+  pub count-parents : p .count ≡ ts .count
+  count-parents = h .reads .count ∙ sym count-types
+
+  -- ---- the type at a place
+
+  pub type-at : (i : ℕ) → i < ts .count → typeInfoOf (getD (ts .items) i zeroType) ≡ typeAt (typeMapOf s) i
+  unfolding ofTypes
+  type-at i l = sym (places-at typeInfoOf zeroType (ts .items) (ts .count) i noType l) ∙ ap (λ (k : List TypeInfo). getD k i noType) (h .types)
+
+  pub type-in-map : (i : ℕ) → i < ts .count → In (typeAt (typeMapOf s) i) (typeMapOf s .types)
+  type-in-map i l = getD-in (typeMapOf s .types) noType i (omega (arith, count-types))
+
+  pub type-in : (i : ℕ) → i < ts .count → In (typeAt (typeMapOf s) i) (s .types)
+  type-in i l = types-is s (typeAt (typeMapOf s) i) .0 (type-in-map i l)
+
+  -- ---- the order
+
+  found : (not (listsSelf p) && eqb (length (final p)) (p .count)) ≡ true
+  found = sym (order-found p (typeMapOf s) (h .reads)) ∙ h .order
+
+  pub no-self : listsSelf p ≡ false
+  no-self = by (listsSelf p) (λ e. never (and-left (not (listsSelf p)) (eqb (length (final p)) (p .count)) found) (rw e)) (λ e. e)
+
+  pub all-placed : length (final p) ≡ p .count
+  all-placed = eqb-true _ _ (and-right (not (listsSelf p)) (eqb (length (final p)) (p .count)) found)
+
+  pub parents-below : (t : ℕ) → t < p .count → ParentsBelow p t
+  parents-below t l = all-below p all-placed no-self t l
+
+  -- an order that was found has every type
+  pub ordered : (o : Order) → Organized p o → o .found ≡ true → Ordered p o
+  ordered o g f =
+      let n : length (placesIn o) ≡ length (final p) = ap length (g .places) in
+      record {
+        places = g .places;
+        count = omega (arith, g .most, n, all-placed, lib.ListN.length-take (o .count) (o .items));
+        whole = all-placed;
+        noSelf = no-self;
+      }
+
+  -- ---- the parents of a type
+
+  -- every listed parent is a type
+  pub parent-place : (t : ℕ) → t < p .count → (n : Name) → In n (typeAt (typeMapOf s) t .parents) → placeIn (typeMapOf s) n < p .count
+  unfolding parentIn
+  parent-place t l n i =
+      let m = typeMapOf s in
+      parents-below t l .lower (parentIn m n) (subst (In (parentIn m n)) (sym (h .reads .types t l .parents)) (Memᴰ·map (parentIn m) i))
+
+  pub parents-are : (t : ℕ) → t < p .count → listedParents (typeMapOf s) (typeAt (typeMapOf s) t) ≡ map (λ (q : Parent). typeAt (typeMapOf s) (q .place)) (listed p t)
+  unfolding listedParents parentIn
+  parents-are t l =
+      let m = typeMapOf s in
+      let ns : List Name = typeAt m t .parents in
+      each-single (typeNamed m) (λ n. typeAt m (placeIn m n)) ns (λ n i. named-yes p m (h .reads) n (parent-place t l n i))
+      ∙ sym (map-map (λ (q : Parent). typeAt m (q .place)) (parentIn m) ns)
+      ∙ ap (map (λ (q : Parent). typeAt m (q .place))) (sym (h .reads .types t l .parents))
+
+  -- ---- the names
+
+  pub names-once-held : namesTwice s ≡ false
+  names-once-held = names-once s (h .readable .once)
+
+  -- 'Types sort by name.'
+  pub names-ascend : ascends nameBefore (map (λ (T : TypeInfo). T .name) (typeMapOf s .types)) ≡ true
+  names-ascend =
+      let f : TypeInfo → Name = λ T. T .name in
+      sorted-ascends nameBefore (map f (typeMapOf s .types))
+      (members.sorted-map (λ a b. nameBefore a b ≡ true) f (typeMapOf s .types) (types-ascend s names-once-held))
+
+  pub names-apart-at : (i j : ℕ) → i < j → j < ts .count → typeAt (typeMapOf s) i .name ≡ typeAt (typeMapOf s) j .name → ⊥
+  names-apart-at i j l k =
+      sorted-places (λ (T U : TypeInfo). T .name ≡ U .name → ⊥) (typeMapOf s .types) noType (types-apart s names-once-held) i j l (omega (arith, count-types))
