@@ -89,9 +89,9 @@ pub fn interpret_word(
     ensures { λ r. ⌜ Stepped t place word doms parents limit s (now (buf .entry)) r (now (buf .exit)) ⌝ }
 {
     let n = s.rows;
-    let made = s.made;
     if interpretation::all_known(t, doms, word) {
         if s.failed {
+            let made = s.made;
             return Progress {
                 failed: true,
                 ended: true,
@@ -102,6 +102,7 @@ pub fn interpret_word(
         return interpret_known(t, place, word, doms, parents, s, buf, limit);
     }
     let rows = interpretation::unknown_rows(t, place, doms, word, buf, limit, n);
+    let made = s.made;
     Progress {
         failed: true,
         ended: true,

@@ -1,0 +1,128 @@
+-- What a type inherits, entry after entry. No two share a word, so that they make at most 200 resources.
+use mathlib.Core.List.{List, [], _∷_, _++_, map}
+use mathlib.Core.Path.{_≡_, refl, sym, ap, _∙_}
+use Prim.Native.Nat.{ℕ, zero, suc, _+_, _≤_, _<_}
+use native.Mathlib.Numerals.{add-one}
+use native.Mathlib.Nat.{not-suc-le-zero, le-of-suc-le-suc}
+use native.Mathlib.Omega.{arith}
+use lib.ListN.{length, take, getD}
+use lib.Seq
+use borrow.Author.Tests.{eqb-true, eqb-false}
+use lib.Dec.{eqb}
+use Rattle.lists.specs.Tests.{by}
+use Rattle.rows.specs.declared.Row.{Row}
+use Rattle.rows.specs.Rows.{has, hasBit}
+use Rattle.rows.specs.Lists.{below, map-append, map-between}
+use Rattle.definitions.specs.Records.{Name}
+use Rattle.definitions.specs.Checks.{resourcesOf}
+use Rattle.fields.specs.Tabulate.{tabulate, length-tabulate}
+use Rattle.dedup.specs.declared.Entry.{Entry}
+use Rattle.dedup.specs.declared.Inherited.{Inherited}
+use Rattle.dedup.specs.Lists.{many, many-or, many-most}
+use Rattle.dedup.specs.Entries.{entriesOf, covers, Apart, cons}
+use Rattle.dedup.specs.EntryLaws.{zeros}
+use Rattle.dedup.specs.Reading.{resourcesAt, namesAt, read, readAll, tableOf, inheritedOf, Good}
+use Rattle.table.specs.declared.Table.{Table}
+use Rattle.table.specs.Table.{nameAt}
+use Rattle.synthetic.specs.Made.{namesIn}
+use Rattle.interpreting.specs.Entry.{size}
+use Rattle.interpreting.specs.Annotations.{typeNames}
+
+-- ---- names
+
+tabulated : {A : Type 0} (f : ℕ → A) (n i : ℕ) (d : A) → i < n → getD (tabulate f n) i d ≡ f i
+unfolding tabulate
+tabulated f zero i d h = absurd (omega arith)
+tabulated f (suc n) i d h =
+    by (eqb i n)
+    (λ q.
+    let e : i ≡ n = eqb-true i n q in
+    rw e (ap (λ (k : ℕ). getD (tabulate f n ++ (f n ∷ [])) k d) (sym (length-tabulate f n)) ∙ last (tabulate f n) (f n) d))
+    (λ q. first (tabulate f n) (f n ∷ []) i d (omega (arith, length-tabulate f n, eqb-false i n q)) ∙ tabulated f n i d (omega (arith, eqb-false i n q)))
+  where
+    last : {A : Type 0} (l : List A) (x d : A) → getD (l ++ (x ∷ [])) (length l) d ≡ x
+    last [] x d = refl
+    last (y ∷ l) x d = last l x d
+
+    first : {A : Type 0} (l k : List A) (i : ℕ) (d : A) → i < length l → getD (l ++ k) i d ≡ getD l i d
+    first [] k i d h = absurd (not-suc-le-zero h)
+    first (y ∷ l) k zero d h = refl
+    first (y ∷ l) k (suc i) d h = first l k i d (le-of-suc-le-suc h)
+
+-- the types at the places of a row are those that the table gives
+pub names-in : (t : Table) (ps : ℕ) → namesAt (typeNames t) ps ≡ namesIn t ps
+unfolding namesAt namesIn typeNames
+names-in t ps =
+    ap (λ (n : ℕ). map (λ i. getD (tabulate (nameAt t) (t .count)) i []) (below (hasBit ps) n)) (length-tabulate (nameAt t) (t .count))
+    ∙ map-between (hasBit ps) (hasBit ps) (λ i. getD (tabulate (nameAt t) (t .count)) i []) (nameAt t) 0 (t .count) (λ k p q. refl)
+    (λ k p q e. tabulated (nameAt t) (t .count) k [] (omega arith))
+
+pub read-resources : (names : List Name) (D : ℕ → Row) (e : Entry) → resourcesOf (read names D e .annotation) ≡ resourcesAt D (e .words)
+unfolding read
+read-resources names D e = refl
+
+pub read-parents : (t : Table) (D : ℕ → Row) (e : Entry) → read (typeNames t) D e .parents ≡ namesIn t (e .parents)
+unfolding read
+read-parents t D e = names-in t (e .parents)
+
+-- ---- how many words the entries have
+
+unfoldable pub total : List Entry → ℕ
+total [] = 0
+total (e ∷ l) = size e + total l
+
+pub total-none : total [] ≡ 0
+unfolding total
+total-none = refl
+
+many-none : (n : ℕ) → many (covers []) n ≡ 0
+unfolding many
+many-none zero = refl
+many-none (suc n) = omega (arith, many-none n)
+
+total-apart : (l : List Entry) → Apart l → total l ≡ many (covers l) 200
+unfolding total
+total-apart [] f = sym (many-none 200)
+total-apart (e ∷ l) (cons s h f) = omega (arith, total-apart l f, many-or (has (e .words)) (covers l) 200 h)
+
+total-step : (l : List Entry) (i : ℕ) → i < length l → total (take (suc i) l) ≡ total (take i l) + size (getD l i zeros)
+unfolding total
+total-step [] i h = absurd (not-suc-le-zero h)
+total-step (e ∷ l) zero h = omega arith
+total-step (e ∷ l) (suc i) h = omega (arith, total-step l i (le-of-suc-le-suc h))
+
+total-upto : (l : List Entry) (i : ℕ) → total (take i l) ≤ total l
+unfolding total
+total-upto [] zero = omega arith
+total-upto [] (suc i) = omega arith
+total-upto (e ∷ l) zero = omega arith
+total-upto (e ∷ l) (suc i) = omega (arith, total-upto l i)
+
+pub total-most : (l : List Entry) → Apart l → total l ≤ 200
+total-most l f = omega (arith, total-apart l f, many-most (covers l) 200)
+
+-- one more of the first n entries of an array
+pub total-more : (l : List Entry) (i : ℕ) → i < length l → total (take i l) + size (getD l i zeros) ≡ total (take (i + 1) l)
+total-more l i h = sym (total-step l i h) ∙ ap (λ (k : ℕ). total (take k l)) (sym (add-one i))
+
+pub total-room : (l : List Entry) (n i : ℕ) → Apart (take n l) → i < n → n ≤ length l → total (take i l) + size (getD l i zeros) ≤ 200
+total-room l n i f h k =
+    omega (
+      arith,
+      total-more l i (omega arith),
+      ap total (Seq.take-take (i + 1) n l (omega arith)),
+      total-upto (take n l) (i + 1),
+      total-most (take n l) f,
+    )
+
+pub read-step : (names : List Name) (D : ℕ → Row) (l : List Entry) (i : ℕ) → i < length l →
+    readAll names D (take i l) ++ (read names D (getD l i zeros) ∷ []) ≡ readAll names D (take (i + 1) l)
+read-step names D l i h = sym (map-append (read names D) (take i l) (getD l i zeros ∷ [])) ∙ rw (add-one i, Seq.take-suc l i zeros h)
+
+pub apart-items : (h : Inherited) → Good h → Apart (take (h .list .count) (h .list .items))
+unfolding entriesOf
+apart-items h g = g .kept .apart
+
+pub inherited-all : (names : List Name) (h : Inherited) (i : ℕ) → i ≡ h .list .count → readAll names (tableOf (h .doms)) (take i (h .list .items)) ≡ inheritedOf names h
+unfolding inheritedOf entriesOf
+inherited-all names h i e = ap (λ (k : ℕ). readAll names (tableOf (h .doms)) (take k (h .list .items))) e

@@ -1,0 +1,248 @@
+// What all annotations of one type come to, after `interpret_inherited_annotations` of compile.rs.
+use annotations::AnnotationInfo;
+use associates::Progress;
+use dedup::Entry;
+use dedup::Inherited;
+use duplicates::Makings;
+use own_associates::OwnAssociates;
+use rows::Row;
+use table::Table;
+ghost use mathlib.Core.Bool.{_&&_, not};
+ghost use mathlib.Core.List.{[], _∷_};
+ghost use mathlib.Core.Path.{_≡_};
+ghost use Prim.Native.Nat.{_<_};
+ghost use Rattle.rows.specs.Rows.{has};
+ghost use Rattle.dedup.specs.Reading.{inheritedOf, noDoms};
+ghost use Rattle.interpreting.specs.Entry.{EntryReady, EntryDone};
+ghost use Rattle.interpreting.specs.Annotations.{typeNames, plainOf, ownEntriesIn, Added, WithEntry, Ground, Room, OwnFits, OwnsFit, InheritedFits, TypeReady, TypeDone};
+
+// How far a type is: whether it added no row, the count of rows, and its makings.
+pub struct Told {
+    pub clean: bool,
+    pub rows: usize,
+    pub made: Makings,
+}
+
+// What a type came to: the count of rows, and whether it added none.
+pub struct Interpreted {
+    pub rows: usize,
+    pub clean: bool,
+}
+
+// Whether the word is the annotation's, which has not ended.
+fn is_due(words: Row, word: usize, ended: bool) -> bool
+    requires { ⌜ word < 256 ⌝ }
+    ensures { λ r. ⌜ r ≡ (has words word && not ended) ⌝ }
+{
+    if rows::holds(words, word) {
+        return !ended;
+    }
+    false
+}
+
+// One annotation, its words ascending.
+pub fn interpret_entry(
+    t: Table,
+    place: usize,
+    e: Entry,
+    doms: [Row; 200],
+    s: Progress,
+    buf: &mut [u8],
+    limit: usize,
+) -> Progress
+    requires { ⌜ EntryReady t place e doms limit (s .made) (now buf) ⌝ }
+    ensures { λ r. ⌜ EntryDone t place e doms limit s (now (buf .entry)) r (now (buf .exit)) ⌝ }
+{
+    let words = e.words;
+    let parents = e.parents;
+    let made = s.made;
+    let mut p = Progress {
+        failed: false,
+        ended: false,
+        rows: s.rows,
+        made: made,
+    };
+    let mut w: usize = 0;
+    while w < 200 {
+        if is_due(words, w, p.ended) {
+            let d = doms[w];
+            p = associates::interpret_word(t, place, w as u8, d, parents, p, buf, limit);
+        }
+        w += 1;
+    }
+    p
+}
+
+// Whether a type that was clean is so behind an annotation.
+fn still_clean(clean: bool, failed: bool) -> bool
+    ensures { λ r. ⌜ r ≡ (clean && not failed) ⌝ }
+{
+    if clean {
+        return !failed;
+    }
+    false
+}
+
+// One annotation more.
+fn with_entry(
+    t: Table,
+    place: usize,
+    e: Entry,
+    doms: [Row; 200],
+    s: Told,
+    buf: &mut [u8],
+    limit: usize,
+) -> Told
+    requires { ⌜ EntryReady t place e doms limit (s .made) (now buf) ⌝ }
+    ensures { λ r. ⌜ WithEntry t place e doms limit s (now (buf .entry)) r (now (buf .exit)) ⌝ }
+{
+    let made = s.made;
+    let p = Progress {
+        failed: false,
+        ended: false,
+        rows: s.rows,
+        made: made,
+    };
+    let r = interpret_entry(t, place, e, doms, p, buf, limit);
+    let more = r.made;
+    let clean = still_clean(s.clean, r.failed);
+    Told {
+        clean: clean,
+        rows: r.rows,
+        made: more,
+    }
+}
+
+// Dom sets in which nothing stands.
+fn no_doms() -> [Row; 200]
+    ensures { λ r. ⌜ r ≡ noDoms ⌝ }
+{
+    let r = rows::empty_row();
+    [r; 200]
+}
+
+// One own associate more. An Associate is an annotation without parents; a NestAssociate (2) is not interpreted.
+fn interpret_own(
+    t: Table,
+    place: usize,
+    a: AnnotationInfo,
+    s: Told,
+    buf: &mut [u8],
+    limit: usize,
+) -> Told
+    requires { ⌜ Ground t place limit (now buf) ⌝ }
+    requires { ⌜ OwnFits t place a × Room t place (s .made) 15 ⌝ }
+    ensures { λ r. ⌜ Added t place limit (plainOf (a ∷ [])) 15 s (now (buf .entry)) r (now (buf .exit)) ⌝ }
+{
+    if a.kind != 1 {
+        return s;
+    }
+    let words = inheritance::words_of(a);
+    let none = no_doms();
+    let doms = inheritance::doms_with(none, a);
+    let e = Entry {
+        words: words,
+        parents: 0,
+    };
+    with_entry(t, place, e, doms, s, buf, limit)
+}
+
+// 'Own annotations go first', in their order.
+fn interpret_owns(
+    t: Table,
+    place: usize,
+    own: OwnAssociates,
+    s: Told,
+    buf: &mut [u8],
+    limit: usize,
+) -> Told
+    requires { ⌜ Ground t place limit (now buf) ⌝ }
+    requires { ⌜ OwnsFit t place own × Room t place (s .made) 180 ⌝ }
+    ensures { λ r. ⌜ Added t place limit (ownEntriesIn own) 180 s (now (buf .entry)) r (now (buf .exit)) ⌝ }
+{
+    let count = own.count;
+    let items = own.items;
+    let mut p = s;
+    let mut i: usize = 0;
+    while i < count {
+        let a = items[i];
+        p = interpret_own(t, place, a, p, buf, limit);
+        i += 1;
+    }
+    p
+}
+
+// 'then the inherited ones as the dedup leaves them'.
+fn interpret_inherited(
+    t: Table,
+    place: usize,
+    h: Inherited,
+    s: Told,
+    buf: &mut [u8],
+    limit: usize,
+) -> Told
+    requires { ⌜ Ground t place limit (now buf) ⌝ }
+    requires { ⌜ InheritedFits t place h × Room t place (s .made) 200 ⌝ }
+    ensures { λ r. ⌜ Added t place limit (inheritedOf (typeNames t) h) 200 s (now (buf .entry)) r (now (buf .exit)) ⌝ }
+{
+    let list = h.list;
+    let count = list.count;
+    let items = list.items;
+    let doms = h.doms;
+    let mut p = s;
+    let mut i: usize = 0;
+    while i < count {
+        let e = items[i];
+        p = with_entry(t, place, e, doms, p, buf, limit);
+        i += 1;
+    }
+    p
+}
+
+// No makings.
+fn no_makings() -> Makings
+    ensures { λ r. ⌜ r .count ≡ 0 ⌝ }
+{
+    let none = rows::empty_row();
+    Makings {
+        count: 0,
+        words: [0u8; 380],
+        doms: [none; 380],
+        parents: [0u64; 380],
+    }
+}
+
+// All annotations of the type at a place: its own associates, and what it inherits. The rows go behind the first n.
+pub fn interpret_type(
+    t: Table,
+    place: usize,
+    own: OwnAssociates,
+    h: Inherited,
+    buf: &mut [u8],
+    limit: usize,
+    n: usize,
+) -> Interpreted
+    requires { ⌜ TypeReady t place own h limit (now buf) ⌝ }
+    ensures { λ r. ⌜ TypeDone t place own h limit n (now (buf .entry)) r (now (buf .exit)) ⌝ }
+{
+    if own.count == 0 {
+        if h.list.count == 0 {
+            return Interpreted {
+                rows: n,
+                clean: true,
+            };
+        }
+    }
+    let made = no_makings();
+    let s = Told {
+        clean: true,
+        rows: n,
+        made: made,
+    };
+    let p = interpret_owns(t, place, own, s, buf, limit);
+    let r = interpret_inherited(t, place, h, p, buf, limit);
+    Interpreted {
+        rows: r.rows,
+        clean: r.clean,
+    }
+}

@@ -1,0 +1,10 @@
+pub mod TableOf
+pub mod Listable
+pub mod ListableLaws
+pub mod TableLaws
+pub mod Held
+pub mod Ranges
+pub mod Fitting
+pub mod Parents
+pub mod OverMap
+pub mod Examples
