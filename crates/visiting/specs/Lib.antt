@@ -1,0 +1,9 @@
+pub mod Walk
+pub mod Trails
+pub mod Ranks
+pub mod Good
+pub mod Follows
+pub mod Holding
+pub mod Going
+pub mod Along
+pub mod Instance
