@@ -1,0 +1,8 @@
+pub mod Going
+pub mod GoingLaws
+pub mod Fitting
+pub mod Playing
+pub mod PlayLaws
+pub mod AllLaws
+pub mod Synthesized
+pub mod SynthesisLaws

@@ -1,0 +1,76 @@
+-- What the synthesis leaves in the lent slice, and what it answers.
+use mathlib.Core.Bool.{Bool, true, false}
+use mathlib.Core.List.{List, [], _∷_, _++_}
+use mathlib.Core.Path.{_≡_, refl, sym, ap, _∙_}
+use Prim.Native.Nat.{ℕ, _+_, _*_, _≤_, _<_, min}
+use native.Mathlib.Omega.{arith}
+use borrow.Author.Tests.{lt-ltb, le-ltb}
+use lib.Dec.{ltb}
+use lib.ListN.{length, take}
+use Rattle.lists.specs.Lists.{each}
+use Rattle.definitions.specs.Records.{Name, Sheet, Row}
+use Rattle.definitions.specs.Map.{TypeMap, typeMapOf}
+use Rattle.definitions.specs.Packing.{nameBytes, rowBytes}
+use Rattle.definitions.specs.Synthesis.{synthesis}
+use Rattle.definitions.specs.Answer.{overwrite}
+use Rattle.types.specs.declared.Types.{Types}
+use Rattle.types.specs.declared.Extensions.{Extensions}
+use Rattle.ordering.specs.declared.Parents.{Parents}
+use Rattle.held_map.specs.HeldMap.{HeldMap}
+use Rattle.interpretation.specs.Emit as emitted
+use Rattle.emitting.specs.Emitting as emitting
+use Rattle.emitting.specs.Emitting.{State}
+
+-- the map of a sheet, with the number of the word `resource`
+pub record Synthesizes (s : Sheet) (ts : Types) (es : Extensions) (resource : ℕ) (p : Parents) : Type 0 where
+  pub held : HeldMap s ts es p
+  pub word : resource ≡ typeMapOf s .resource
+
+-- 'the first 256 rows of their diagnosis and no other byte', 'the count of rows written and a flag set exactly if more exist'
+pub record Written (rs : List Row) (old new : List ℕ) (count : ℕ) (more : Bool) : Type 0 where
+  pub bytes : new ≡ overwrite (each rowBytes (take 256 rs)) old
+  pub counted : count ≡ min 256 (length rs)
+  pub rest : more ≡ ltb 256 (length rs)
+
+pub record Synthesized (ts : Types) (es : Extensions) (resource : ℕ) (p : Parents) (old new : List ℕ) (count : ℕ) (more : Bool) : Type 0 where
+  pub written : (s : Sheet) → Synthesizes s ts es resource p → Written (synthesis (typeMapOf s) .rows) old new count more
+
+-- ---- the rows, all at once
+
+same-emit : (limit : ℕ) (st : State) (rs : List Row) → emitted.emit limit st rs ≡ emitting.emit rowBytes limit st rs
+unfolding emitted.emit emitting.emit
+same-emit limit st [] = refl
+same-emit limit st (r ∷ rs) = same-emit limit (emitted.emitBytes limit st (rowBytes r)) rs
+
+two : (n : Name) → length (nameBytes n) ≡ 2
+two [] = refl
+two (a ∷ []) = refl
+two (a ∷ b ∷ c) = refl
+
+six : (r : Row) → length (rowBytes r) ≡ 6
+unfolding rowBytes
+six r =
+    let e = lib.ListN.length-append (nameBytes (r .subject)) (nameBytes (r .other) ++ (Rattle.definitions.specs.Packing.wordByte (r .word) ∷ [])) in
+    let f = lib.ListN.length-append (nameBytes (r .other)) (Rattle.definitions.specs.Packing.wordByte (r .word) ∷ []) in
+    omega (arith, e, f, two (r .subject), two (r .other))
+
+module _ (rs : List Row) (old new : List ℕ) (n : ℕ) (h : 1536 ≤ length old) (e : _≡_ {A = State} (new, n) (emitted.emit 256 (old, 0) rs)) where
+  done : _≡_ {A = State} (new, n) (overwrite (each rowBytes (take 256 rs)) old, min 257 (length rs))
+  done = e ∙ same-emit 256 (old, 0) rs ∙ emitting.emit-all rowBytes six 256 old rs (omega (arith, h))
+
+  total : n ≡ min 257 (length rs)
+  total = ap (λ (w : State). w .1) done
+
+  pub few : n ≤ 256 → Written rs old new n false
+  few l = record {
+    bytes = ap (λ (w : State). w .0) done;
+    counted = omega (arith, total);
+    rest = sym (le-ltb 256 (length rs) (omega (arith, total)));
+  }
+
+  pub many : 256 < n → Written rs old new 256 true
+  many l = record {
+    bytes = ap (λ (w : State). w .0) done;
+    counted = omega (arith, total);
+    rest = sym (lt-ltb 256 (length rs) (omega (arith, total)));
+  }
