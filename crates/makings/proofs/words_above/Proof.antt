@@ -1,0 +1,18 @@
+use Rattle.makings.specs.MakingLaws.{above-are}
+use borrow.Author.Needs.{needs}
+use Rattle.makings.proofs.words_above.Statement.{statement}
+use Rattle.makings.proofs.words_above.Tie as tie
+use Rattle.makings.proofs.words_above.Reads as reads
+use Rattle.makings.proofs.words_above.Lts as lts
+use Rattle.above.proofs.united.Reads as united-reads
+
+united-requires : tie.Need-united-requires
+united-requires c κs = search needs
+
+returns : tie.Need-returns
+returns c =
+    let a = c .before .before .args in
+    above-are (a .table .now) (a .row) (a .count) (c .united .result) (c .united .ensures)
+
+pub words-above-spec : {M : Type 1} → statement M
+words-above-spec = tie.close (tie.spec united-requires returns)

@@ -1,0 +1,3 @@
+pub mod Makings
+pub mod Created
+pub mod MakingLaws

@@ -1,0 +1,3 @@
+pub mod OwnClasses
+pub mod OwnLaws
+pub mod Instance
