@@ -1,0 +1,78 @@
+-- The tables that the items of all types are made from, and what is written from them.
+use mathlib.Core.Bool.{Bool}
+use mathlib.Core.List.{List, _++_}
+use mathlib.Core.Path.{_≡_}
+use Prim.Native.Nat.{ℕ, _*_, _≤_, _<_}
+use lib.ListN.{length}
+use Rattle.lists.specs.Lists.{each}
+use Rattle.definitions.specs.Records.{Sheet, Item}
+use Rattle.definitions.specs.Map.{typeMapOf, mapOf}
+use Rattle.definitions.specs.Items.{itemsOf}
+use Rattle.definitions.specs.Packing.{countedBits, itemBits, orderBits}
+use Rattle.bits.specs.Writing.{Wrote}
+use Rattle.types.specs.declared.Types.{Types}
+use Rattle.types.specs.declared.Extensions.{Extensions}
+use Rattle.ordering.specs.declared.Parents.{Parents}
+use Rattle.ordering.specs.declared.Order.{Order}
+use Rattle.ancestry.specs.Rows.{Ancestors}
+use Rattle.above.specs.Above as over
+use Rattle.above.specs.Above.{Passes}
+use Rattle.held_map.specs.HeldMap.{HeldMap}
+use Rattle.table.specs.declared.Table.{Table}
+use Rattle.lookups.specs.TableOf.{TableOf}
+use Rattle.packing.specs.Room.{Room}
+use Rattle.packing.specs.Order.{orderNames, Listing}
+use Rattle.packing.specs.declared.Listed.{Listed}
+use Rattle.item_bits.specs.Counts.{Counts}
+use Rattle.item_bits.specs.declared.Counted.{Counted}
+
+-- the items of a sheet's map
+abbrev pub allItems : Sheet → List Item
+allItems s = itemsOf (mapOf (typeMapOf s))
+
+-- the names as the code has them, and the items
+abbrev pub allBits : Sheet → Parents → Order → List Bool
+allBits s p o = orderBits (orderNames (p .firsts) (p .seconds) (o .items) (o .count)) ++ countedBits 16 itemBits (allItems s)
+
+-- the tables are those of the sheet's map
+pub record Ground (s : Sheet) (ts : Types) (es : Extensions) (p : Parents) (t : Table) (table passed rows : List ℕ) : Type 0 where
+  pub held : HeldMap s ts es p
+  pub lookups : TableOf (typeMapOf s) t
+  pub gives : over.Table (typeMapOf s) (p .count) table
+  pub passes : Passes p (typeMapOf s) (held .reads) passed
+  pub above : Ancestors p rows
+
+-- they are those of a sheet, and fit
+pub record Grounded (ts : Types) (p : Parents) (t : Table) (table passed rows : List ℕ) : Type 0 where
+  pub tableLong : 804 * p .count ≤ length table
+  pub tableSmall : length table < 1000000
+  pub passedLong : 4 * p .count ≤ length passed
+  pub passedSmall : length passed < 1000000
+  pub sheet : Sheet
+  pub extensions : Extensions
+  pub ground : Ground sheet ts extensions p t table passed rows
+
+-- ---- what the functions answer, of every sheet whose tables these are
+
+pub record CountsAll (ts : Types) (p : Parents) (t : Table) (table passed rows : List ℕ) (r : Counted) : Type 0 where
+  pub counts : (s : Sheet) (es : Extensions) → Ground s ts es p t table passed rows → Counts 179200 (allItems s) r
+
+pub record RoomForTypes (ts : Types) (p : Parents) (t : Table) (table passed rows : List ℕ) (b : List ℕ) (q : ℕ) : Type 0 where
+  pub grounded : Grounded ts p t table passed rows
+  pub room : Room b q (length (each itemBits (allItems (grounded .sheet))))
+
+pub record WritesTypes (ts : Types) (p : Parents) (t : Table) (table passed rows : List ℕ) (a b : List ℕ) (q r : ℕ) : Type 0 where
+  pub wrote : (s : Sheet) (es : Extensions) → Ground s ts es p t table passed rows → Wrote a b q r (each itemBits (allItems s))
+
+-- n is how many items there are
+pub record RoomForAll (ts : Types) (p : Parents) (o : Order) (t : Table) (table passed rows : List ℕ) (n : ℕ) (b : List ℕ) : Type 0 where
+  pub grounded : Grounded ts p t table passed rows
+  pub order : o .count ≤ 64
+  pub items : n ≡ length (allItems (grounded .sheet))
+  pub room : Room b 0 (length (allBits (grounded .sheet) p o))
+
+pub record WritesAll (ts : Types) (p : Parents) (o : Order) (t : Table) (table passed rows : List ℕ) (n : ℕ) (a b : List ℕ) (r : ℕ) : Type 0 where
+  pub wrote : (s : Sheet) (es : Extensions) → Ground s ts es p t table passed rows → n ≡ length (allItems s) → Wrote a b 0 r (allBits s p o)
+
+pub record ListsAll (ts : Types) (p : Parents) (o : Order) (t : Table) (table passed rows : List ℕ) (entry exit : List ℕ) (r : Listed) : Type 0 where
+  pub lists : (s : Sheet) (es : Extensions) → Ground s ts es p t table passed rows → Listing entry exit (allBits s p o) r

@@ -1,0 +1,200 @@
+-- The items of a map, type by type.
+use mathlib.Core.Bool.{Bool}
+use mathlib.Core.List.{List, [], _∷_, _++_, map, map-append, append-nil}
+use mathlib.Core.Path.{_≡_, refl, sym, ap, ap₂, _∙_, subst}
+use Prim.Native.Nat.{ℕ, zero, suc, _+_, _*_, _≤_, _<_}
+use native.Mathlib.Omega.{arith}
+use lib.ListN.{length, getD, take}
+use lib.Seq
+use Rattle.lists.specs.Lists.{each}
+use Rattle.definitions.specs.Records.{Sheet, Item}
+use Rattle.definitions.specs.Records as records
+use Rattle.definitions.specs.Map.{Declaration, typeMapOf, declarationOf, mapOf}
+use Rattle.definitions.specs.Items.{ancestors, itemsFor, itemsOf}
+use Rattle.definitions.specs.Packing.{itemBits}
+use Rattle.bits.specs.Writing.{Wrote}
+use Rattle.bits.specs.WriteLaws.{wrote-none, wrote-then}
+use Rattle.fields.specs.Tabulate.{tabulate}
+use Rattle.line_laws.specs.Within.{TypeWithin}
+use Rattle.types.specs.Types.{typeInfoOf}
+use Rattle.types.specs.declared.Types.{Types}
+use Rattle.types.specs.declared.Extensions.{Extensions}
+use Rattle.ordering.specs.Reading.{noType, valid}
+use Rattle.ordering.specs.declared.Parents.{Parents}
+use Rattle.ancestry.specs.Rows.{RowOf}
+use Rattle.associations.specs.Associations.{itemAt}
+use Rattle.held_laws.specs.HeldLaws.{count-parents, type-at, parents-below}
+use Rattle.held_laws.specs.Limits.{type-within, type-fits}
+use Rattle.table.specs.declared.Table.{Table}
+use Rattle.synthetic.specs.MadeLaws.{each-append, each-each}
+use Rattle.makings.specs.Makings.{Held}
+use Rattle.packing.specs.PackingLaws.{each-none, each-more, room-next}
+use Rattle.packing.specs.Room.{Room}
+use Rattle.item_bits.specs.Counts.{Counts}
+use Rattle.item_bits.specs.declared.Counted.{Counted}
+use Rattle.type_items.specs.declared.Site.{Site}
+use Rattle.type_items.specs.Scenes.{typeItems, SiteOf, Ready, Scene, Staged, CountsType, RoomForType, WritesType}
+use Rattle.type_items.specs.ItemLaws.{counts-start, counts-more}
+use Rattle.listing.specs.Grounds.{allItems, Ground, Grounded, CountsAll, RoomForTypes, WritesTypes}
+
+-- ---- a list, place by place
+
+taken : {A : Type 0} (l : List A) (d : A) (n : ℕ) → n ≤ length l → take n l ≡ tabulate (λ i. getD l i d) n
+unfolding tabulate
+taken l d zero h = refl
+taken l d (suc n) h = rw (Seq.take-suc l n d (omega arith), taken l d n (omega arith))
+
+each-tabulate : {A B C : Type 0} (F : B → List C) (g : A → B) (f : ℕ → A) (n : ℕ) → each F (map g (tabulate f n)) ≡ each (λ i. F (g (f i))) (tabulate (λ (i : ℕ). i) n)
+unfolding tabulate
+each-tabulate F g f zero = refl
+each-tabulate F g f (suc n) =
+    ap (each F) (map-append g (tabulate f n) (f n ∷ []))
+    ∙ each-append F (map g (tabulate f n)) (g (f n) ∷ [])
+    ∙ ap (λ k. k ++ each F (g (f n) ∷ [])) (each-tabulate F g f n)
+    ∙ sym (each-append (λ i. F (g (f i))) (tabulate (λ (i : ℕ). i) n) (n ∷ []))
+
+pub types-all : (s : Sheet) (n : ℕ) → n ≡ length (typeMapOf s .types) → each (typeItems s) (tabulate (λ (a : ℕ). a) n) ≡ allItems s
+unfolding itemsOf mapOf
+types-all s n e =
+    let l = typeMapOf s .types in
+    let M = mapOf (typeMapOf s) in
+    let F : Declaration → List Item = λ T. itemsFor M T (ancestors M T) in
+    let z : l ≡ tabulate (λ i. getD l i noType) n = sym (Seq.take-all n l (omega arith)) ∙ taken l noType n (omega arith) in
+    sym (ap (λ (k : List records.TypeInfo). each F (map declarationOf k)) z ∙ each-tabulate F declarationOf (λ i. getD l i noType) n)
+
+-- ---- the type at a place
+
+module _ (ts : Types) (p : Parents) (t : Table) (table passed rows : List ℕ) where
+  -- every sheet whose tables these are
+  abbrev On : Sheet → Extensions → Type 0
+  On s es = Ground s ts es p t table passed rows
+
+  -- the site of the type at a
+  abbrev At : ℕ → Site → Type 0
+  At a x = SiteOf (itemAt ts a) table (getD rows a 0) (p .count) a x
+
+  abbrev siteAt : ℕ → Site → Site
+  siteAt a x = record { place = a; row = getD rows a 0; words = x .words; above = x .above }
+
+  site-is : (a : ℕ) (x : Site) → At a x → siteAt a x ≡ x
+  site-is a x e = ap₂ (λ (i r : ℕ). record { place = i; row = r; words = x .words; above = x .above }) (sym (e .at)) (sym (e .over))
+
+  scene-here : {s : Sheet} {es : Extensions} → On s es → (a : ℕ) → a < p .count → (x : Site) → At a x
+      → Scene s ts es (itemAt ts a) p t table passed (siteAt a x)
+  scene-here {s} {es} o a h x e =
+      let k : a < ts .count = omega (arith, count-parents s ts es p (o .held)) in
+      let y = type-at s ts es p (o .held) a k in
+      let d : Held s ts es p table (getD rows a 0) a = record { map = o .held; gives = o .gives; over = o .above .right a h } in
+      record {
+        tables = record { held = d; passes = o .passes };
+        lookups = o .lookups;
+        type = y;
+        words = e .words .words s ts es p a d refl h y;
+        inherited = e .inherited .words s ts es p a d refl;
+      }
+
+  pub scene-at : {s : Sheet} {es : Extensions} → On s es → (a : ℕ) → a < p .count → (x : Site) → At a x → Scene s ts es (itemAt ts a) p t table passed x
+  scene-at {s} {es} o a h x e = subst (Scene s ts es (itemAt ts a) p t table passed) (site-is a x e) (scene-here o a h x e)
+
+  ready-at : Grounded ts p t table passed rows → (a : ℕ) → a < p .count → (x : Site) → At a x → Ready (itemAt ts a) p table passed x
+  ready-at g a h x e =
+      let s = g .sheet in
+      let es = g .extensions in
+      let d = g .ground .held in
+      let k : a < ts .count = omega (arith, count-parents s ts es p d) in
+      let r : Ready (itemAt ts a) p table passed (siteAt a x) = record {
+        within = type-within s ts es p d a k;
+        fit = type-fits s ts es p d a k;
+        valid = valid p (typeMapOf s) (d .reads);
+        place = h;
+        parents = parents-below s ts es p d a h;
+        tableLong = g .tableLong;
+        tableSmall = g .tableSmall;
+        passedLong = g .passedLong;
+        passedSmall = g .passedSmall;
+      } in
+      subst (Ready (itemAt ts a) p table passed) (site-is a x e) r
+
+  pub staged-at : Grounded ts p t table passed rows → (a : ℕ) → a < p .count → (x : Site) → At a x → Staged (itemAt ts a) p t table passed x
+  staged-at g a h x e =
+      record { ready = ready-at g a h x e; sheet = g .sheet; types = ts; extensions = g .extensions; scene = scene-at (g .ground) a h x e }
+
+  pub few-types : Grounded ts p t table passed rows → p .count ≤ 64
+  few-types g = g .ground .held .reads .most
+
+  pub within-here : Grounded ts p t table passed rows → (a : ℕ) → a < p .count → TypeWithin 200 (typeInfoOf (itemAt ts a))
+  within-here g a h =
+      let s = g .sheet in
+      let es = g .extensions in
+      type-within s ts es p (g .ground .held) a (omega (arith, count-parents s ts es p (g .ground .held)))
+
+  -- ---- the loops
+
+  -- the types below a are counted
+  pub record Counting (a : ℕ) (r : Counted) : Type 0 where
+    pub counts : (s : Sheet) (es : Extensions) → On s es → Counts (2800 * a) (each (typeItems s) (tabulate (λ (i : ℕ). i) a)) r
+
+  pub counting-start : Counting 0 (record { items = 0; bits = 0 })
+  counting-start = record { counts = λ s es o. counts-start (typeItems s) (λ (i : ℕ). i) 2800 }
+
+  -- what a type's count says of the type at a
+  pub count-at : {s : Sheet} {es : Extensions} → On s es → (a : ℕ) → a < p .count → (x : Site) → At a x → (b : Counted) → CountsType (itemAt ts a) p t table passed x b
+      → Counts 2800 (typeItems s a) b
+  count-at {s} {es} o a h x e b c = subst (λ (i : ℕ). Counts 2800 (typeItems s i) b) (e .at) (c .counts s ts es (scene-at o a h x e))
+
+  pub counting-more : (a : ℕ) → a < p .count → (x : Site) → At a x → (b c : Counted) → Counting a b → CountsType (itemAt ts a) p t table passed x c
+      → Counting (a + 1) (record { items = b .items + c .items; bits = b .bits + c .bits })
+  counting-more a h x e b c d f =
+      record { counts = λ s es o. counts-more (typeItems s) (λ (i : ℕ). i) 2800 a b c (d .counts s es o) (count-at o a h x e c f) }
+
+  pub counting-end : (a : ℕ) (r : Counted) → a ≡ p .count → a ≤ 64 → Counting a r → CountsAll ts p t table passed rows r
+  counting-end a r e l c =
+      record {
+        counts = λ s es o.
+            let d = c .counts s es o in
+            let q = types-all s a (e ∙ o .held .reads .count) in
+            record {
+              items = d .items ∙ ap length q;
+              bits = d .bits ∙ ap (λ (k : List Item). length (each itemBits k)) q;
+              few = omega (arith, d .few);
+              small = omega (arith, d .small);
+            };
+      }
+
+  -- the types below a are written
+  abbrev pub typeBits : Sheet → ℕ → List Bool
+  typeBits s a = each itemBits (typeItems s a)
+
+  bits-all : {s : Sheet} {es : Extensions} → On s es → (a : ℕ) → a ≡ p .count → each (typeBits s) (tabulate (λ (i : ℕ). i) a) ≡ each itemBits (allItems s)
+  bits-all {s} o a e = each-each itemBits (typeItems s) (tabulate (λ (i : ℕ). i) a) ∙ ap (each itemBits) (types-all s a (e ∙ o .held .reads .count))
+
+  pub record Writing (a : ℕ) (b c : List ℕ) (q r : ℕ) : Type 0 where
+    pub wrote : (s : Sheet) (es : Extensions) → On s es → Wrote b c q r (each (typeBits s) (tabulate (λ (i : ℕ). i) a))
+
+  pub writing-start : (b : List ℕ) (q : ℕ) → Writing 0 b b q q
+  writing-start b q = record { wrote = λ s es o. rw (each-none (typeBits s) (λ (i : ℕ). i)) (wrote-none b q) }
+
+  pub writing-more : (a : ℕ) → a < p .count → (x : Site) → At a x → (b c d : List ℕ) (q r u : ℕ) → Writing a b c q r
+      → WritesType (itemAt ts a) p t table passed x c d r u → Writing (a + 1) b d q u
+  writing-more a h x e b c d q r u f g =
+      record {
+        wrote = λ s es o.
+            rw (each-more (typeBits s) (λ (i : ℕ). i) a)
+            (wrote-then (f .wrote s es o) (subst (λ (i : ℕ). Wrote c d r u (typeBits s i)) (e .at) (g .wrote s ts es (scene-at o a h x e))));
+      }
+
+  pub writing-end : (a : ℕ) (b c : List ℕ) (q r : ℕ) → a ≡ p .count → Writing a b c q r → WritesTypes ts p t table passed rows b c q r
+  writing-end a b c q r e d = record { wrote = λ s es o. rw (← bits-all o a e) (d .wrote s es o) }
+
+  -- the next type finds room
+  pub type-room : (b c : List ℕ) (q r : ℕ) → RoomForTypes ts p t table passed rows b q → (a : ℕ) → a < p .count → (x : Site) → At a x → Writing a b c q r
+      → RoomForType (itemAt ts a) p t table passed x c r
+  type-room b c q r m a h x e d =
+      let g = m .grounded in
+      let s = g .sheet in
+      record {
+        staged = record { ready = ready-at g a h x e; sheet = s; types = ts; extensions = g .extensions; scene = scene-at (g .ground) a h x e };
+        room =
+            subst (λ (i : ℕ). Room c r (length (typeBits s i))) (sym (e .at))
+            (room-next (typeBits s) (λ (i : ℕ). i) a (p .count) h (d .wrote s (g .extensions) (g .ground)) (rw (bits-all (g .ground) (p .count) refl) (m .room)));
+      }

@@ -1,0 +1,221 @@
+// The schedule of a map that has an order and no refused type: its size, and its bits.
+use bits::Cursor;
+use item_bits::Counted;
+use ordering::Order;
+use ordering::Parents;
+use packing::Listed;
+use table::Table;
+use types::Extensions;
+use types::Types;
+ghost use mathlib.Core.Bool.{true};
+ghost use mathlib.Core.Path.{_≡_};
+ghost use Prim.Native.Nat.{_≤_, _<_, _*_};
+ghost use lib.ListN.{length};
+ghost use Rattle.ordering.specs.Organized.{Organized};
+ghost use Rattle.listing.specs.Grounds.{Grounded, CountsAll, RoomForTypes, WritesTypes, RoomForAll, WritesAll, ListsAll};
+ghost use Rattle.listing.specs.Schedules.{Schedulable, ListsSchedule};
+
+// 'types in name order'
+fn types_bits(
+    types: Types,
+    p: Parents,
+    t: Table,
+    table: &[u64],
+    passed: &[u64],
+    rows: [u64; 64],
+) -> Counted
+    requires { ⌜ Grounded types p t (now table) (now passed) rows ⌝ }
+    ensures { λ r. ⌜ CountsAll types p t (now (table .entry)) (now (passed .entry)) rows r ⌝ }
+{
+    let count = p.count;
+    let mut items: usize = 0;
+    let mut bits: usize = 0;
+    let mut a: usize = 0;
+    while a < count {
+        let info = types.items[a];
+        let site = type_items::site_of(info, table, rows[a], count, a);
+        let n = type_items::type_bits(info, p, t, table, passed, site);
+        items += n.items;
+        bits += n.bits;
+        a += 1;
+    }
+    Counted { items, bits }
+}
+
+fn write_types(
+    buf: &mut [u8],
+    c: Cursor,
+    types: Types,
+    p: Parents,
+    t: Table,
+    table: &[u64],
+    passed: &[u64],
+    rows: [u64; 64],
+) -> Cursor
+    requires { ⌜ RoomForTypes types p t (now table) (now passed) rows (now buf) (c .at) ⌝ }
+    ensures { λ r. ⌜ WritesTypes types p t (now (table .entry)) (now (passed .entry)) rows (now (buf .entry)) (now (buf .exit)) (c .at) (r .at) ⌝ }
+{
+    let count = p.count;
+    let mut at = c;
+    let mut a: usize = 0;
+    while a < count {
+        let info = types.items[a];
+        let site = type_items::site_of(info, table, rows[a], count, a);
+        at = type_items::write_type(buf, at, info, p, t, table, passed, site);
+        a += 1;
+    }
+    at
+}
+
+// 'N in 7, names in order; item count 16; items'.
+fn write_all(
+    buf: &mut [u8],
+    types: Types,
+    p: Parents,
+    o: Order,
+    t: Table,
+    table: &[u64],
+    passed: &[u64],
+    rows: [u64; 64],
+    items: usize,
+) -> Cursor
+    requires { ⌜ RoomForAll types p o t (now table) (now passed) rows items (now buf) ⌝ }
+    ensures { λ r. ⌜ WritesAll types p o t (now (table .entry)) (now (passed .entry)) rows items (now (buf .entry)) (now (buf .exit)) (r .at) ⌝ }
+{
+    let firsts = p.firsts;
+    let seconds = p.seconds;
+    let places = o.items;
+    let c = packing::write_order_bits(buf, Cursor { at: 0 }, firsts, seconds, places, o.count);
+    let d = c.write(buf, 16, items);
+    write_types(buf, d, types, p, t, table, passed, rows)
+}
+
+// '10 answers the needed size, acceptance the size written'. Nothing is touched where the listing is too short.
+fn list_all(
+    listing: &mut [u8],
+    types: Types,
+    p: Parents,
+    o: Order,
+    t: Table,
+    table: &[u64],
+    passed: &[u64],
+    rows: [u64; 64],
+) -> Listed
+    requires { ⌜ Grounded types p t (now table) (now passed) rows ⌝ }
+    requires { ⌜ o .count ≤ 64 ⌝ }
+    ensures { λ r. ⌜ ListsAll types p o t (now (table .entry)) (now (passed .entry)) rows (now (listing .entry)) (now (listing .exit)) r ⌝ }
+{
+    let n = types_bits(types, p, t, table, passed, rows);
+    let firsts = p.firsts;
+    let seconds = p.seconds;
+    let places = o.items;
+    let head = packing::order_bits(firsts, seconds, places, o.count);
+    let size = (head + 16 + n.bits + 7) / 8;
+    if listing.len() < size {
+        return Listed { short: true, size };
+    }
+    write_all(listing, types, p, o, t, table, passed, rows, n.items);
+    Listed { short: false, size }
+}
+
+// The schedule, with what each type associates in the table, 804 numbers a type, and what it is passed in the other.
+fn list_with(
+    listing: &mut [u8],
+    table: &mut [u64],
+    types: Types,
+    extensions: Extensions,
+    resource: u8,
+    p: Parents,
+    o: Order,
+) -> Listed
+    requires { ⌜ Schedulable types extensions resource p ⌝ }
+    requires { ⌜ Organized p o ⌝ }
+    requires { ⌜ (o .found ≡ true) × (804 * p .count ≤ length (now table)) × (length (now table) < 1000000) ⌝ }
+    ensures { λ r. ⌜ ListsSchedule types extensions resource p (now (listing .entry)) (now (listing .exit)) r ⌝ }
+{
+    let mut passed = [0u64; 256];
+    let t = lookups::table_of(types, extensions, resource);
+    let above = ancestry::find_ancestors(p, o);
+    let rows = above.rows;
+    associations::fill_table(table, types);
+    associations::fill_passed(&mut passed, table, rows, p.count);
+    list_all(listing, types, p, o, t, table, &passed, rows)
+}
+
+// The table is all set to 0 first: a small one for few types. Here for 8.
+fn list_few(
+    listing: &mut [u8],
+    types: Types,
+    extensions: Extensions,
+    resource: u8,
+    p: Parents,
+    o: Order,
+) -> Listed
+    requires { ⌜ Schedulable types extensions resource p ⌝ }
+    requires { ⌜ Organized p o ⌝ }
+    requires { ⌜ (o .found ≡ true) × (p .count ≤ 8) ⌝ }
+    ensures { λ r. ⌜ ListsSchedule types extensions resource p (now (listing .entry)) (now (listing .exit)) r ⌝ }
+{
+    let mut table = [0u64; 6432];
+    list_with(listing, &mut table, types, extensions, resource, p, o)
+}
+
+// For 24 types.
+fn list_some(
+    listing: &mut [u8],
+    types: Types,
+    extensions: Extensions,
+    resource: u8,
+    p: Parents,
+    o: Order,
+) -> Listed
+    requires { ⌜ Schedulable types extensions resource p ⌝ }
+    requires { ⌜ Organized p o ⌝ }
+    requires { ⌜ (o .found ≡ true) × (p .count ≤ 24) ⌝ }
+    ensures { λ r. ⌜ ListsSchedule types extensions resource p (now (listing .entry)) (now (listing .exit)) r ⌝ }
+{
+    let mut table = [0u64; 19296];
+    list_with(listing, &mut table, types, extensions, resource, p, o)
+}
+
+// For all 64.
+fn list_most(
+    listing: &mut [u8],
+    types: Types,
+    extensions: Extensions,
+    resource: u8,
+    p: Parents,
+    o: Order,
+) -> Listed
+    requires { ⌜ Schedulable types extensions resource p ⌝ }
+    requires { ⌜ Organized p o ⌝ }
+    requires { ⌜ (o .found ≡ true) × (p .count ≤ 64) ⌝ }
+    ensures { λ r. ⌜ ListsSchedule types extensions resource p (now (listing .entry)) (now (listing .exit)) r ⌝ }
+{
+    let mut table = [0u64; 51456];
+    list_with(listing, &mut table, types, extensions, resource, p, o)
+}
+
+// The schedule of the types, which are in name order, and the extensions. `resource` is the number of that word, `p` has the parents of the types, and `o` is their
+// order.
+pub fn write_schedule(
+    listing: &mut [u8],
+    types: Types,
+    extensions: Extensions,
+    resource: u8,
+    p: Parents,
+    o: Order,
+) -> Listed
+    requires { ⌜ Schedulable types extensions resource p ⌝ }
+    requires { ⌜ Organized p o ⌝ }
+    requires { ⌜ o .found ≡ true ⌝ }
+    ensures { λ r. ⌜ ListsSchedule types extensions resource p (now (listing .entry)) (now (listing .exit)) r ⌝ }
+{
+    if p.count <= 8 {
+        return list_few(listing, types, extensions, resource, p, o);
+    }
+    if p.count <= 24 {
+        return list_some(listing, types, extensions, resource, p, o);
+    }
+    list_most(listing, types, extensions, resource, p, o)
+}
