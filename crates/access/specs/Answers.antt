@@ -3,7 +3,7 @@ use mathlib.Core.Bool.{Bool, false}
 use mathlib.Core.List.{List}
 use Prim.Native.Nat.{ℕ}
 use Rattle.definitions.specs.Answer as rules
-use Rattle.definitions.specs.Answer.{standard, Input, Outcome}
+use Rattle.definitions.specs.Answer.{standard, Call, Input, Outcome}
 use Rattle.access.specs.declared.Answer.{Answer}
 
 abbrev pub answerOf : Answer → rules.Answer
@@ -16,6 +16,14 @@ answerOf (Answer.TooShort size) = record { number = 10; size = size; rows = 0; m
 abbrev pub outcomeOf : Answer → List ℕ → List ℕ → Outcome
 outcomeOf a listing diagnosis = record { answer = answerOf a; listing = listing; diagnosis = diagnosis }
 
--- the input of the order-only call: the sheet, and both slices at entry
+-- the input of a call: the sheet, and both slices at entry
+abbrev pub inputOf : Call → List ℕ → List ℕ → List ℕ → Input
+inputOf call sheet listing diagnosis = record { settings = standard; call = call; sheet = sheet; listing = listing; diagnosis = diagnosis }
+
+-- of the order-only call
 abbrev pub orderInput : List ℕ → List ℕ → List ℕ → Input
-orderInput sheet listing diagnosis = record { settings = standard; call = rules.order; sheet = sheet; listing = listing; diagnosis = diagnosis }
+orderInput = inputOf rules.order
+
+-- and of the schedule call
+abbrev pub scheduleInput : List ℕ → List ℕ → List ℕ → Input
+scheduleInput = inputOf rules.schedule

@@ -1,28 +1,29 @@
--- What the order-only call does with a map that tests 1 to 7 let pass: 8, 10 or acceptance.
-use mathlib.Core.Bool.{Bool, true, false, cond}
+-- What a call does with a map that tests 1 to 7 let pass: 8, 9, 10 or acceptance.
+use mathlib.Core.Bool.{Bool, cond}
 use mathlib.Core.List.{List}
 use mathlib.Core.Path.{_≡_}
 use Prim.Native.Nat.{ℕ, _<_, min}
 use lib.Dec.{ltb}
 use lib.ListN.{length, take}
-use Rattle.lists.specs.Lists.{each}
+use Rattle.lists.specs.Lists.{null, each}
 use Rattle.definitions.specs.Bits.{size, pack}
 use Rattle.definitions.specs.Records.{Row}
 use Rattle.definitions.specs.Map.{TypeMap}
-use Rattle.definitions.specs.Order.{hasOrder, organizeTypeMap}
+use Rattle.definitions.specs.Order.{hasOrder}
 use Rattle.definitions.specs.OrderRows.{orderRows}
-use Rattle.definitions.specs.Packing.{orderBits, rowBytes}
-use Rattle.definitions.specs.Answer.{Outcome, overwrite}
+use Rattle.definitions.specs.Packing.{rowBytes}
+use Rattle.definitions.specs.Answer.{Call, order, Outcome, scheduleOf, bitsWritten, synthesisRows, overwrite}
 use Rattle.ordering.specs.declared.Parents.{Parents}
 use Rattle.ordering.specs.Reading.{Reads, typeAt}
+use Rattle.packing.specs.declared.Listed.{Listed}
 use Rattle.packing.specs.Order.{nameAt}
 use Rattle.access.specs.declared.Answer.{Answer}
 use Rattle.access.specs.Answers.{outcomeOf}
 
 -- '8 and 9 write the first 256 rows of their diagnosis and no other byte'
-abbrev pub diagnosed : List Row → List ℕ → List ℕ → Outcome
-diagnosed rows listing diagnosis =
-    outcomeOf (Answer.Diagnosed 8 (min 256 (length rows)) (ltb 256 (length rows))) listing (overwrite (each rowBytes (take 256 rows)) diagnosis)
+abbrev pub diagnosed : ℕ → List Row → List ℕ → List ℕ → Outcome
+diagnosed n rows listing diagnosis =
+    outcomeOf (Answer.Diagnosed n (min 256 (length rows)) (ltb 256 (length rows))) listing (overwrite (each rowBytes (take 256 rows)) diagnosis)
 
 -- '10 answers the needed size, acceptance the size written, leaving the diagnosis slice'
 abbrev pub listed : List Bool → List ℕ → List ℕ → Outcome
@@ -32,9 +33,27 @@ listed bits listing diagnosis =
     (outcomeOf (Answer.TooShort (size (length bits))) listing diagnosis)
     (outcomeOf (Answer.Accepted (size (length bits))) (overwrite (pack bits) listing) diagnosis)
 
-unfoldable pub ended : TypeMap → List ℕ → List ℕ → Outcome
-ended m listing diagnosis = cond (hasOrder m) (listed (orderBits (organizeTypeMap m)) listing diagnosis) (diagnosed (orderRows m) listing diagnosis)
+-- the bits that a call writes for a map
+abbrev pub bitsFor : Call → TypeMap → List Bool
+bitsFor call m = bitsWritten call (scheduleOf call m)
 
--- what is due for every map that p reads with the names of its types
+unfoldable pub ended : Call → TypeMap → List ℕ → List ℕ → Outcome
+ended call m listing diagnosis =
+    cond
+    (hasOrder m)
+    (cond (null (synthesisRows call m)) (listed (bitsFor call m) listing diagnosis) (diagnosed 9 (synthesisRows call m) listing diagnosis))
+    (diagnosed 8 (orderRows m) listing diagnosis)
+
+-- ---- what the parts of the code leave
+
+-- 8, for every map that p reads
+pub record Unordered (p : Parents) (entry exit : List ℕ) (r : Answer) : Type 0 where
+  pub due : (m : TypeMap) → Reads p m → (listing : List ℕ) → outcomeOf r listing exit ≡ diagnosed 8 (orderRows m) listing entry
+
+-- what is answered of a listing: 10 or acceptance
+abbrev pub answerFor : Listed → Answer
+answerFor w = cond (w .short) (Answer.TooShort (w .size)) (Answer.Accepted (w .size))
+
+-- what the order-only call owes to every map that p reads with the names of its types
 pub record Ended (p : Parents) (listing diagnosis : List ℕ) (o : Outcome) : Type 0 where
-  pub due : (m : TypeMap) → Reads p m → ((t : ℕ) → t < p .count → nameAt (p .firsts) (p .seconds) t ≡ typeAt m t .name) → o ≡ ended m listing diagnosis
+  pub due : (m : TypeMap) → Reads p m → ((t : ℕ) → t < p .count → nameAt (p .firsts) (p .seconds) t ≡ typeAt m t .name) → o ≡ ended order m listing diagnosis

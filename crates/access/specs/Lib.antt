@@ -1,7 +1,11 @@
 pub mod Answers
 pub mod Ending
+pub mod Lines
+pub mod Starting
 pub mod Testing
 pub mod AnswerLaws
 pub mod ReadLaws
 pub mod EndLaws
+pub mod ScheduleLaws
 pub mod TestLaws
+pub mod LineLaws

@@ -1,14 +1,18 @@
 // The public calls.
+use decoding::Decoded;
 use ordering::Parents;
+use packing::Listed;
+use types::Extensions;
 use types::Types;
-ghost use mathlib.Core.Bool.{false};
 ghost use mathlib.Core.Path.{_≡_};
 ghost use Prim.Native.Nat.{_≤_};
 ghost use lib.ListN.{length};
 ghost use Rattle.definitions.specs.Answer.{outcome};
 ghost use Rattle.ordering.specs.Reading.{Valid};
-ghost use Rattle.access.specs.Answers.{outcomeOf, orderInput};
-ghost use Rattle.access.specs.Ending.{Ended};
+ghost use Rattle.access.specs.Answers.{outcomeOf, orderInput, scheduleInput};
+ghost use Rattle.access.specs.Ending.{Unordered, answerFor, Ended};
+ghost use Rattle.access.specs.Lines.{LinesListed};
+ghost use Rattle.access.specs.Starting.{Started, Scheduled};
 ghost use Rattle.access.specs.Testing.{Tests};
 
 // What a call answers: the size written; the number of a refusal; its number, how many rows were
@@ -20,57 +24,37 @@ pub enum Answer {
     TooShort(usize),
 }
 
-// ok: the number of the word `self`, and the types in name order. Else a refusal.
-struct Tested {
-    ok: bool,
-    refusal: usize,
-    self_word: u8,
-    types: Types,
+// Tests 1 to 7, for a diagnosis slice of `room` bytes. 'Tests go 1, 2, then 3 and 4 by the first field read, then 7, 5, 6'.
+fn test(sheet: &[u8], room: usize) -> Decoded
+    ensures { λ r. ⌜ Tests (now (sheet .entry)) room r ⌝ }
+{
+    if 40960 < sheet.len() {
+        return decoding::turned_back(1);
+    }
+    if room < 1536 {
+        return decoding::turned_back(2);
+    }
+    decoding::decode(sheet)
 }
 
-fn turned_back(number: usize) -> Tested
-    ensures { λ r. ⌜ (r .ok ≡ false) × (r .refusal ≡ number) ⌝ }
+// 8: 'no order'.
+fn no_order(p: Parents, diagnosis: &mut [u8]) -> Answer
+    requires { ⌜ Valid p ⌝ }
+    requires { ⌜ 1536 ≤ length (now diagnosis) ⌝ }
+    ensures { λ r. ⌜ Unordered p (now (diagnosis .entry)) (now (diagnosis .exit)) r ⌝ }
 {
-    let types = types::no_types();
-    Tested {
-        ok: false,
-        refusal: number,
-        self_word: 0,
-        types,
-    }
+    let report = diagnosis::diagnose(p, diagnosis, 256);
+    Answer::Diagnosed(8, report.rows, report.more)
 }
 
-// Tests 3 to 7. 'Tests go 1, 2, then 3 and 4 by the first field read, then 7, 5, 6'.
-fn test_sheet(sheet: &[u8]) -> Tested
-    requires { ⌜ length (now sheet) ≤ 40960 ⌝ }
-    ensures { λ r. ⌜ Tests (now (sheet .entry)) r ⌝ }
+// 10, or acceptance.
+fn answer_for(listed: Listed) -> Answer
+    ensures { λ r. ⌜ r ≡ answerFor listed ⌝ }
 {
-    let read = sheet::read_sheet(sheet);
-    if !read.ok {
-        return turned_back(read.refusal);
+    if listed.short {
+        return Answer::TooShort(listed.size);
     }
-    let next = read.next;
-    if sheet::is_bad_fill(sheet, next) {
-        return turned_back(7);
-    }
-    let held = read.sheet;
-    let words = held.words;
-    if spelling::is_bad_words(words) {
-        return turned_back(5);
-    }
-    if repeats::is_something_twice(held) {
-        return turned_back(6);
-    }
-    let own = spelling::self_word();
-    let place = spelling::place_of(words, own);
-    let types = held.types;
-    let sorted = sorting::sort_by_name(types);
-    Tested {
-        ok: true,
-        refusal: 0,
-        self_word: place as u8,
-        types: sorted,
-    }
+    Answer::Accepted(listed.size)
 }
 
 // Writes the order, if there is one: 8, 10 or acceptance.
@@ -81,34 +65,71 @@ fn end_order(p: Parents, listing: &mut [u8], diagnosis: &mut [u8]) -> Answer
 {
     let order = ordering::organize_type_map(p);
     if !order.found {
-        let report = diagnosis::diagnose(p, diagnosis, 256);
-        return Answer::Diagnosed(8, report.rows, report.more);
+        return no_order(p, diagnosis);
     }
     let firsts = p.firsts;
     let seconds = p.seconds;
     let items = order.items;
     let listed = packing::write_order(listing, firsts, seconds, items, order.count);
-    if listed.short {
-        return Answer::TooShort(listed.size);
-    }
-    Answer::Accepted(listed.size)
+    answer_for(listed)
 }
 
 // The order-only call.
 pub fn order(sheet: &[u8], listing: &mut [u8], diagnosis: &mut [u8]) -> Answer
     ensures { λ r. ⌜ outcomeOf r (now (listing .exit)) (now (diagnosis .exit)) ≡ outcome (orderInput (now (sheet .entry)) (now (listing .entry)) (now (diagnosis .entry))) ⌝ }
 {
-    if 40960 < sheet.len() {
-        return Answer::Refused(1);
-    }
-    if diagnosis.len() < 1536 {
-        return Answer::Refused(2);
-    }
-    let tested = test_sheet(sheet);
+    let tested = test(sheet, diagnosis.len());
     if !tested.ok {
         return Answer::Refused(tested.refusal);
     }
     let types = tested.types;
     let parents = parents::parents_of(types, tested.self_word);
     end_order(parents, listing, diagnosis)
+}
+
+// Writes the schedule, if there is one: 8, 9, 10 or acceptance.
+fn end_schedule(
+    types: Types,
+    extensions: Extensions,
+    resource: u8,
+    p: Parents,
+    listing: &mut [u8],
+    diagnosis: &mut [u8],
+) -> Answer
+    requires { ⌜ Started types extensions resource p ⌝ }
+    requires { ⌜ 1536 ≤ length (now diagnosis) ⌝ }
+    ensures { λ r. ⌜ Scheduled types extensions resource p (now (listing .entry)) (now (diagnosis .entry)) (outcomeOf r (now (listing .exit)) (now (diagnosis .exit))) ⌝ }
+{
+    let order = ordering::organize_type_map(p);
+    if !order.found {
+        return no_order(p, diagnosis);
+    }
+    let report = synthesis::synthesize(types, extensions, resource, p, diagnosis);
+    if 0 < report.rows {
+        return Answer::Diagnosed(9, report.rows, report.more);
+    }
+    let listed = listing::write_schedule(listing, types, extensions, resource, p, order);
+    answer_for(listed)
+}
+
+// The schedule call.
+pub fn schedule(sheet: &[u8], listing: &mut [u8], diagnosis: &mut [u8]) -> Answer
+    ensures { λ r. ⌜ outcomeOf r (now (listing .exit)) (now (diagnosis .exit)) ≡ outcome (scheduleInput (now (sheet .entry)) (now (listing .entry)) (now (diagnosis .entry))) ⌝ }
+    ensures { λ r. ⌜ LinesListed (now (sheet .entry)) (now (listing .entry)) (now (listing .exit)) r ⌝ }
+{
+    let tested = test(sheet, diagnosis.len());
+    if !tested.ok {
+        return Answer::Refused(tested.refusal);
+    }
+    let types = tested.types;
+    let extensions = tested.extensions;
+    let parents = parents::parents_of(types, tested.self_word);
+    end_schedule(
+        types,
+        extensions,
+        tested.resource,
+        parents,
+        listing,
+        diagnosis,
+    )
 }

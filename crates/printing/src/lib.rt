@@ -12,3 +12,15 @@ pub fn print_order(sheet: &[u8]) {
         Answer::TooShort(_) => text::print_refusal(sheet, &diagnosis, 10, 0, false),
     }
 }
+
+// The schedule call.
+pub fn print_schedule(sheet: &[u8]) {
+    let mut listing = io::large_buffer();
+    let mut diagnosis = [0u8; 1536];
+    match access::schedule(sheet, &mut listing, &mut diagnosis) {
+        Answer::Accepted(_) => text::print_schedule(sheet, &listing),
+        Answer::Refused(n) => text::print_refusal(sheet, &diagnosis, n, 0, false),
+        Answer::Diagnosed(n, rows, more) => text::print_refusal(sheet, &diagnosis, n, rows, more),
+        Answer::TooShort(_) => text::print_refusal(sheet, &diagnosis, 10, 0, false),
+    }
+}

@@ -1,7 +1,6 @@
-use mathlib.Core.Path.{_≡_, refl, sym, _∙_}
-use native.Mathlib.Omega.{arith}
-use Rattle.access.specs.AnswerLaws.{one, two}
-use Rattle.access.specs.EndLaws.{not-true, not-false}
+use mathlib.Core.Path.{refl}
+use Rattle.definitions.specs.Answer.{order}
+use Rattle.decoding.specs.CodeLaws.{not-true, not-false}
 use Rattle.access.specs.TestLaws.{asked, is-valid, due}
 use borrow.Author.Needs.{needs}
 use Rattle.access.proofs.order.Statement.{statement}
@@ -9,60 +8,57 @@ use Rattle.access.proofs.order.Tie as tie
 use Rattle.access.proofs.order.Reads as reads
 use Rattle.access.proofs.order.Lts as lts
 use Rattle.access.proofs.end_order.Reads as end-order-reads
-use Rattle.access.proofs.test_sheet.Reads as test-sheet-reads
+use Rattle.access.proofs.test.Reads as test-reads
 use Rattle.parents.proofs.parents_of.Reads as parents-of-reads
 
+-- src/lib.rt:77:9
+test-requires : tie.Need-test-requires
+test-requires c κs = search needs
+
+-- src/lib.rt:79:9
 returns : tie.Need-returns
-returns c = one _ _ _ (c .if1 .taken)
+returns c =
+    let t = c .before .before .test in
+    t .ensures .refused (not-true _ (c .if1 .taken)) order _ _ refl
 
-returns-2 : tie.Need-returns-2
-returns-2 c = two _ _ _ (omega arith) (c .if2 .taken)
-
-test-sheet-requires : tie.Need-test-sheet-requires
-test-sheet-requires c κs = search needs
-
-returns-3 : tie.Need-returns-3
-returns-3 c =
-    let t = c .before .before .test-sheet in
-    t .ensures .refused (not-true _ (c .if3 .taken)) _ _ (omega arith)
-
+-- src/lib.rt:82:9
 parents-of-requires : tie.Need-parents-of-requires
 parents-of-requires c κs =
-    let t = c .before .before .before .test-sheet in
-    let p = t .ensures .passed (not-false _ (c .before .if3 .left)) in
-    asked _ (t .result) p
+    let t = c .before .before .before .test in
+    asked _ _ (t .result) (t .ensures .passed (not-false _ (c .before .if1 .left)))
 
+-- src/lib.rt:83:5
 end-order-requires : tie.Need-end-order-requires
 end-order-requires c κs =
-    let t = c .before .before .before .before .before .before .test-sheet in
-    let p = t .ensures .passed (not-false _ (c .before .before .before .before .if3 .left)) in
+    let t = c .before .before .before .before .before .before .test in
+    let p = t .ensures .passed (not-false _ (c .before .before .before .before .if1 .left)) in
     let q = c .before .before .parents-of in
-    (is-valid _ (t .result) p (q .result) (q .ensures), omega arith)
+    (is-valid _ _ (t .result) p (q .result) (q .ensures), p .enough)
 
+-- src/lib.rt:74:1
 same-length : tie.Need-same-length
 same-length c = search needs
 
+-- src/lib.rt:74:1
 same-length-2 : tie.Need-same-length-2
 same-length-2 c = search needs
 
-returns-4 : tie.Need-returns-4
-returns-4 c =
-    let t = c .before .before .before .before .before .before .before .before .before .before .before .test-sheet in
-    let p = t .ensures .passed (not-false _ (c .before .before .before .before .before .before .before .before .before .if3 .left)) in
+-- src/lib.rt:74:1
+returns-2 : tie.Need-returns-2
+returns-2 c =
+    let t = c .before .before .before .before .before .before .before .before .before .before .before .test in
+    let p = t .ensures .passed (not-false _ (c .before .before .before .before .before .before .before .before .before .if1 .left)) in
     let q = c .before .before .before .before .before .before .before .parents-of in
-    let e = c .before .before .before .before .end-order in
-    due _ (t .result) p (q .result) (q .ensures) _ _ _ (omega (arith, c .before .before .before .before .before .before .before .before .before .before .before .before .before .if1 .left)) (omega (arith, c .before .before .before .before .before .before .before .before .before .before .before .before .if2 .left)) (e .ensures)
+    due _ _ (t .result) p (q .result) (q .ensures) _ _ _ refl (c .before .before .before .before .end-order .ensures)
 
 pub order-spec : {M : Type 1} → statement M
 order-spec =
     tie.close
     (tie.spec
+    test-requires
     returns
-    returns-2
-    test-sheet-requires
-    returns-3
     parents-of-requires
     end-order-requires
     same-length
     same-length-2
-    returns-4)
+    returns-2)

@@ -1,0 +1,60 @@
+use mathlib.Core.Path.{refl}
+use Rattle.definitions.specs.Answer.{schedule}
+use Rattle.decoding.specs.CodeLaws.{not-true, not-false}
+use Rattle.access.specs.LineLaws.{due-lists}
+use Rattle.access.specs.TestLaws.{asked, starts, due-schedule}
+use borrow.Author.Needs.{needs}
+use Rattle.access.proofs.schedule.Statement.{statement}
+use Rattle.access.proofs.schedule.Tie as tie
+use Rattle.access.proofs.schedule.Reads as reads
+use Rattle.access.proofs.schedule.Lts as lts
+use Rattle.access.proofs.end_schedule.Reads as end-schedule-reads
+use Rattle.access.proofs.test.Reads as test-reads
+use Rattle.parents.proofs.parents_of.Reads as parents-of-reads
+
+test-requires : tie.Need-test-requires
+test-requires c κs = search needs
+
+returns : tie.Need-returns
+returns c =
+    let t = c .before .before .test in
+    let e = t .ensures .refused (not-true _ (c .if1 .taken)) schedule _ _ refl in
+    (e, due-lists _ _ _ _ _ _ e)
+
+parents-of-requires : tie.Need-parents-of-requires
+parents-of-requires c κs =
+    let t = c .before .before .before .before .test in
+    asked _ _ (t .result) (t .ensures .passed (not-false _ (c .before .before .if1 .left)))
+
+end-schedule-requires : tie.Need-end-schedule-requires
+end-schedule-requires c κs =
+    let t = c .before .before .before .before .before .before .before .test in
+    let p = t .ensures .passed (not-false _ (c .before .before .before .before .before .if1 .left)) in
+    let q = c .before .before .parents-of in
+    (record { s = p .held .s; starts = starts _ _ (t .result) p (q .result) (q .ensures) }, p .enough)
+
+same-length : tie.Need-same-length
+same-length c = search needs
+
+same-length-2 : tie.Need-same-length-2
+same-length-2 c = search needs
+
+returns-2 : tie.Need-returns-2
+returns-2 c =
+    let t = c .before .before .before .before .before .before .before .before .before .before .before .before .test in
+    let p = t .ensures .passed (not-false _ (c .before .before .before .before .before .before .before .before .before .before .if1 .left)) in
+    let q = c .before .before .before .before .before .before .before .parents-of in
+    let e = due-schedule _ _ (t .result) p (q .result) (q .ensures) _ _ _ refl (c .before .before .before .before .end-schedule .ensures) in
+    (e, due-lists _ _ _ _ _ _ e)
+
+pub schedule-spec : {M : Type 1} → statement M
+schedule-spec =
+    tie.close
+    (tie.spec
+    test-requires
+    returns
+    parents-of-requires
+    end-schedule-requires
+    same-length
+    same-length-2
+    returns-2)

@@ -1,0 +1,24 @@
+-- What the schedule call says of the items that it writes.
+use mathlib.Core.List.{List}
+use mathlib.Core.Path.{_≡_}
+use Prim.Native.Nat.{ℕ}
+use Rattle.definitions.specs.Bits.{pack}
+use Rattle.definitions.specs.Records.{Sheet}
+use Rattle.definitions.specs.Map.{typeMapOf}
+use Rattle.definitions.specs.Packing.{scheduleBits}
+use Rattle.definitions.specs.Answer.{schedule, scheduleOf, overwrite}
+use Rattle.definitions.specs.Relisted.{Holds}
+use Rattle.synthesis_laws.specs.Statements.{MakesLines}
+use Rattle.access.specs.declared.Answer.{Answer}
+use Rattle.access.specs.Answers.{answerOf}
+
+-- the listing has the schedule of the sheet that the bytes hold: 'each line of the map stands in it once and nothing else does'
+pub record Lists (bytes entry exit : List ℕ) : Type 0 where
+  pub s : Sheet
+  pub holds : Holds bytes s
+  pub written : exit ≡ overwrite (pack (scheduleBits (scheduleOf schedule (typeMapOf s)))) entry
+  pub lines : MakesLines s (scheduleOf schedule (typeMapOf s) .items)
+
+-- so it is where the call accepts
+pub record LinesListed (bytes entry exit : List ℕ) (r : Answer) : Type 0 where
+  pub accepted : answerOf r .number ≡ 0 → Lists bytes entry exit

@@ -1,0 +1,74 @@
+-- What the parts of the schedule call leave is what is due.
+use mathlib.Core.Bool.{Bool, true, false, not}
+use mathlib.Core.List.{List, [], _∷_}
+use mathlib.Core.Path.{_≡_, refl, sym, ap, _∙_}
+use Prim.Native.Nat.{ℕ, _≤_, _<_}
+use native.Mathlib.Omega.{arith}
+use lib.ListN.{length, take}
+use Rattle.lists.specs.Lists.{null, each}
+use Rattle.definitions.specs.Records.{Sheet, Row}
+use Rattle.definitions.specs.Map.{typeMapOf}
+use Rattle.definitions.specs.Order.{hasOrder}
+use Rattle.definitions.specs.Packing.{rowBytes, scheduleBits}
+use Rattle.definitions.specs.Answer.{schedule, scheduleOf, overwrite}
+use Rattle.types.specs.declared.Types.{Types}
+use Rattle.types.specs.declared.Extensions.{Extensions}
+use Rattle.ordering.specs.declared.Parents.{Parents}
+use Rattle.ordering.specs.declared.Order.{Order}
+use Rattle.ordering.specs.Organized.{Organized}
+use Rattle.ordering.specs.Reading.{Valid, valid}
+use Rattle.held_map.specs.HeldMap.{HeldMap}
+use Rattle.packing.specs.declared.Listed.{Listed}
+use Rattle.packing.specs.Order.{Listing}
+use Rattle.decoding.specs.CodeLaws.{not-true, not-false}
+use Rattle.access.specs.declared.Answer.{Answer}
+use Rattle.access.specs.Answers.{outcomeOf}
+use Rattle.access.specs.Ending.{listed, ended, Unordered, answerFor}
+use Rattle.access.specs.EndLaws.{unordered-so, listed-so}
+use Rattle.access.specs.Starting.{Starts, Started, rowsOf, Rows}
+
+none-null : (l : List Row) → length l ≡ 0 → l ≡ []
+none-null [] h = refl
+none-null (x ∷ l) h = absurd (omega (arith, h))
+
+some-not-null : (l : List Row) → 0 < length l → null l ≡ false
+some-not-null [] h = absurd (omega (arith, h))
+some-not-null (x ∷ l) h = refl
+
+pub starts-valid : (ts : Types) (es : Extensions) (resource : ℕ) (p : Parents) → Started ts es resource p → Valid p
+starts-valid ts es resource p h = valid p (typeMapOf (h .s)) (h .starts .reads)
+
+module _ (ts : Types) (es : Extensions) (resource : ℕ) (p : Parents) (r : Order) (o : Organized p r) (s : Sheet) (h : Starts s ts es resource p) where
+  -- 8
+  pub no-order : (l d d′ : List ℕ) (a : Answer) → not (r .found) ≡ true → Unordered p d d′ a → outcomeOf a l d′ ≡ ended schedule (typeMapOf s) l d
+  no-order l d d′ a f q = unordered-so schedule p r o (typeMapOf s) (h .reads) l d d′ a f q
+
+  module _ (f : not (r .found) ≡ false) where
+    has-order : hasOrder (typeMapOf s) ≡ true
+    has-order = sym (o .found (typeMapOf s) (h .reads)) ∙ not-false (r .found) f
+
+    -- what the synthesis starts from
+    pub held : HeldMap s ts es p
+    held = record { readable = h .readable; within = h .within; order = has-order; types = h .types; extensions = h .extensions; reads = h .reads }
+
+    module _ (d d′ : List ℕ) (count : ℕ) (more : Bool) (q : Rows s d d′ count more) where
+      -- 9
+      pub with-rows : (l : List ℕ) → 0 < count → outcomeOf (Answer.Diagnosed 9 count more) l d′ ≡ ended schedule (typeMapOf s) l d
+      unfolding ended
+      with-rows l n = rw (has-order, some-not-null (rowsOf s) (omega (arith, q .counted)), q .counted, q .rest, q .written)
+
+      no-rows : count ≤ 0 → rowsOf s ≡ []
+      no-rows n = none-null (rowsOf s) (omega (arith, q .counted))
+
+      -- no row was written
+      untouched : count ≤ 0 → d′ ≡ d
+      untouched n = q .written ∙ ap (λ (rs : List Row). overwrite (each rowBytes (take 256 rs)) d) (no-rows n)
+
+      -- 10 and acceptance
+      pub scheduled : (l l′ : List ℕ) (w : Listed) (a : Answer) → count ≤ 0 → Listing l l′ (scheduleBits (scheduleOf schedule (typeMapOf s))) w → a ≡ answerFor w →
+          outcomeOf a l′ d′ ≡ ended schedule (typeMapOf s) l d
+      unfolding ended
+      scheduled l l′ w a n g e =
+          ap (λ (x : List ℕ). outcomeOf a l′ x) (untouched n)
+          ∙ listed-so (scheduleBits (scheduleOf schedule (typeMapOf s))) l l′ d w a g e
+          ∙ sym (rw (has-order, ap null (no-rows n)))

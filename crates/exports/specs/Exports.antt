@@ -1,0 +1,43 @@
+-- What the exported calls answer: the number is returned, and the size, the count of rows and the flag go into a lent slice of three numbers.
+use mathlib.Core.Bool.{Bool, true, false, cond}
+use mathlib.Core.List.{List, [], _∷_}
+use mathlib.Core.Path.{_≡_}
+use Prim.Native.Nat.{ℕ, _^_, _<_}
+use lib.Dec.{eqb, ltb}
+use lib.ListN.{length}
+use Rattle.definitions.specs.Answer.{Answer, Input, Outcome, overwrite, outcome}
+use Rattle.exports.specs.declared.Parts.{Parts}
+
+-- 1 if more rows exist
+abbrev pub flag : Bool → ℕ
+flag true = 1
+flag false = 0
+
+abbrev pub partsOf : Parts → Answer
+partsOf p = record { number = p .number; size = p .size; rows = p .rows; more = eqb (p .more) 1 }
+
+-- the returned number, and the lent slices at exit
+pub record Exported : Type 0 where
+  pub number : ℕ
+  pub parts : List ℕ
+  pub listing : List ℕ
+  pub diagnosis : List ℕ
+
+-- an outcome, told to a caller who lent `parts`
+abbrev pub told : Outcome → List ℕ → Exported
+told o parts = record {
+  number = o .answer .number;
+  parts = overwrite (o .answer .size ∷ o .answer .rows ∷ flag (o .answer .more) ∷ []) parts;
+  listing = o .listing;
+  diagnosis = o .diagnosis;
+}
+
+-- 11, which is none of the ten, and nothing touched, where fewer than three numbers were lent
+unfoldable pub exported : Input → List ℕ → Exported
+exported i parts = cond (ltb (length parts) 3) (record { number = 11; parts = parts; listing = i .listing; diagnosis = i .diagnosis }) (told (outcome i) parts)
+
+-- the parts fit 32 bits
+pub record Small (a : Answer) : Type 0 where
+  pub number : a .number < 2 ^ 32
+  pub size : a .size < 2 ^ 32
+  pub rows : a .rows < 2 ^ 32

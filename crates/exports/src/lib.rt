@@ -1,0 +1,102 @@
+// The calls for C and Rust, for `rt staticlib exports`. See include/gidzelma.h.
+use access::Answer;
+ghost use mathlib.Core.List.{[], _∷_};
+ghost use mathlib.Core.Path.{_≡_};
+ghost use Prim.Native.Nat.{_<_, _≤_};
+ghost use lib.ListN.{length};
+ghost use Rattle.definitions.specs.Answer.{overwrite};
+ghost use Rattle.access.specs.Answers.{answerOf, orderInput, scheduleInput};
+ghost use Rattle.exports.specs.Exports.{partsOf, exported, Small};
+
+// The parts of an answer: 01's number, the size, how many rows were written, and 1 if there are more.
+pub struct Parts {
+    pub number: u32,
+    pub size: u32,
+    pub rows: u32,
+    pub more: u32,
+}
+
+fn flag(more: bool) -> u32
+    ensures { λ r. ⌜ r ≡ Rattle.exports.specs.Exports.flag more ⌝ }
+{
+    if more { 1 } else { 0 }
+}
+
+fn parts_of(a: Answer) -> Parts
+    requires { ⌜ Small (answerOf a) ⌝ }
+    ensures { λ r. ⌜ (partsOf r ≡ answerOf a) × (r .more ≡ Rattle.exports.specs.Exports.flag (answerOf a .more)) ⌝ }
+{
+    match a {
+        Answer::Accepted(size) => Parts {
+            number: 0,
+            size: size as u32,
+            rows: 0,
+            more: 0,
+        },
+        Answer::Refused(number) => Parts {
+            number: number as u32,
+            size: 0,
+            rows: 0,
+            more: 0,
+        },
+        Answer::Diagnosed(number, rows, more) => Parts {
+            number: number as u32,
+            size: 0,
+            rows: rows as u32,
+            more: flag(more),
+        },
+        Answer::TooShort(size) => Parts {
+            number: 10,
+            size: size as u32,
+            rows: 0,
+            more: 0,
+        },
+    }
+}
+
+// Writes size, rows and flag, and answers the number.
+fn tell(a: Answer, parts: &mut [u32]) -> u32
+    requires { ⌜ Small (answerOf a) ⌝ }
+    requires { ⌜ 3 ≤ length (now parts) ⌝ }
+    ensures { λ r. ⌜ (r ≡ answerOf a .number) × (now (parts .exit) ≡ overwrite (answerOf a .size ∷ answerOf a .rows ∷ Rattle.exports.specs.Exports.flag (answerOf a .more) ∷ []) (now (parts .entry))) ⌝ }
+{
+    let p = parts_of(a);
+    parts[0] = p.size;
+    parts[1] = p.rows;
+    parts[2] = p.more;
+    p.number
+}
+
+// The order-only call. 11, which is none of the ten, where fewer than three numbers are lent; then nothing is touched.
+#[no_mangle]
+pub extern "C" fn gidzelma_order(
+    sheet: &[u8],
+    listing: &mut [u8],
+    diagnosis: &mut [u8],
+    parts: &mut [u32],
+) -> u32
+    ensures { λ r. ⌜ record { number = r; parts = now (parts .exit); listing = now (listing .exit); diagnosis = now (diagnosis .exit) } ≡ exported (orderInput (now (sheet .entry)) (now (listing .entry)) (now (diagnosis .entry))) (now (parts .entry)) ⌝ }
+{
+    if parts.len() < 3 {
+        return 11;
+    }
+    let answer = access::order(sheet, listing, diagnosis);
+    tell(answer, parts)
+}
+
+// The schedule call, likewise.
+#[no_mangle]
+pub extern "C" fn gidzelma_schedule(
+    sheet: &[u8],
+    listing: &mut [u8],
+    diagnosis: &mut [u8],
+    parts: &mut [u32],
+) -> u32
+    ensures { λ r. ⌜ record { number = r; parts = now (parts .exit); listing = now (listing .exit); diagnosis = now (diagnosis .exit) } ≡ exported (scheduleInput (now (sheet .entry)) (now (listing .entry)) (now (diagnosis .entry))) (now (parts .entry)) ⌝ }
+{
+    if parts.len() < 3 { // no room for size, rows and flag
+        return 11; // and nothing is touched
+    }
+    let answer = access::schedule(sheet, listing, diagnosis);
+    tell(answer, parts)
+}
