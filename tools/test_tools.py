@@ -10,6 +10,8 @@ import unittest
 HERE = os.path.dirname(os.path.abspath(__file__))
 sys.path.insert(0, HERE)
 
+import large_maps
+import limits
 import model
 import random_maps
 import sheetlib
@@ -596,6 +598,50 @@ class RandomMaps(unittest.TestCase):
                 self.assertEqual(sheetlib.sheet_of(sheetlib.text_of(sheet)), sheet)
 
 
+class LargeMaps(unittest.TestCase):
+    """The maps that the program is measured on."""
+
+    def test_answers(self):
+        for name, size, answer in [("largest", 33939, 8), ("ordered", 33922, 0), ("acyclic", 1008, 0),
+                                   ("ring", 1009, 8), ("undeclared", 1012, 8), ("chain", 512, 0)]:
+            sheet = sheetlib.encode(large_maps.MAPS[name]())
+            self.assertEqual((len(sheet), number(sheet, "order")), (size, answer), name)
+
+    def test_schedules(self):
+        for name, answer in [("doubled", 0), ("layers", 0), ("crowd", 10), ("lists", 9)]:
+            sheet = sheetlib.encode(large_maps.MAPS[name]())
+            self.assertEqual(number(sheet, "schedule"), answer, name)
+
+    def test_largest(self):
+        """Each count and each length is at its limit, so that no readable sheet is longer."""
+        largest = large_maps.largest()
+        self.assertEqual((len(largest.words), len(largest.types), len(largest.extensions)), (200, 64, 32))
+        self.assertEqual(sorted(map(len, largest.words))[:3], [len("self"), len("resource"), 31])
+        for record in largest.types:
+            self.assertEqual((len(record.name), len(record.annotations), len(record.marks)), (2, 12, 7))
+            self.assertTrue(all(len(ann.resources) == 15 for ann in record.annotations))
+        for record in largest.types + largest.extensions:
+            self.assertEqual([len(name) for name in record.parents], [2] * 8)
+
+
+class Limits(unittest.TestCase):
+    """The maps at the limits of the answers."""
+
+    def test_largest_schedule(self):
+        """Written, and read back by another part of the model."""
+        sheet = sheet_of(limits.largest_schedule())
+        result = model.schedule(sheet, bytes(1 << 18), DIAGNOSIS)
+        self.assertEqual(result[:4], (0, 239675, 0, 0))
+        kinds = [line[0] for line in model.printed(sheet, result, True)]
+        self.assertEqual([kinds.count(kind) for kind in "TRE"], [64, 64 * 64 + 63 * 64, 64 * 64])
+        self.assertEqual(run(sheet), ["refused 10"])
+
+    def test_rows_of_nine(self):
+        for count, rows, more in [(255, 255, 0), (256, 256, 0), (257, 256, 1)]:
+            result = model.schedule(sheet_of(limits.rows_of_nine(count)), LISTING, DIAGNOSIS)
+            self.assertEqual(result[:4], (9, 0, rows, more))
+
+
 class Programs(unittest.TestCase):
     """The tools as programs."""
 
@@ -612,6 +658,11 @@ class Programs(unittest.TestCase):
         done = self.tool("sheet", "--truncate", "2", "--append", "ff00", "--flip", "0",
                          "--flip", "31", given=GOOD.encode())
         self.assertEqual(done[1], bytes([sheet[0] ^ 128, sheet[1], 255, 1]))
+
+    def test_stored(self):
+        """What the definitions are computed on and what the programs read is as the tools write it."""
+        for name in ("cases", "damage", "replays"):
+            self.assertEqual(self.tool(name, "--check")[0], 0, name)
 
     def test_errors(self):
         for text, part in [("domain", "line 1"), ("\nfoo a", "line 2"), ("makelist", "no type"),
