@@ -1,0 +1,38 @@
+/* Libraries with one fault each, to see that fuzz/run finds it. FAULT picks the fault. */
+#include "gidzelma.h"
+
+uint32_t faultless(const uint8_t *sheet, size_t sheet_len, uint8_t *listing, size_t listing_len,
+                   uint8_t *diagnosis, size_t diagnosis_len, uint32_t *parts, size_t parts_len);
+
+uint32_t CALL(const uint8_t *sheet, size_t sheet_len, uint8_t *listing, size_t listing_len,
+              uint8_t *diagnosis, size_t diagnosis_len, uint32_t *parts, size_t parts_len)
+{
+    uint32_t number = faultless(sheet, sheet_len, listing, listing_len,
+                                diagnosis, diagnosis_len, parts, parts_len);
+#if FAULT == 1 /* writes behind the listing */
+    if (number == 0 && parts[0] == listing_len)
+        listing[listing_len] = 0;
+#elif FAULT == 2 /* writes before the diagnosis slice */
+    if (number == 8)
+        diagnosis[-1] ^= 1;
+#elif FAULT == 3 /* reads behind the sheet */
+    if (number == 8 && ((const volatile uint8_t *)sheet)[sheet_len] == 255)
+        number = 8;
+#elif FAULT == 4 /* touches the byte behind the rows */
+    if (number == 8 && parts[1] < 256)
+        diagnosis[6 * parts[1]] ^= 1;
+#elif FAULT == 5 /* invents a row count */
+    if (number == 10)
+        parts[1] = 1;
+#elif FAULT == 6 /* touches parts that are too few */
+    if (number == 11 && parts_len > 0)
+        parts[0] = 0;
+#elif FAULT == 7 /* clears the listing behind what it wrote */
+    if (number == 0 && parts[0] < listing_len)
+        listing[parts[0]] = 0;
+#elif FAULT == 8 /* a refusal 10 that is not due */
+    if (number == 0 && listing_len == parts[0])
+        number = 10;
+#endif
+    return number;
+}
