@@ -45,7 +45,7 @@ full-by : (l : List Entry) (i : ℕ) → i < length l → stands (getD l 0 zeros
 full-by [] i h p u = refl
 full-by (a ∷ l) i h p u = rw p u
 
-pub join-under : (l r : Entries) (n : Entry) (i : ℕ) → Kept l → Sound n → PlaceOf l n i → i < l .count → r .count ≡ l .count
+join-under : (l r : Entries) (n : Entry) (i : ℕ) → Kept l → Sound n → PlaceOf l n i → i < l .count → r .count ≡ l .count
     → r .items ≡ set (l .items) i (inter (getD (l .items) i zeros) n) → entriesOf r ≡ join (entriesOf l) n
 unfolding entriesOf
 join-under l r n i k s p h c e =
@@ -59,6 +59,10 @@ join-under l r n i k s p h c e =
     (join-some (take (l .count) (l .items)) n (λ q. absurd (omega arith))
     ∙ merge-same (take (l .count) (l .items)) i zeros n (k .apart)
     (full-by (take (l .count) (l .items)) i (omega arith) (ap stands f ∙ p .first h) (k .full)) s (omega arith) (ap (λ (x : Entry). x .words) g ∙ p .same h))
+
+pub joins-shared : (l r : Entries) (n : Entry) (i : ℕ) → Kept l → Sound n → PlaceOf l n i → i < l .count → r .count ≡ l .count
+    → r .items ≡ set (l .items) i (inter (getD (l .items) i zeros) n) → Joins l n r
+joins-shared l r n i k s p h c e = joins-by l r n k s (join-under l r n i k s p h c e) (omega (arith, c, k .room))
 
 -- ---- one entry of a parent more
 

@@ -111,13 +111,12 @@ pub fn merged(l: Entries, newcomer: Entry) -> Entries
     ensures { λ r. ⌜ (entriesOf r ≡ merge (entriesOf l) newcomer) × (r .count ≤ 200) ⌝ }
 {
     let count = l.count;
-    let old = l.items;
-    let mut out = old;
+    let mut out = l.items;
     let mut n = newcomer;
     let mut k: usize = 0;
     let mut i: usize = 0;
     while i < count {
-        let a = old[i];
+        let a = l.items[i];
         let both = intersection(a, n);
         if standing(both) == 0 {
             out[k] = a;
@@ -158,19 +157,18 @@ fn same_words(x: Row, y: Row) -> bool
 
 // The place of the entry that has the newcomer's words, or the count. Most newcomers come again, from another parent.
 fn place_of(l: Entries, n: Entry) -> usize
-    requires { ⌜ (0 < l .count) × (l .count ≤ 200) ⌝ }
+    requires { ⌜ l .count ≤ 200 ⌝ }
     ensures { λ r. ⌜ PlaceOf l n r ⌝ }
 {
     let count = l.count;
-    let items = l.items;
     let words = n.words;
-    let first = items[0];
+    let first = l.items[0];
     if standing(first) == 0 {
         return count;
     }
     let mut i: usize = 0;
     while i < count {
-        let e = items[i];
+        let e = l.items[i];
         let w = e.words;
         if same_words(w, words) {
             return i;
@@ -195,8 +193,8 @@ fn shared_at(l: Entries, at: usize, n: Entry) -> Entries
     }
 }
 
-// 'Take a list of annotations and a new one to append.' The first of a list stays as it is, an associate without resources as well.
-pub fn dedup_inherited_annotations_one(l: Entries, newcomer: Entry) -> Entries
+// The list with the newcomer, whatever they share. The first of a list stays as it is, an associate without resources as well.
+fn appended(l: Entries, newcomer: Entry) -> Entries
     requires { ⌜ Kept l ⌝ }
     requires { ⌜ Sound newcomer ⌝ }
     ensures { λ r. ⌜ Joins l newcomer r ⌝ }
@@ -204,11 +202,20 @@ pub fn dedup_inherited_annotations_one(l: Entries, newcomer: Entry) -> Entries
     if l.count == 0 {
         return alone(newcomer);
     }
+    merged(l, newcomer)
+}
+
+// 'Take a list of annotations and a new one to append.'
+pub fn dedup_inherited_annotations_one(l: Entries, newcomer: Entry) -> Entries
+    requires { ⌜ Kept l ⌝ }
+    requires { ⌜ Sound newcomer ⌝ }
+    ensures { λ r. ⌜ Joins l newcomer r ⌝ }
+{
     let at = place_of(l, newcomer);
     if at < l.count {
         return shared_at(l, at, newcomer);
     }
-    merged(l, newcomer)
+    appended(l, newcomer)
 }
 
 // No entries.
@@ -261,24 +268,30 @@ pub fn united(doms: [Row; 200], given: [Row; 200]) -> [Row; 200]
     out
 }
 
-// The entries of a parent join a list, one after the other, under that parent.
+// The entries of a parent join a list, one after the other, under that parent. Most stand there, from another parent, and are found in their place.
 pub fn joined_entries(l: Entries, p: Entries, parent: u64) -> Entries
     requires { ⌜ Kept l ⌝ }
     requires { ⌜ Kept p ⌝ }
     ensures { λ r. ⌜ Kept r × (entriesOf r ≡ joinAll (entriesOf l) (map (underPlace parent) (entriesOf p))) ⌝ }
 {
-    let items = p.items;
     let count = p.count;
     let mut out = l;
     let mut i: usize = 0;
     while i < count {
-        let e = items[i];
+        let e = p.items[i];
         let words = e.words;
         let n = Entry {
             words: words,
             parents: parent,
         };
-        out = dedup_inherited_annotations_one(out, n);
+        let at = place_of(out, n);
+        if at < out.count {
+            let x = out.items[at];
+            let both = intersection(x, n);
+            out.items[at] = both;
+        } else {
+            out = appended(out, n);
+        }
         i += 1;
     }
     out

@@ -12,16 +12,21 @@ use Rattle.dedup.specs.EntryLaws.{merge-length}
 use Rattle.dedup.specs.MergeLaws.{Left, Round, round, Passed, passed, stands-one, last}
 use Rattle.dedup.proofs.merged.Statement.{statement}
 use Rattle.dedup.proofs.merged.Tie as tie
+use Rattle.dedup.proofs.merged.Reads as reads
+use Rattle.dedup.proofs.merged.Lts as lts
+use Rattle.dedup.proofs.difference.Reads as difference-reads
+use Rattle.dedup.proofs.intersection.Reads as intersection-reads
+use Rattle.dedup.proofs.standing.Reads as standing-reads
 
 abbrev Inv-loop : tie.InvT-loop
-Inv-loop count old out₀ n₀ k₀ i₀ out n k i =
+Inv-loop l count out₀ n₀ k₀ i₀ out n k i =
     (i ≤ count)
     × (length out ≡ 201)
     × (k ≤ 200)
-    × Left out k (drop i (take count old)) n (merge (take count old) n₀)
+    × Left out k (drop i (take count (l .items))) n (merge (take count (l .items)) n₀)
 
 abbrev μ-loop : tie.MeasureT-loop
-μ-loop count old out₀ n₀ k₀ i₀ out n k i = count - i
+μ-loop l count out₀ n₀ k₀ i₀ out n k i = count - i
 
 -- what a read past the end gives
 abbrev zeros : Entry
@@ -31,39 +36,39 @@ zeros = record { words = record { a = 0; b = 0; c = 0; d = 0 }; parents = 0 }
 one-round : (c : tie.In-loop Inv-loop μ-loop) →
     let s = c .before .before .before in
     let l = c .before .loop in
-    Round (s .args .l .items) (l .out) (s .args .l .count) (l .k) (l .i) (lib.ListN.getD (s .args .l .items) (l .i) zeros) (l .n) (merge (take (s .args .l .count) (s .args .l .items)) (s .args .newcomer))
+    Round (s .args .t1 .items) (l .out) (s .args .t1 .count) (l .k) (l .i) (lib.ListN.getD (s .args .t1 .items) (l .i) zeros) (l .n) (merge (take (s .args .t1 .count) (s .args .t1 .items)) (s .args .newcomer))
 unfolding entriesOf
 one-round c =
     let s = c .before .before .before in
     let l = c .before .loop in
-    let z : length (s .args .l .items) ≡ 201 = search length-mapped in
-    let m : length (merge (take (s .args .l .count) (s .args .l .items)) (s .args .newcomer)) ≤ 200 = merge-length _ _ (s .pre .0) (s .pre .1 .1) in
-    round (s .args .l .items) (l .out) _ (s .args .l .count) (l .k) (l .i) (l .n) zeros (omega arith) (omega arith) (l .inv .2) (l .inv .1) m (l .inv .3)
+    let z : length (s .args .t1 .items) ≡ 201 = search length-mapped in
+    let m : length (merge (take (s .args .t1 .count) (s .args .t1 .items)) (s .args .newcomer)) ≤ 200 = merge-length _ _ (s .pre .0) (s .pre .1 .1) in
+    round (s .args .t1 .items) (l .out) _ (s .args .t1 .count) (l .k) (l .i) (l .n) zeros (omega arith) (omega arith) (l .inv .2) (l .inv .1) m (l .inv .3)
 
 -- a round in which the entry shares nothing
 none-shared : (c : tie.In-loop Inv-loop μ-loop) →
     let s = c .before .before .before in
     let l = c .before .loop in
-    length (unlessEmpty (inter (lib.ListN.getD (s .args .l .items) (l .i) zeros) (l .n))) ≡ 0
-    → Passed (s .args .l .items) (l .out) (s .args .l .count) (l .k) (l .i) (lib.ListN.getD (s .args .l .items) (l .i) zeros) (l .n) (merge (take (s .args .l .count) (s .args .l .items)) (s .args .newcomer))
+    length (unlessEmpty (inter (lib.ListN.getD (s .args .t1 .items) (l .i) zeros) (l .n))) ≡ 0
+    → Passed (s .args .t1 .items) (l .out) (s .args .t1 .count) (l .k) (l .i) (lib.ListN.getD (s .args .t1 .items) (l .i) zeros) (l .n) (merge (take (s .args .t1 .count) (s .args .t1 .items)) (s .args .newcomer))
 unfolding entriesOf
 none-shared c e =
     let s = c .before .before .before in
     let l = c .before .loop in
-    let z : length (s .args .l .items) ≡ 201 = search length-mapped in
-    let m : length (merge (take (s .args .l .count) (s .args .l .items)) (s .args .newcomer)) ≤ 200 = merge-length _ _ (s .pre .0) (s .pre .1 .1) in
-    passed (s .args .l .items) (l .out) _ (s .args .l .count) (l .k) (l .i) (l .n) zeros (omega arith) (omega arith) (l .inv .2) (l .inv .1) m (l .inv .3) e
+    let z : length (s .args .t1 .items) ≡ 201 = search length-mapped in
+    let m : length (merge (take (s .args .t1 .count) (s .args .t1 .items)) (s .args .newcomer)) ≤ 200 = merge-length _ _ (s .pre .0) (s .pre .1 .1) in
+    passed (s .args .t1 .items) (l .out) _ (s .args .t1 .count) (l .k) (l .i) (l .n) zeros (omega arith) (omega arith) (l .inv .2) (l .inv .1) m (l .inv .3) e
 
 loop-holds : tie.Need-loop-holds Inv-loop μ-loop
 loop-holds c =
-    let l : length (c .before .args .l .items) ≡ 201 = search length-mapped in
+    let l : length (c .before .args .t1 .items) ≡ 201 = search length-mapped in
     (omega arith, l, omega arith, refl)
 
 mul-a : tie.Need-mul-a Inv-loop μ-loop
 mul-a c = search needs
 
-array-copy-out-a : tie.Need-array-copy-out-a Inv-loop μ-loop
-array-copy-out-a c = search needs
+element-copy-out-a : tie.Need-element-copy-out-a Inv-loop μ-loop
+element-copy-out-a c = search needs
 
 intersection-requires : tie.Need-intersection-requires Inv-loop μ-loop
 intersection-requires c κs = tt
@@ -131,7 +136,7 @@ loop-again : tie.Need-loop-again Inv-loop μ-loop
 loop-again c =
     let s = c .before .before .before .before .before .before .before in
     let i = c .before .before .before .before .before .loop in
-    let a = lib.ListN.getD (s .args .l .items) (i .i) zeros in
+    let a = lib.ListN.getD (s .args .t1 .items) (i .i) zeros in
     ⊎-elim
     (λ w.
     let e = ap (λ e. length (unlessEmpty e)) (sym (c .before .before .intersection .ensures)) ∙ sym (c .before .standing .ensures) ∙ w .0 .taken in
@@ -154,16 +159,16 @@ array-set-from-out-4 c = search needs
 after : (c : tie.After-standing4 Inv-loop μ-loop) →
     let s = c .before .before .before .before in
     let l = c .before .before .loop in
-    (take (l .k + length (unlessEmpty (l .n))) (set (l .out) (l .k) (l .n)) ≡ merge (take (s .args .l .count) (s .args .l .items)) (s .args .newcomer))
+    (take (l .k + length (unlessEmpty (l .n))) (set (l .out) (l .k) (l .n)) ≡ merge (take (s .args .t1 .count) (s .args .t1 .items)) (s .args .newcomer))
     × (l .k + length (unlessEmpty (l .n)) ≤ 200)
 unfolding entriesOf
 after c =
     let s = c .before .before .before .before in
     let l = c .before .before .loop in
-    let z : length (s .args .l .items) ≡ 201 = search length-mapped in
-    let m : length (merge (take (s .args .l .count) (s .args .l .items)) (s .args .newcomer)) ≤ 200 = merge-length _ _ (s .pre .0) (s .pre .1 .1) in
-    let t : length (take (s .args .l .count) (s .args .l .items)) ≡ s .args .l .count = length-take-le _ _ (omega arith) in
-    last (l .out) _ (take (s .args .l .count) (s .args .l .items)) (l .k) (l .i) (l .n) (omega arith) (l .inv .2) (l .inv .1) m (l .inv .3)
+    let z : length (s .args .t1 .items) ≡ 201 = search length-mapped in
+    let m : length (merge (take (s .args .t1 .count) (s .args .t1 .items)) (s .args .newcomer)) ≤ 200 = merge-length _ _ (s .pre .0) (s .pre .1 .1) in
+    let t : length (take (s .args .t1 .count) (s .args .t1 .items)) ≡ s .args .t1 .count = length-take-le _ _ (omega arith) in
+    last (l .out) _ (take (s .args .t1 .count) (s .args .t1 .items)) (l .k) (l .i) (l .n) (omega arith) (l .inv .2) (l .inv .1) m (l .inv .3)
 
 standing-requires-4 : tie.Need-standing-requires-4 Inv-loop μ-loop
 standing-requires-4 c κs = tt
@@ -186,7 +191,7 @@ merged-spec =
     μ-loop
     loop-holds
     mul-a
-    array-copy-out-a
+    element-copy-out-a
     intersection-requires
     standing-requires
     mul-out
