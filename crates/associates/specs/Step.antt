@@ -15,9 +15,18 @@ use Rattle.table.specs.Table.{declarationAt, tableMap, Sound}
 use Rattle.synthetic.specs.Made.{classesOf, Fits, created}
 use Rattle.interpretation.specs.Emit.{emit}
 use Rattle.interpretation.specs.Judged.{isUnknown, isOther}
-use Rattle.duplicates.specs.Held.{heldItems, Holding}
-use Rattle.duplicates.specs.declared.Makings.{Makings}
+use Rattle.duplicates.specs.Held.{Makings, makingsIn, heldItems, Holding}
 use Rattle.associates.specs.declared.Progress.{Progress}
+
+-- how far an annotation is, with the makings of its type
+pub record Reached : Type 0 where
+  pub failed : Bool
+  pub ended : Bool
+  pub rows : ℕ
+  pub made : Makings
+
+abbrev pub reached : Progress → List ℕ → Reached
+reached p numbers = record { failed = p .failed; ended = p .ended; rows = p .rows; made = makingsIn numbers (p .made) }
 
 -- the rows that a verdict adds
 abbrev pub rowsIn : Declaration → ℕ → Verdict → List records.Row
@@ -59,7 +68,7 @@ verdictOf t T r doms ps failed is =
     judge failed (filter (isUnknown t) (classesOf doms r)) (firstOf (isOther t) (classesOf doms r)) (isDuplicate (tableMap t) (declarationAt t T) r (created t T r doms ps) is)
 
 -- p is s behind a word with that verdict
-pub record SteppedBy (t : Table) (T r : ℕ) (doms : Row) (ps limit : ℕ) (s : Progress) (b : List ℕ) (p : Progress) (b′ : List ℕ) (v : Verdict) : Type 0 where
+pub record SteppedBy (t : Table) (T r : ℕ) (doms : Row) (ps limit : ℕ) (s : Reached) (b : List ℕ) (p : Reached) (b′ : List ℕ) (v : Verdict) : Type 0 where
   pub rows : (b′, p .rows) ≡ emit limit (b, s .rows) (rowsIn (declarationAt t T) r v)
   pub ended : p .ended ≡ endsIn v
   pub failed : p .failed ≡ failsIn v
@@ -67,11 +76,11 @@ pub record SteppedBy (t : Table) (T r : ℕ) (doms : Row) (ps limit : ℕ) (s : 
   pub holding : Holding t T (p .made)
   pub count : p .made .count ≤ s .made .count + 1
 
-abbrev pub Stepped : Table → ℕ → ℕ → Row → ℕ → ℕ → Progress → List ℕ → Progress → List ℕ → Type 0
+abbrev pub Stepped : Table → ℕ → ℕ → Row → ℕ → ℕ → Reached → List ℕ → Reached → List ℕ → Type 0
 Stepped t T r doms ps limit s b p b′ = SteppedBy t T r doms ps limit s b p b′ (verdictOf t T r doms ps (s .failed) (itemsHeld t T (s .made)))
 
 -- what a word needs: the table is sound, the making fits, so do those held, and there is room for one more and for the rows
-pub record Ready (t : Table) (T r : ℕ) (doms : Row) (ps limit : ℕ) (s : Progress) (b : List ℕ) : Type 0 where
+pub record Ready (t : Table) (T r : ℕ) (doms : Row) (ps limit : ℕ) (s : Reached) (b : List ℕ) : Type 0 where
   pub sound : Sound t
   pub fits : Fits t T r doms ps
   pub holding : Holding t T (s .made)

@@ -25,8 +25,7 @@ use Rattle.interpretation.specs.Emit.{State, emitBytes, emit, name-bytes}
 use Rattle.interpretation.specs.Judged.{isUnknown, isOther}
 use Rattle.interpretation.specs.JudgedLaws.{row-bytes}
 use Rattle.duplicates.specs.Held.{heldItems}
-use Rattle.associates.specs.Step.{rowsIn, endsIn, failsIn, itemsIn, verdictOf, SteppedBy}
-use Rattle.associates.specs.declared.Progress.{Progress}
+use Rattle.associates.specs.Step.{Reached, rowsIn, endsIn, failsIn, itemsIn, verdictOf, SteppedBy}
 
 -- ---- the verdict
 
@@ -121,7 +120,7 @@ unfolding declarationAt
 named-at t T = refl
 
 -- the step of the verdict that was reached
-pub by-verdict : {t : Table} {T r : ℕ} {doms : Row} {ps limit : ℕ} {s : Progress} {b : List ℕ} {p : Progress} {b′ : List ℕ} {v w : Verdict} → v ≡ w →
+pub by-verdict : {t : Table} {T r : ℕ} {doms : Row} {ps limit : ℕ} {s : Reached} {b : List ℕ} {p : Reached} {b′ : List ℕ} {v w : Verdict} → v ≡ w →
     SteppedBy t T r doms ps limit s b p b′ w → SteppedBy t T r doms ps limit s b p b′ v
 by-verdict {t} {T} {r} {doms} {ps} {limit} {s} {b} {p} {b′} e x = subst (λ z. SteppedBy t T r doms ps limit s b p b′ z) (sym e) x
 

@@ -1,5 +1,4 @@
 // `interpret_associate`, after compile.rs: one word of an annotation.
-use duplicates::Makings;
 use fields::Name;
 use rows::Row;
 use table::Table;
@@ -8,14 +7,14 @@ ghost use mathlib.Core.Path.{_≡_};
 ghost use Rattle.lists.specs.Lists.{null, filter};
 ghost use Rattle.synthetic.specs.Made.{classesOf};
 ghost use Rattle.interpretation.specs.Judged.{isUnknown};
-ghost use Rattle.associates.specs.Step.{Ready, Stepped};
+ghost use Rattle.associates.specs.Step.{reached, Ready, Stepped};
 
-// How far an annotation is: whether a row 5 or 6 stands, whether it ended, the count of rows, and the makings of its type.
+// How far an annotation is: whether a row 5 or 6 stands, whether it ended, the count of rows, and that of the makings of its type.
 pub struct Progress {
     pub failed: bool,
     pub ended: bool,
     pub rows: usize,
-    pub made: Makings,
+    pub made: usize,
 }
 
 // A word whose classes are all declared: '5 first class that is no resource, 6 duplicate (not given where 5 is)', or its making.
@@ -26,15 +25,16 @@ fn interpret_known(
     doms: Row,
     parents: u64,
     s: Progress,
+    made: &mut [u64; 2280],
     buf: &mut [u8],
     limit: usize,
 ) -> Progress
-    requires { ⌜ Ready t place word doms parents limit s (now buf) ⌝ }
+    requires { ⌜ Ready t place word doms parents limit (reached s (now made)) (now buf) ⌝ }
     requires { ⌜ (null (filter (isUnknown t) (classesOf doms word)) ≡ true) × (s .failed ≡ false) ⌝ }
-    ensures { λ r. ⌜ Stepped t place word doms parents limit s (now (buf .entry)) r (now (buf .exit)) ⌝ }
+    ensures { λ r. ⌜ Stepped t place word doms parents limit (reached s (now (made .entry))) (now (buf .entry)) (reached r (now (made .exit))) (now (buf .exit)) ⌝ }
 {
     let n = s.rows;
-    let made = s.made;
+    let count = s.made;
     let subject = Name {
         first: t.firsts[place],
         second: t.seconds[place],
@@ -47,11 +47,11 @@ fn interpret_known(
             failed: true,
             ended: false,
             rows: rows,
-            made: made,
+            made: count,
         };
     }
     let new = synthetic::create_synthetic_resource(t, place, word, doms, parents);
-    if duplicates::is_duplicate(t, place, new, made) {
+    if duplicates::is_duplicate(t, place, new, made, count) {
         let none = Name {
             first: 255,
             second: 255,
@@ -61,15 +61,15 @@ fn interpret_known(
             failed: true,
             ended: false,
             rows: rows,
-            made: made,
+            made: count,
         };
     }
-    let more = duplicates::with_making(made, word, doms, parents);
+    duplicates::put_making(made, count, word, doms, parents);
     Progress {
         failed: false,
         ended: false,
         rows: n,
-        made: more,
+        made: count + 1,
     }
 }
 
@@ -82,31 +82,30 @@ pub fn interpret_word(
     doms: Row,
     parents: u64,
     s: Progress,
+    made: &mut [u64; 2280],
     buf: &mut [u8],
     limit: usize,
 ) -> Progress
-    requires { ⌜ Ready t place word doms parents limit s (now buf) ⌝ }
-    ensures { λ r. ⌜ Stepped t place word doms parents limit s (now (buf .entry)) r (now (buf .exit)) ⌝ }
+    requires { ⌜ Ready t place word doms parents limit (reached s (now made)) (now buf) ⌝ }
+    ensures { λ r. ⌜ Stepped t place word doms parents limit (reached s (now (made .entry))) (now (buf .entry)) (reached r (now (made .exit))) (now (buf .exit)) ⌝ }
 {
     let n = s.rows;
     if interpretation::all_known(t, doms, word) {
         if s.failed {
-            let made = s.made;
             return Progress {
                 failed: true,
                 ended: true,
                 rows: n,
-                made: made,
+                made: s.made,
             };
         }
-        return interpret_known(t, place, word, doms, parents, s, buf, limit);
+        return interpret_known(t, place, word, doms, parents, s, made, buf, limit);
     }
     let rows = interpretation::unknown_rows(t, place, doms, word, buf, limit, n);
-    let made = s.made;
     Progress {
         failed: true,
         ended: true,
         rows: rows,
-        made: made,
+        made: s.made,
     }
 }

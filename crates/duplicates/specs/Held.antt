@@ -1,25 +1,32 @@
 -- The makings of a type, as the code holds them, read as the definitions' items.
 use mathlib.Core.List.{List, []}
 use mathlib.Core.Path.{_≡_}
-use Prim.Native.Nat.{ℕ, zero, suc, _+_, _≤_, _<_}
+use Prim.Native.Nat.{ℕ, zero, suc, _+_, _*_, _≤_, _<_}
 use lib.ListN.{getD}
 use Rattle.rows.specs.declared.Row.{Row}
-use Rattle.rows.specs.Rows.{empty}
 use Rattle.definitions.specs.Records.{Item}
 use Rattle.definitions.specs.Synthesis.{withMaking}
 use Rattle.table.specs.declared.Table.{Table}
 use Rattle.table.specs.Table.{declarationAt}
 use Rattle.synthetic.specs.Made.{Fits, created}
-use Rattle.duplicates.specs.declared.Makings.{Makings}
+use Rattle.store.specs.Store.{rowAt}
+
+-- the first `count` makings, six numbers to each: its word, the four of its doms, and the direct parents that it comes from
+pub record Makings : Type 0 where
+  pub count : ℕ
+  pub numbers : List ℕ
+
+abbrev pub makingsIn : List ℕ → ℕ → Makings
+makingsIn numbers count = record { count = count; numbers = numbers }
 
 abbrev pub wordAt : Makings → ℕ → ℕ
-wordAt h i = getD (h .words) i 0
+wordAt h i = getD (h .numbers) (6 * i) 0
 
 abbrev pub domsAt : Makings → ℕ → Row
-domsAt h i = getD (h .doms) i empty
+domsAt h i = rowAt (h .numbers) (6 * i + 1)
 
 abbrev pub parentsAt : Makings → ℕ → ℕ
-parentsAt h i = getD (h .parents) i 0
+parentsAt h i = getD (h .numbers) (6 * i + 5) 0
 
 -- the items of the first n makings, each with its extension line, of which there is one for each word
 unfoldable pub heldItems : Table → ℕ → Makings → ℕ → List Item

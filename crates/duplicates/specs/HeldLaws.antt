@@ -2,19 +2,18 @@
 use mathlib.Core.Bool.{Bool, true, false, _&&_, _||_, not, cond, or-false, or-assoc, and-false}
 use mathlib.Core.List.{List, [], _∷_, _++_}
 use mathlib.Core.Path.{_≡_, refl, sym, ap, ap₂, _∙_}
-use Prim.Native.Nat.{ℕ, zero, suc, _+_, _≤_, _<_}
+use Prim.Native.Nat.{ℕ, zero, suc, _+_, _*_, _≤_, _<_}
 use native.Mathlib.Numerals.{add-one}
 use native.Mathlib.Omega.{arith}
 use borrow.Author.Tests.{ne-eqb, eq-eqb, eqb-true, eqb-false, lt-ltb, le-ltb}
 use lib.Dec.{eqb, ltb}
-use lib.ListN.{length, getD, set}
+use lib.ListN.{length, getD, set, length-set}
 use lib.Seq
 use Rattle.lists.specs.Lists.{any, null, keep, sameList, filter}
 use Rattle.lists.specs.Tests.{by, never, not-so}
 use Rattle.lists.specs.Lexicographic.{same-numbers}
 use Rattle.rows.specs.Lists.{any-append, filter-append}
 use Rattle.rows.specs.declared.Row.{Row}
-use Rattle.rows.specs.Rows.{empty}
 use Rattle.definitions.specs.Records.{Name, Mark, Item, synthesized, extension}
 use Rattle.definitions.specs.Orders.{sameName, lookUp, dotted}
 use Rattle.definitions.specs.Map.{Declaration}
@@ -26,8 +25,9 @@ use Rattle.table.specs.declared.Table.{Table}
 use Rattle.table.specs.Table.{nameAt, declarationAt, tableMap, Sound, Finds, typeAt}
 use Rattle.table.specs.TableLaws.{declared-at}
 use Rattle.synthetic.specs.Made.{Fits, created}
-use Rattle.duplicates.specs.Held.{wordAt, domsAt, parentsAt, heldItems, Holding}
-use Rattle.duplicates.specs.declared.Makings.{Makings}
+use Rattle.store.specs.Store.{rowAt, putRow}
+use Rattle.store.specs.StoreLaws.{row-long, row-keeps, row-there, row-same}
+use Rattle.duplicates.specs.Held.{Makings, makingsIn, wordAt, domsAt, parentsAt, heldItems, Holding, Keeps}
 
 -- ---- what stands among the items
 
@@ -95,40 +95,78 @@ held-one : (t : Table) (T : ℕ) (h r : Makings) (n word : ℕ) (doms : Row) (ps
 unfolding heldItems
 held-one t T h r n word doms ps p a b c = ap (λ (k : ℕ). heldItems t T r k) (add-one n) ∙ (λ i. withMaking (declarationAt t T) (a i) (created t T (a i) (b i) (c i)) (p i))
 
-pub items-more : (h : Makings) (word : ℕ) (doms : Row) (ps : ℕ) → h .count < length (h .words) → h .count < length (h .doms) → h .count < length (h .parents) →
-    (t : Table) (T : ℕ) →
-    heldItems t T
-    (record { count = h .count + 1; words = set (h .words) (h .count) word; doms = set (h .doms) (h .count) doms; parents = set (h .parents) (h .count) ps })
-    (h .count + 1)
-    ≡ withMaking (declarationAt t T) word (created t T word doms ps) (heldItems t T h (h .count))
-items-more h word doms ps p q s t T =
-    let n = h .count in
-    let r : Makings = record { count = n + 1; words = set (h .words) n word; doms = set (h .doms) n doms; parents = set (h .parents) n ps } in
-    held-one t T h r n word doms ps
-    (same-items t T h r n
-    (λ i l. Seq.getD-set-other (h .words) n i word 0 (λ e. omega arith))
-    (λ i l. Seq.getD-set-other (h .doms) n i doms empty (λ e. omega arith))
-    (λ i l. Seq.getD-set-other (h .parents) n i ps 0 (λ e. omega arith)))
-    (Seq.getD-set-same (h .words) n word 0 p)
-    (Seq.getD-set-same (h .doms) n doms empty q)
-    (Seq.getD-set-same (h .parents) n ps 0 s)
+-- the numbers with one making more behind the first n
+unfoldable pub putMaking : List ℕ → ℕ → ℕ → Row → ℕ → List ℕ
+putMaking s n word doms ps = set (putRow (set s (6 * n) word) (6 * n + 1) doms) (6 * n + 5) ps
 
-pub holding-more : (h : Makings) (word : ℕ) (doms : Row) (ps : ℕ) → h .count < 380 → h .count < length (h .words) → h .count < length (h .doms) → h .count < length (h .parents) →
-    (t : Table) (T : ℕ) → Holding t T h → Fits t T word doms ps →
-    Holding t T (record { count = h .count + 1; words = set (h .words) (h .count) word; doms = set (h .doms) (h .count) doms; parents = set (h .parents) (h .count) ps })
-holding-more h word doms ps b p q s t T k f =
-    record {
-      room = omega arith;
-      fits = λ i l.
-          by (eqb i (h .count))
-          (λ e.
-          let z : i ≡ h .count = eqb-true i (h .count) e in
-          rw (z, Seq.getD-set-same (h .words) (h .count) word 0 p, Seq.getD-set-same (h .doms) (h .count) doms empty q, Seq.getD-set-same (h .parents) (h .count) ps 0 s) f)
-          (λ e.
-          let z = eqb-false i (h .count) e in
-          rw (Seq.getD-set-other (h .words) (h .count) i word 0 z, Seq.getD-set-other (h .doms) (h .count) i doms empty z, Seq.getD-set-other (h .parents) (h .count) i ps 0 z)
-          (k .fits i (omega arith)));
-    }
+module _ (s : List ℕ) (n word : ℕ) (doms : Row) (ps : ℕ) where
+  abbrev s₁ : List ℕ
+  s₁ = set s (6 * n) word
+
+  abbrev s₂ : List ℕ
+  s₂ = putRow s₁ (6 * n + 1) doms
+
+  l₁ : length s₁ ≡ length s
+  l₁ = length-set s (6 * n) word
+
+  l₂ : length s₂ ≡ length s
+  l₂ = row-long s₁ (6 * n + 1) doms ∙ l₁
+
+  -- what stands before it is kept
+  kept : (q : ℕ) → q < 6 * n → getD (putMaking s n word doms ps) q 0 ≡ getD s q 0
+  unfolding putMaking
+  kept q h =
+      Seq.getD-set-other s₂ (6 * n + 5) q ps 0 (λ e. omega arith)
+      ∙ row-keeps s₁ (6 * n + 1) doms q (λ j l e. absurd (omega arith))
+      ∙ Seq.getD-set-other s (6 * n) q word 0 (λ e. omega arith)
+
+  module _ (room : 6 * n + 6 ≤ length s) where
+    word-there : getD (putMaking s n word doms ps) (6 * n) 0 ≡ word
+    unfolding putMaking
+    word-there =
+        Seq.getD-set-other s₂ (6 * n + 5) (6 * n) ps 0 (λ e. omega arith)
+        ∙ row-keeps s₁ (6 * n + 1) doms (6 * n) (λ j l e. absurd (omega arith))
+        ∙ Seq.getD-set-same s (6 * n) word 0 (omega arith)
+
+    doms-there : rowAt (putMaking s n word doms ps) (6 * n + 1) ≡ doms
+    unfolding putMaking
+    doms-there =
+        row-same s₂ (set s₂ (6 * n + 5) ps) (6 * n + 1) (λ j b. Seq.getD-set-other s₂ (6 * n + 5) (6 * n + 1 + j) ps 0 (λ e. absurd (omega arith)))
+        ∙ row-there s₁ (6 * n + 1) doms (omega (arith, l₁))
+
+    parents-there : getD (putMaking s n word doms ps) (6 * n + 5) 0 ≡ ps
+    unfolding putMaking
+    parents-there = Seq.getD-set-same s₂ (6 * n + 5) ps 0 (omega (arith, l₂))
+
+    items-more : (t : Table) (T : ℕ) →
+        heldItems t T (makingsIn (putMaking s n word doms ps) (n + 1)) (n + 1) ≡ withMaking (declarationAt t T) word (created t T word doms ps) (heldItems t T (makingsIn s n) n)
+    items-more t T =
+        held-one t T (makingsIn s n) (makingsIn (putMaking s n word doms ps) (n + 1)) n word doms ps
+        (same-items t T (makingsIn s n) (makingsIn (putMaking s n word doms ps) (n + 1)) n
+        (λ i l. kept (6 * i) (omega arith))
+        (λ i l. row-same s (putMaking s n word doms ps) (6 * i + 1) (λ j b. kept (6 * i + 1 + j) (omega arith)))
+        (λ i l. kept (6 * i + 5) (omega arith)))
+        word-there
+        doms-there
+        parents-there
+
+    holding-more : (t : Table) (T : ℕ) → n < 380 → Holding t T (makingsIn s n) → Fits t T word doms ps → Holding t T (makingsIn (putMaking s n word doms ps) (n + 1))
+    holding-more t T b k f =
+        record {
+          room = omega arith;
+          fits = λ i l.
+              by (eqb i n)
+              (λ e.
+              let z : i ≡ n = eqb-true i n e in
+              rw (z, word-there, doms-there, parents-there) f)
+              (λ e.
+              let z = eqb-false i n e in
+              rw (kept (6 * i) (omega (arith, z)), row-same s (putMaking s n word doms ps) (6 * i + 1) (λ j c. kept (6 * i + 1 + j) (omega (arith, z))), kept (6 * i + 5) (omega (arith, z)))
+              (k .fits i (omega (arith, z))));
+        }
+
+    pub keeps-more : n < 380 → Keeps (makingsIn s n) word doms ps (makingsIn (putMaking s n word doms ps) (n + 1))
+    keeps-more b = record { count = refl; items = items-more; holding = λ t T k f. holding-more t T b k f }
 
 -- ---- T.r
 

@@ -11,31 +11,20 @@ ghost use Rattle.definitions.specs.Making.{declared, sameItem};
 ghost use Rattle.definitions.specs.Orders.{dotted};
 ghost use Rattle.definitions.specs.Synthesis.{isDuplicate};
 ghost use Rattle.making.specs.Making.{itemOf};
-ghost use Rattle.synthetic.specs.Made.{Fits, created};
 ghost use Rattle.table.specs.Table.{nameAt, declarationAt, tableMap, Sound};
-ghost use Rattle.duplicates.specs.Held.{heldItems, Holding, Keeps};
+ghost use Rattle.duplicates.specs.Held.{makingsIn, heldItems, Holding, Keeps};
 
-// The makings of one type, as they were made: each by its word, its doms and the direct parents that it comes from. An own word is made at most once for each of
-// 12 annotations of 15 words, an inherited one once, so that there are at most 380.
-pub struct Makings {
-    pub count: usize,
-    pub words: [u8; 380],
-    pub doms: [Row; 380],
-    pub parents: [u64; 380],
-}
-
-// The makings with one more.
-pub fn with_making(h: Makings, word: u8, doms: Row, parents: u64) -> Makings
-    requires { ⌜ h .count < 380 ⌝ }
-    ensures { λ r. ⌜ Keeps h word doms parents r ⌝ }
+// The makings of one type are lent as numbers, as they were made, six to a making: its word, the four of its doms, and the direct parents that it comes from. An own
+// word is made at most once for each of 12 annotations of 15 words, an inherited one once, so that there are at most 380.
+// One making more, behind the first count.
+pub fn put_making(made: &mut [u64; 2280], count: usize, word: u8, doms: Row, parents: u64)
+    requires { ⌜ count < 380 ⌝ }
+    ensures { λ _. ⌜ Keeps (makingsIn (now (made .entry)) count) word doms parents (makingsIn (now (made .exit)) (count + 1)) ⌝ }
 {
-    let mut r = h;
-    let i = h.count;
-    r.words[i] = word;
-    r.doms[i] = doms;
-    r.parents[i] = parents;
-    r.count = i + 1;
-    r
+    let at = 6 * count;
+    made[at] = word as u64;
+    store::put_row(made, at + 1, doms);
+    made[at + 5] = parents;
 }
 
 // Whether T.r is declared. A two-word T gives three-word names, which are never declared.
@@ -57,19 +46,20 @@ pub fn is_declared(t: Table, place: usize, word: u8) -> bool
 }
 
 // Whether an earlier making of the type is identical. Only those of the same word are made again.
-pub fn is_made(t: Table, place: usize, new: Making, h: Makings) -> bool
+pub fn is_made(t: Table, place: usize, new: Making, made: &[u64; 2280], count: usize) -> bool
     requires { ⌜ Sound t ⌝ }
-    requires { ⌜ Holding t place h ⌝ }
+    requires { ⌜ Holding t place (makingsIn (now made) count) ⌝ }
     requires { ⌜ (new .parents .count ≤ 17) × (new .marks .count ≤ 448) ⌝ }
-    ensures { λ r. ⌜ r ≡ any (sameItem (itemOf new)) (heldItems t place h (h .count)) ⌝ }
+    ensures { λ r. ⌜ r ≡ any (sameItem (itemOf new)) (heldItems t place (makingsIn (now (made .entry)) count) count) ⌝ }
 {
-    let count = h.count;
     let word = new.word;
+    let number = word as u64;
     let mut i: usize = 0;
     while i < count {
-        if h.words[i] == word {
-            let d = h.doms[i];
-            let ps = h.parents[i];
+        let at = 6 * i;
+        if made[at] == number {
+            let d = store::row_at(made, at + 1);
+            let ps = made[at + 5];
             let old = synthetic::create_synthetic_resource(t, place, word, d, ps);
             if identical::same_item(new, old) {
                 return true;
@@ -81,15 +71,15 @@ pub fn is_made(t: Table, place: usize, new: Making, h: Makings) -> bool
 }
 
 // '6 duplicate': T.r is declared, or an earlier making is identical.
-pub fn is_duplicate(t: Table, place: usize, new: Making, h: Makings) -> bool
+pub fn is_duplicate(t: Table, place: usize, new: Making, made: &[u64; 2280], count: usize) -> bool
     requires { ⌜ Sound t ⌝ }
-    requires { ⌜ Holding t place h ⌝ }
+    requires { ⌜ Holding t place (makingsIn (now made) count) ⌝ }
     requires { ⌜ (place < t .count) × (new .word < 255) × (new .parents .count ≤ 17) × (new .marks .count ≤ 448) ⌝ }
-    ensures { λ r. ⌜ r ≡ isDuplicate (tableMap t) (declarationAt t place) (new .word) (itemOf new) (heldItems t place h (h .count)) ⌝ }
+    ensures { λ r. ⌜ r ≡ isDuplicate (tableMap t) (declarationAt t place) (new .word) (itemOf new) (heldItems t place (makingsIn (now (made .entry)) count) count) ⌝ }
 {
     let word = new.word;
     if is_declared(t, place, word) {
         return true;
     }
-    is_made(t, place, new, h)
+    is_made(t, place, new, made, count)
 }

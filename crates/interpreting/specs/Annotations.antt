@@ -28,12 +28,20 @@ use Rattle.table.specs.declared.Table.{Table}
 use Rattle.table.specs.Table.{nameAt, declarationAt, tableMap, Sound}
 use Rattle.synthetic.specs.Made.{namesIn, Fits}
 use Rattle.interpretation.specs.Emit.{emit}
-use Rattle.duplicates.specs.Held.{Holding}
-use Rattle.duplicates.specs.declared.Makings.{Makings}
+use Rattle.duplicates.specs.Held.{Makings, makingsIn, Holding}
 use Rattle.associates.specs.Step.{itemsHeld}
 use Rattle.interpreting.specs.Entry.{size}
 use Rattle.interpreting.specs.declared.Told.{Told}
 use Rattle.interpreting.specs.declared.Interpreted.{Interpreted}
+
+-- how far a type is, with its makings
+pub record TypeReached : Type 0 where
+  pub clean : Bool
+  pub rows : ℕ
+  pub made : Makings
+
+abbrev pub typeReached : Told → List ℕ → TypeReached
+typeReached p numbers = record { clean = p .clean; rows = p .rows; made = makingsIn numbers (p .made) }
 
 -- the names of the types, in order
 unfoldable pub typeNames : Table → List Name
@@ -58,7 +66,7 @@ abbrev pub interpretedOf : Table → ℕ → List InheritedAnnotation → Making
 interpretedOf t T l made = interpretAll (tableMap t) (declarationAt t T) l (itemsHeld t T made)
 
 -- r is s behind the annotations l, which made at most k resources
-pub record Added (t : Table) (T limit : ℕ) (l : List InheritedAnnotation) (k : ℕ) (s : Told) (b : List ℕ) (r : Told) (b′ : List ℕ) : Type 0 where
+pub record Added (t : Table) (T limit : ℕ) (l : List InheritedAnnotation) (k : ℕ) (s : TypeReached) (b : List ℕ) (r : TypeReached) (b′ : List ℕ) : Type 0 where
   pub rows : (b′, r .rows) ≡ emit limit (b, s .rows) (interpretedOf t T l (s .made) .rows)
   pub items : itemsHeld t T (r .made) ≡ interpretedOf t T l (s .made) .items
   pub clean : r .clean ≡ (s .clean && null (interpretedOf t T l (s .made) .rows))
@@ -66,7 +74,7 @@ pub record Added (t : Table) (T limit : ℕ) (l : List InheritedAnnotation) (k :
   pub count : r .made .count ≤ s .made .count + k
 
 -- r is s behind the entry e: behind whatever annotation has its words, dom sets and parents
-pub record WithEntry (t : Table) (T : ℕ) (e : Entry) (doms : List Row) (limit : ℕ) (s : Told) (b : List ℕ) (r : Told) (b′ : List ℕ) : Type 0 where
+pub record WithEntry (t : Table) (T : ℕ) (e : Entry) (doms : List Row) (limit : ℕ) (s : TypeReached) (b : List ℕ) (r : TypeReached) (b′ : List ℕ) : Type 0 where
   pub added : (x : InheritedAnnotation) → resourcesOf (x .annotation) ≡ resourcesAt (tableOf doms) (e .words) → x .parents ≡ namesIn t (e .parents) →
       Added t T limit (x ∷ []) (size e) s b r b′
 

@@ -20,14 +20,11 @@ use Rattle.table.specs.declared.Table.{Table}
 use Rattle.table.specs.Table.{declarationAt, tableMap}
 use Rattle.synthetic.specs.Made.{namesIn}
 use Rattle.interpretation.specs.Emit.{emit, emit-append}
-use Rattle.duplicates.specs.Held.{heldItems, Holding}
-use Rattle.duplicates.specs.declared.Makings.{Makings}
+use Rattle.duplicates.specs.Held.{Makings, heldItems, Holding}
 use Rattle.associates.specs.StepLaws.{no-rows}
-use Rattle.associates.specs.Step.{itemsHeld}
-use Rattle.associates.specs.declared.Progress.{Progress}
+use Rattle.associates.specs.Step.{Reached, itemsHeld}
 use Rattle.interpreting.specs.Entry.{size, interpretEntry, EntryDone}
-use Rattle.interpreting.specs.Annotations.{typeNames, ownEntriesIn, interpretedOf, Added, Room, interpretedAt, TypeDone}
-use Rattle.interpreting.specs.declared.Told.{Told}
+use Rattle.interpreting.specs.Annotations.{TypeReached, typeNames, ownEntriesIn, interpretedOf, Added, Room, interpretedAt, TypeDone}
 
 -- ---- some annotations, and then others
 
@@ -50,11 +47,11 @@ not-not true = refl
 not-not false = refl
 
 module _ (t : Table) (T limit : ℕ) where
-  pub added-none : (s : Told) (b : List ℕ) → Holding t T (s .made) → Added t T limit [] 0 s b s b
+  pub added-none : (s : TypeReached) (b : List ℕ) → Holding t T (s .made) → Added t T limit [] 0 s b s b
   unfolding interpretAll
   added-none s b h = record { rows = no-rows limit (b, s .rows); items = refl; clean = sym (and-true (s .clean)); holding = h; count = omega arith }
 
-  pub added-then : (a c : List InheritedAnnotation) (k l : ℕ) (s p r : Told) (b b′ b″ : List ℕ) → Added t T limit a k s b p b′ → Added t T limit c l p b′ r b″ →
+  pub added-then : (a c : List InheritedAnnotation) (k l : ℕ) (s p r : TypeReached) (b b′ b″ : List ℕ) → Added t T limit a k s b p b′ → Added t T limit c l p b′ r b″ →
       Added t T limit (a ++ c) (k + l) s b r b″
   added-then a c k l s p r b b′ b″ x y =
       let m = tableMap t in
@@ -90,7 +87,7 @@ module _ (t : Table) (T limit : ℕ) where
       (λ j. interpretWords m D (sym ps j) (sym us j) false is) ∙ ap (λ rs. interpreted rs (i .items)) (sym (append-nil (i .rows)))
 
   -- one annotation
-  pub added-entry : (x : InheritedAnnotation) (e : Entry) (doms : List Row) (s : Told) (b : List ℕ) (r : Progress) (b′ : List ℕ) (c : Bool) →
+  pub added-entry : (x : InheritedAnnotation) (e : Entry) (doms : List Row) (s : TypeReached) (b : List ℕ) (r : Reached) (b′ : List ℕ) (c : Bool) →
       resourcesOf (x .annotation) ≡ resourcesAt (tableOf doms) (e .words) → x .parents ≡ namesIn t (e .parents) →
       EntryDone t T e doms limit (record { failed = false; ended = false; rows = s .rows; made = s .made }) b r b′ → c ≡ (s .clean && not (r .failed)) →
       Added t T limit (x ∷ []) (size e) s b (record { clean = c; rows = r .rows; made = r .made }) b′
@@ -105,7 +102,7 @@ module _ (t : Table) (T limit : ℕ) where
       }
 
   -- the same annotations, and room for more
-  pub added-as : (l l′ : List InheritedAnnotation) (k k′ : ℕ) (s : Told) (b : List ℕ) (r : Told) (b′ : List ℕ) → l ≡ l′ → k ≤ k′ → Added t T limit l k s b r b′ →
+  pub added-as : (l l′ : List InheritedAnnotation) (k k′ : ℕ) (s : TypeReached) (b : List ℕ) (r : TypeReached) (b′ : List ℕ) → l ≡ l′ → k ≤ k′ → Added t T limit l k s b r b′ →
       Added t T limit l′ k′ s b r b′
   added-as l l′ k k′ s b r b′ e h x =
       let f : interpretedOf t T l (s .made) ≡ interpretedOf t T l′ (s .made) = ap (λ z. interpretedOf t T z (s .made)) e in
@@ -126,7 +123,7 @@ module _ (t : Table) (T limit : ℕ) where
   pub nothing-room : (made : Makings) (n : ℕ) → made .count ≡ 0 → n ≤ 380 → Room t T made n
   nothing-room made n e h = record { holding = record { room = omega arith; fits = λ i l. absurd (omega (arith, e, l)) }; room = omega arith }
 
-  pub type-done : (o : OwnAssociates) (h : Inherited) (n : ℕ) (made : Makings) (b b′ : List ℕ) (r : Told) (k : ℕ) → made .count ≡ 0 →
+  pub type-done : (o : OwnAssociates) (h : Inherited) (n : ℕ) (made : Makings) (b b′ : List ℕ) (r : TypeReached) (k : ℕ) → made .count ≡ 0 →
       Added t T limit (ownEntriesIn o ++ inheritedOf (typeNames t) h) k (record { clean = true; rows = n; made = made }) b r b′ →
       TypeDone t T o h limit n b (record { rows = r .rows; clean = r .clean }) b′
   unfolding interpretedAt
@@ -141,6 +138,6 @@ module _ (t : Table) (T limit : ℕ) where
 
   pub type-nothing : (o : OwnAssociates) (h : Inherited) (n : ℕ) (b : List ℕ) → o .count ≡ 0 → h .list .count ≡ 0 → TypeDone t T o h limit n b (record { rows = n; clean = true }) b
   type-nothing o h n b e d =
-      let none : Makings = record { count = 0; words = []; doms = []; parents = [] } in
-      let s : Told = record { clean = true; rows = n; made = none } in
+      let none : Makings = record { count = 0; numbers = [] } in
+      let s : TypeReached = record { clean = true; rows = n; made = none } in
       type-done o h n none b b s 0 refl (added-as [] (ownEntriesIn o ++ inheritedOf (typeNames t) h) 0 0 s b s b (no-annotations o h e d) (omega arith) (added-none s b (nothing-room none 0 refl (omega arith) .holding)))

@@ -2,8 +2,8 @@
 use mathlib.Core.Bool.{true, false, _||_, not}
 use mathlib.Core.List.{List, [], _∷_}
 use mathlib.Core.Logic.{inl}
-use mathlib.Core.Path.{_≡_, refl, sym, _∙_, subst}
-use Prim.Native.Nat.{ℕ, zero, suc, _≤_, _<_}
+use mathlib.Core.Path.{_≡_, refl, sym, ap, _∙_, subst}
+use Prim.Native.Nat.{ℕ, zero, suc, _+_, _*_, _≤_, _<_}
 use native.Mathlib.Omega.{arith}
 use borrow.Author.Tests.{eqb-true}
 use lib.Dec.{eqb}
@@ -35,8 +35,8 @@ use Rattle.own_associates.specs.declared.OwnAssociates.{OwnAssociates}
 use Rattle.table.specs.Table.{declarationAt, tableMap}
 use Rattle.table.specs.Examples.{example, example-sound}
 use Rattle.synthetic.specs.Made.{namesIn, firstsOf, Fits}
-use Rattle.duplicates.specs.Held.{Holding}
-use Rattle.duplicates.specs.declared.Makings.{Makings}
+use Rattle.store.specs.Store.{rowAt}
+use Rattle.duplicates.specs.Held.{Makings, Holding}
 use Rattle.associates.specs.Step.{Ready}
 use Rattle.interpreting.specs.Entry.{EntryReady}
 use Rattle.interpreting.specs.Annotations.{OwnsFit, InheritedFits, TypeReady, typeNames, interpretedAt}
@@ -172,15 +172,53 @@ ready =
 
 -- ---- one word and one annotation, with as many makings as there can be before them
 
+-- the same making again and again
+unfoldable pub again : ℕ → List ℕ
+again zero = []
+again (suc n) = 199 ∷ last .a ∷ last .b ∷ last .c ∷ last .d ∷ 6 ∷ again n
+
+again-first : (n j : ℕ) → j < 6 → getD (again (suc n)) j 0 ≡ getD (again 1) j 0
+unfolding again
+again-first n zero h = refl
+again-first n (suc zero) h = refl
+again-first n (suc (suc zero)) h = refl
+again-first n (suc (suc (suc zero))) h = refl
+again-first n (suc (suc (suc (suc zero)))) h = refl
+again-first n (suc (suc (suc (suc (suc zero))))) h = refl
+again-first n (suc (suc (suc (suc (suc (suc j)))))) h = absurd (omega arith)
+
+again-at : (n i j k : ℕ) → i < n → j < 6 → k ≡ 6 * i + j → getD (again n) k 0 ≡ getD (again 1) j 0
+unfolding again
+again-at zero i j k h b e = absurd (omega arith)
+again-at (suc n) zero j k h b e = let z : k ≡ j = omega (arith, e) in ap (λ (q : ℕ). getD (again (suc n)) q 0) z ∙ again-first n j b
+again-at (suc n) (suc i) j k h b e =
+    let z : k ≡ suc (suc (suc (suc (suc (suc (6 * i + j)))))) = omega (arith, e) in
+    ap (λ (q : ℕ). getD (again (suc n)) q 0) z ∙ again-at n i j (6 * i + j) (omega arith) b refl
+
 abbrev makings : ℕ → Makings
-makings n = record { count = n; words = replicate 380 199; doms = replicate 380 last; parents = replicate 380 6 }
+makings n = record { count = n; numbers = again 380 }
+
+again-fits : Fits example 0 (getD (again 1) 0 0) (record { a = getD (again 1) 1 0; b = getD (again 1) 2 0; c = getD (again 1) 3 0; d = getD (again 1) 4 0 }) (getD (again 1) 5 0)
+unfolding again
+again-fits = last-inherited
 
 held : (n : ℕ) → n ≤ 380 → Holding example 0 (makings n)
+unfolding rowAt
 held n h =
     record {
       room = h;
       fits = λ i l.
-          rw (getD-replicate {A = ℕ} 380 i 199 0 (omega arith), getD-replicate 380 i last empty (omega arith), getD-replicate {A = ℕ} 380 i 6 0 (omega arith)) last-inherited;
+          let b : i < 380 = omega arith in
+          let at : (j k : ℕ) → j < 6 → k ≡ 6 * i + j → getD (again 380) k 0 ≡ getD (again 1) j 0 = λ j k. again-at 380 i j k b in
+          rw (
+            at 0 (6 * i) (omega arith) (omega arith),
+            at 1 (6 * i + 1) (omega arith) refl,
+            at 2 (6 * i + 1 + 1) (omega arith) (omega arith),
+            at 3 (6 * i + 1 + 2) (omega arith) (omega arith),
+            at 4 (6 * i + 1 + 3) (omega arith) (omega arith),
+            at 5 (6 * i + 5) (omega arith) refl,
+          )
+          again-fits;
     }
 
 pub word-ready : Ready example 0 199 last 6 4 (record { failed = false; ended = false; rows = 0; made = makings 379 }) (replicate 24 0)

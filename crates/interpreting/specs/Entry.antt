@@ -16,10 +16,8 @@ use Rattle.table.specs.declared.Table.{Table}
 use Rattle.table.specs.Table.{declarationAt, tableMap, Sound}
 use Rattle.synthetic.specs.Made.{namesIn, Fits}
 use Rattle.interpretation.specs.Emit.{emit}
-use Rattle.duplicates.specs.Held.{Holding}
-use Rattle.duplicates.specs.declared.Makings.{Makings}
-use Rattle.associates.specs.Step.{itemsHeld}
-use Rattle.associates.specs.declared.Progress.{Progress}
+use Rattle.duplicates.specs.Held.{Makings, Holding}
+use Rattle.associates.specs.Step.{Reached, itemsHeld}
 
 -- how many words it has
 abbrev pub size : Entry → ℕ
@@ -40,7 +38,7 @@ pub record EntryReady (t : Table) (T : ℕ) (e : Entry) (doms : List Row) (limit
   pub few : limit ≤ 256
 
 -- r is s behind it: `failed` where it added a row
-pub record EntryDone (t : Table) (T : ℕ) (e : Entry) (doms : List Row) (limit : ℕ) (s : Progress) (b : List ℕ) (r : Progress) (b′ : List ℕ) : Type 0 where
+pub record EntryDone (t : Table) (T : ℕ) (e : Entry) (doms : List Row) (limit : ℕ) (s : Reached) (b : List ℕ) (r : Reached) (b′ : List ℕ) : Type 0 where
   pub rows : (b′, r .rows) ≡ emit limit (b, s .rows) (interpretEntry t T e doms (itemsHeld t T (s .made)) .rows)
   pub items : itemsHeld t T (r .made) ≡ interpretEntry t T e doms (itemsHeld t T (s .made)) .items
   pub failed : r .failed ≡ not (null (interpretEntry t T e doms (itemsHeld t T (s .made)) .rows))

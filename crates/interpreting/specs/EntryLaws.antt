@@ -27,10 +27,9 @@ use Rattle.synthetic.specs.MadeLaws.{between-step, between-end}
 use Rattle.interpretation.specs.Emit.{emit, emit-append}
 use Rattle.interpretation.specs.Judged.{isUnknown, isOther}
 use Rattle.duplicates.specs.Held.{Holding}
-use Rattle.associates.specs.Step.{rowsIn, failsIn, itemsHeld, verdictOf, Stepped}
+use Rattle.associates.specs.Step.{Reached, rowsIn, failsIn, itemsHeld, verdictOf, Stepped}
 use Rattle.associates.specs.StepLaws.{no-rows}
 use Rattle.associates.specs.Words.{from, words-step}
-use Rattle.associates.specs.declared.Progress.{Progress}
 use Rattle.interpreting.specs.Entry.{interpretEntry, size, EntryDone}
 
 -- ---- how many words there are
@@ -92,14 +91,14 @@ verdict-rows t T r doms ps f is L =
 -- ---- what is left of an annotation
 
 -- from the word w on, nothing once it ended
-unfoldable pub leftOf : Table → ℕ → Entry → List Row → ℕ → Progress → Interpreted
+unfoldable pub leftOf : Table → ℕ → Entry → List Row → ℕ → Reached → Interpreted
 leftOf t T e doms w p =
     cond (p .ended)
     (interpreted [] (itemsHeld t T (p .made)))
     (interpretWords (tableMap t) (declarationAt t T) (namesIn t (e .parents)) (resourcesFrom (tableOf doms) (e .words) w) (p .failed) (itemsHeld t T (p .made)))
 
 -- p stands before the word w, with what is left the same comes of it
-pub record Onward (t : Table) (T : ℕ) (e : Entry) (doms : List Row) (limit : ℕ) (s : Progress) (b : List ℕ) (w : ℕ) (p : Progress) (b′ : List ℕ) : Type 0 where
+pub record Onward (t : Table) (T : ℕ) (e : Entry) (doms : List Row) (limit : ℕ) (s : Reached) (b : List ℕ) (w : ℕ) (p : Reached) (b′ : List ℕ) : Type 0 where
   pub same : length b′ ≡ length b
   pub rows : emit limit (b′, p .rows) (leftOf t T e doms w p .rows) ≡ emit limit (b, s .rows) (interpretEntry t T e doms (itemsHeld t T (s .made)) .rows)
   pub items : leftOf t T e doms w p .items ≡ interpretEntry t T e doms (itemsHeld t T (s .made)) .items
@@ -108,12 +107,12 @@ pub record Onward (t : Table) (T : ℕ) (e : Entry) (doms : List Row) (limit : �
   pub count : p .made .count ≤ s .made .count + many (has (e .words)) w
 
 module _ (t : Table) (T : ℕ) (e : Entry) (doms : List Row) where
-  left-start : (s : Progress) → leftOf t T e doms 0 (record { failed = false; ended = false; rows = s .rows; made = s .made }) ≡ interpretEntry t T e doms (itemsHeld t T (s .made))
+  left-start : (s : Reached) → leftOf t T e doms 0 (record { failed = false; ended = false; rows = s .rows; made = s .made }) ≡ interpretEntry t T e doms (itemsHeld t T (s .made))
   unfolding leftOf interpretEntry
   left-start s =
       ap (λ us. interpretWords (tableMap t) (declarationAt t T) (namesIn t (e .parents)) us false (itemsHeld t T (s .made))) (from-start (tableOf doms) (e .words))
 
-  left-skipped : (w : ℕ) (p : Progress) → w < 200 → (has (e .words) w && not (p .ended)) ≡ false → leftOf t T e doms w p ≡ leftOf t T e doms (w + 1) p
+  left-skipped : (w : ℕ) (p : Reached) → w < 200 → (has (e .words) w && not (p .ended)) ≡ false → leftOf t T e doms w p ≡ leftOf t T e doms (w + 1) p
   unfolding leftOf
   left-skipped w p h q =
       by (p .ended)
@@ -123,7 +122,7 @@ module _ (t : Table) (T : ℕ) (e : Entry) (doms : List Row) where
       (ap (λ us. interpretWords (tableMap t) (declarationAt t T) (namesIn t (e .parents)) us (p .failed) (itemsHeld t T (p .made)))
       (from-skipped (tableOf doms) (e .words) w h (by (has (e .words) w) (λ y. never (rw (y, x)) q) (λ y. y)))))
 
-  left-taken : (limit w : ℕ) (p : Progress) (b : List ℕ) (q : Progress) (b′ : List ℕ) → w < 200 → has (e .words) w ≡ true → p .ended ≡ false →
+  left-taken : (limit w : ℕ) (p : Reached) (b : List ℕ) (q : Reached) (b′ : List ℕ) → w < 200 → has (e .words) w ≡ true → p .ended ≡ false →
       Stepped t T w (tableOf doms w) (e .parents) limit p b q b′ →
       leftOf t T e doms w p
       ≡ behindRows (rowsIn (declarationAt t T) w (verdictOf t T w (tableOf doms w) (e .parents) (p .failed) (itemsHeld t T (p .made)))) (leftOf t T e doms (w + 1) q)
@@ -135,11 +134,11 @@ module _ (t : Table) (T : ℕ) (e : Entry) (doms : List Row) where
       rw (y, from-taken (tableOf doms) (e .words) w h x, st .ended, st .failed, st .items)
       (words-step (tableMap t) D (namesIn t (e .parents)) (at (tableOf doms) w) us (p .failed) is)
 
-  left-end : (w : ℕ) (p : Progress) → 200 ≤ w → leftOf t T e doms w p ≡ interpreted [] (itemsHeld t T (p .made))
+  left-end : (w : ℕ) (p : Reached) → 200 ≤ w → leftOf t T e doms w p ≡ interpreted [] (itemsHeld t T (p .made))
   unfolding leftOf interpretWords
   left-end w p h = by (p .ended) (λ x. rw x) (λ x. rw (x, from-end (tableOf doms) (e .words) w h))
 
-  pub onward-start : (limit : ℕ) (s : Progress) (b : List ℕ) → Holding t T (s .made) →
+  pub onward-start : (limit : ℕ) (s : Reached) (b : List ℕ) → Holding t T (s .made) →
       Onward t T e doms limit s b 0 (record { failed = false; ended = false; rows = s .rows; made = s .made }) b
   onward-start limit s b h =
       let x = left-start s in
@@ -152,7 +151,7 @@ module _ (t : Table) (T : ℕ) (e : Entry) (doms : List Row) where
         count = omega arith;
       }
 
-  module _ (limit : ℕ) (s : Progress) (b : List ℕ) (w : ℕ) (p : Progress) (b′ : List ℕ) (o : Onward t T e doms limit s b w p b′) where
+  module _ (limit : ℕ) (s : Reached) (b : List ℕ) (w : ℕ) (p : Reached) (b′ : List ℕ) (o : Onward t T e doms limit s b w p b′) where
     pub onward-skipped : w < 200 → (has (e .words) w && not (p .ended)) ≡ false → Onward t T e doms limit s b (w + 1) p b′
     onward-skipped h q =
         let x = sym (left-skipped w p h q) in
@@ -165,7 +164,7 @@ module _ (t : Table) (T : ℕ) (e : Entry) (doms : List Row) where
           count = omega (arith, o .count, many-upto (has (e .words)) w (w + 1) (omega arith));
         }
 
-    pub onward-taken : (q : Progress) (b″ : List ℕ) → w < 200 → (has (e .words) w && not (p .ended)) ≡ true → length b″ ≡ length b′ →
+    pub onward-taken : (q : Reached) (b″ : List ℕ) → w < 200 → (has (e .words) w && not (p .ended)) ≡ true → length b″ ≡ length b′ →
         Stepped t T w (tableOf doms w) (e .parents) limit p b′ q b″ → Onward t T e doms limit s b (w + 1) q b″
     onward-taken q b″ h z k st =
         let y : has (e .words) w ≡ true = and-left (has (e .words) w) (not (p .ended)) z in

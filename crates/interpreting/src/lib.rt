@@ -3,7 +3,6 @@ use annotations::AnnotationInfo;
 use associates::Progress;
 use dedup::Entry;
 use dedup::Inherited;
-use duplicates::Makings;
 use own_associates::OwnAssociates;
 use rows::Row;
 use table::Table;
@@ -13,14 +12,16 @@ ghost use mathlib.Core.Path.{_≡_};
 ghost use Prim.Native.Nat.{_<_};
 ghost use Rattle.rows.specs.Rows.{has};
 ghost use Rattle.dedup.specs.Reading.{inheritedOf, noDoms};
+ghost use Rattle.duplicates.specs.Held.{makingsIn};
+ghost use Rattle.associates.specs.Step.{reached};
 ghost use Rattle.interpreting.specs.Entry.{EntryReady, EntryDone};
-ghost use Rattle.interpreting.specs.Annotations.{typeNames, plainOf, ownEntriesIn, Added, WithEntry, Ground, Room, OwnFits, OwnsFit, InheritedFits, TypeReady, TypeDone};
+ghost use Rattle.interpreting.specs.Annotations.{typeReached, typeNames, plainOf, ownEntriesIn, Added, WithEntry, Ground, Room, OwnFits, OwnsFit, InheritedFits, TypeReady, TypeDone};
 
-// How far a type is: whether it added no row, the count of rows, and its makings.
+// How far a type is: whether it added no row, the count of rows, and that of its makings.
 pub struct Told {
     pub clean: bool,
     pub rows: usize,
-    pub made: Makings,
+    pub made: usize,
 }
 
 // What a type came to: the count of rows, and whether it added none.
@@ -47,26 +48,26 @@ pub fn interpret_entry(
     e: Entry,
     doms: [Row; 200],
     s: Progress,
+    made: &mut [u64; 2280],
     buf: &mut [u8],
     limit: usize,
 ) -> Progress
-    requires { ⌜ EntryReady t place e doms limit (s .made) (now buf) ⌝ }
-    ensures { λ r. ⌜ EntryDone t place e doms limit s (now (buf .entry)) r (now (buf .exit)) ⌝ }
+    requires { ⌜ EntryReady t place e doms limit (makingsIn (now made) (s .made)) (now buf) ⌝ }
+    ensures { λ r. ⌜ EntryDone t place e doms limit (reached s (now (made .entry))) (now (buf .entry)) (reached r (now (made .exit))) (now (buf .exit)) ⌝ }
 {
     let words = e.words;
     let parents = e.parents;
-    let made = s.made;
     let mut p = Progress {
         failed: false,
         ended: false,
         rows: s.rows,
-        made: made,
+        made: s.made,
     };
     let mut w: usize = 0;
     while w < 200 {
         if is_due(words, w, p.ended) {
             let d = doms[w];
-            p = associates::interpret_word(t, place, w as u8, d, parents, p, buf, limit);
+            p = associates::interpret_word(t, place, w as u8, d, parents, p, made, buf, limit);
         }
         w += 1;
     }
@@ -90,26 +91,25 @@ fn with_entry(
     e: Entry,
     doms: [Row; 200],
     s: Told,
+    made: &mut [u64; 2280],
     buf: &mut [u8],
     limit: usize,
 ) -> Told
-    requires { ⌜ EntryReady t place e doms limit (s .made) (now buf) ⌝ }
-    ensures { λ r. ⌜ WithEntry t place e doms limit s (now (buf .entry)) r (now (buf .exit)) ⌝ }
+    requires { ⌜ EntryReady t place e doms limit (makingsIn (now made) (s .made)) (now buf) ⌝ }
+    ensures { λ r. ⌜ WithEntry t place e doms limit (typeReached s (now (made .entry))) (now (buf .entry)) (typeReached r (now (made .exit))) (now (buf .exit)) ⌝ }
 {
-    let made = s.made;
     let p = Progress {
         failed: false,
         ended: false,
         rows: s.rows,
-        made: made,
+        made: s.made,
     };
-    let r = interpret_entry(t, place, e, doms, p, buf, limit);
-    let more = r.made;
+    let r = interpret_entry(t, place, e, doms, p, made, buf, limit);
     let clean = still_clean(s.clean, r.failed);
     Told {
         clean: clean,
         rows: r.rows,
-        made: more,
+        made: r.made,
     }
 }
 
@@ -127,12 +127,13 @@ fn interpret_own(
     place: usize,
     a: AnnotationInfo,
     s: Told,
+    made: &mut [u64; 2280],
     buf: &mut [u8],
     limit: usize,
 ) -> Told
     requires { ⌜ Ground t place limit (now buf) ⌝ }
-    requires { ⌜ OwnFits t place a × Room t place (s .made) 15 ⌝ }
-    ensures { λ r. ⌜ Added t place limit (plainOf (a ∷ [])) 15 s (now (buf .entry)) r (now (buf .exit)) ⌝ }
+    requires { ⌜ OwnFits t place a × Room t place (makingsIn (now made) (s .made)) 15 ⌝ }
+    ensures { λ r. ⌜ Added t place limit (plainOf (a ∷ [])) 15 (typeReached s (now (made .entry))) (now (buf .entry)) (typeReached r (now (made .exit))) (now (buf .exit)) ⌝ }
 {
     if a.kind != 1 {
         return s;
@@ -144,7 +145,7 @@ fn interpret_own(
         words: words,
         parents: 0,
     };
-    with_entry(t, place, e, doms, s, buf, limit)
+    with_entry(t, place, e, doms, s, made, buf, limit)
 }
 
 // 'Own annotations go first', in their order.
@@ -153,12 +154,13 @@ fn interpret_owns(
     place: usize,
     own: OwnAssociates,
     s: Told,
+    made: &mut [u64; 2280],
     buf: &mut [u8],
     limit: usize,
 ) -> Told
     requires { ⌜ Ground t place limit (now buf) ⌝ }
-    requires { ⌜ OwnsFit t place own × Room t place (s .made) 180 ⌝ }
-    ensures { λ r. ⌜ Added t place limit (ownEntriesIn own) 180 s (now (buf .entry)) r (now (buf .exit)) ⌝ }
+    requires { ⌜ OwnsFit t place own × Room t place (makingsIn (now made) (s .made)) 180 ⌝ }
+    ensures { λ r. ⌜ Added t place limit (ownEntriesIn own) 180 (typeReached s (now (made .entry))) (now (buf .entry)) (typeReached r (now (made .exit))) (now (buf .exit)) ⌝ }
 {
     let count = own.count;
     let items = own.items;
@@ -166,7 +168,7 @@ fn interpret_owns(
     let mut i: usize = 0;
     while i < count {
         let a = items[i];
-        p = interpret_own(t, place, a, p, buf, limit);
+        p = interpret_own(t, place, a, p, made, buf, limit);
         i += 1;
     }
     p
@@ -178,12 +180,13 @@ fn interpret_inherited(
     place: usize,
     h: Inherited,
     s: Told,
+    made: &mut [u64; 2280],
     buf: &mut [u8],
     limit: usize,
 ) -> Told
     requires { ⌜ Ground t place limit (now buf) ⌝ }
-    requires { ⌜ InheritedFits t place h × Room t place (s .made) 200 ⌝ }
-    ensures { λ r. ⌜ Added t place limit (inheritedOf (typeNames t) h) 200 s (now (buf .entry)) r (now (buf .exit)) ⌝ }
+    requires { ⌜ InheritedFits t place h × Room t place (makingsIn (now made) (s .made)) 200 ⌝ }
+    ensures { λ r. ⌜ Added t place limit (inheritedOf (typeNames t) h) 200 (typeReached s (now (made .entry))) (now (buf .entry)) (typeReached r (now (made .exit))) (now (buf .exit)) ⌝ }
 {
     let list = h.list;
     let count = list.count;
@@ -193,23 +196,10 @@ fn interpret_inherited(
     let mut i: usize = 0;
     while i < count {
         let e = items[i];
-        p = with_entry(t, place, e, doms, p, buf, limit);
+        p = with_entry(t, place, e, doms, p, made, buf, limit);
         i += 1;
     }
     p
-}
-
-// No makings.
-fn no_makings() -> Makings
-    ensures { λ r. ⌜ r .count ≡ 0 ⌝ }
-{
-    let none = rows::empty_row();
-    Makings {
-        count: 0,
-        words: [0u8; 380],
-        doms: [none; 380],
-        parents: [0u64; 380],
-    }
 }
 
 // All annotations of the type at a place: its own associates, and what it inherits. The rows go behind the first n.
@@ -233,14 +223,14 @@ pub fn interpret_type(
             };
         }
     }
-    let made = no_makings();
+    let mut made = [0u64; 2280];
     let s = Told {
         clean: true,
         rows: n,
-        made: made,
+        made: 0,
     };
-    let p = interpret_owns(t, place, own, s, buf, limit);
-    let r = interpret_inherited(t, place, h, p, buf, limit);
+    let p = interpret_owns(t, place, own, s, &mut made, buf, limit);
+    let r = interpret_inherited(t, place, h, p, &mut made, buf, limit);
     Interpreted {
         rows: r.rows,
         clean: r.clean,

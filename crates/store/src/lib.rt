@@ -9,7 +9,7 @@ ghost use lib.ListN.{length, getD};
 ghost use Rattle.store.specs.Store.{rowAt, entryAt, putRow, putEntry, EntriesAt, DomsAt, PutEntries, PutDoms, Holds, Stores};
 
 // The row at a place.
-fn row_at(s: &[u64], at: usize) -> Row
+pub fn row_at(s: &[u64], at: usize) -> Row
     requires { ⌜ (at + 4 ≤ length (now s)) × (length (now s) < 1000000) ⌝ }
     ensures { λ r. ⌜ r ≡ rowAt (now (s .entry)) at ⌝ }
 {
@@ -103,7 +103,7 @@ pub fn fetch(s: &[u64], t: usize) -> Inherited
 }
 
 // A row put at a place.
-fn put_row(s: &mut [u64], at: usize, r: Row)
+pub fn put_row(s: &mut [u64], at: usize, r: Row)
     requires { ⌜ (at + 4 ≤ length (now s)) × (length (now s) < 1000000) ⌝ }
     ensures { λ _. ⌜ now (s .exit) ≡ putRow (now (s .entry)) at r ⌝ }
 {

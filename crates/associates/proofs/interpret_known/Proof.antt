@@ -8,6 +8,7 @@ use Rattle.table.specs.Table.{declarationAt}
 use Rattle.synthetic.specs.Made.{classesOf}
 use Rattle.interpretation.specs.Judged.{className, isOther}
 use Rattle.associates.specs.Step.{itemsHeld}
+use Rattle.duplicates.specs.Held.{makingsIn}
 use Rattle.associates.specs.StepLaws.{verdict-other, verdict-last, counted, row-one, row-none, no-rows, named-at, by-verdict, duplicate-same}
 use borrow.Author.Needs.{needs}
 use Rattle.associates.proofs.interpret_known.Statement.{statement}
@@ -15,7 +16,7 @@ use Rattle.associates.proofs.interpret_known.Tie as tie
 use Rattle.associates.proofs.interpret_known.Reads as reads
 use Rattle.associates.proofs.interpret_known.Lts as lts
 use Rattle.duplicates.proofs.is_duplicate.Reads as is-duplicate-reads
-use Rattle.duplicates.proofs.with_making.Reads as with-making-reads
+use Rattle.duplicates.proofs.put_making.Reads as put-making-reads
 use Rattle.interpretation.proofs.first_other.Reads as first-other-reads
 use Rattle.interpretation.proofs.put_row.Reads as put-row-reads
 use Rattle.synthetic.proofs.create_synthetic_resource.Reads as create-synthetic-resource-reads
@@ -48,13 +49,13 @@ same-length c = search needs
 -- src/lib.rt:37:9
 returns : tie.Need-returns
 returns c =
-    let s = c .before .before .before .before .before .before .before .before .before .before .before in
+    let s = c .before .before .before .before .before .before .before .before .before .before in
     let a = s .args in
     let o = c .before .before .before .before .before .before .first-other in
     let q : firstOf (isOther (a .t1)) (classesOf (a .doms) (a .word)) ≡ className (a .word) (o .result) ∷ [] =
     o .ensures .0 ∙ ap (λ b. cond b (className (a .word) (o .result) ∷ []) []) (lt-ltb (o .result) 201 (c .before .before .before .before .before .if1 .taken)) in
     by-verdict
-    (verdict-other (a .t1) (a .place) (a .word) (a .doms) (a .parents) (a .s .failed) (itemsHeld (a .t1) (a .place) (a .s .made)) (className (a .word) (o .result)) (s .pre .1 .0) (s .pre .1 .1) q)
+    (verdict-other (a .t1) (a .place) (a .word) (a .doms) (a .parents) (a .s .failed) (itemsHeld (a .t1) (a .place) (makingsIn (a .made .now) (a .s .made))) (className (a .word) (o .result)) (s .pre .1 .0) (s .pre .1 .1) q)
     (record {
       rows = row-one (a .limit) 5 (declarationAt (a .t1) (a .place)) (a .word) _ _ _ _ (className (a .word) (o .result)) _ _ (named-at (a .t1) (a .place)) (sym (c .before .before .before .before .class-name .ensures)) (c .before .before .put-row .ensures);
       ended = refl;
@@ -74,7 +75,7 @@ is-duplicate-requires c κs =
     let s = c .before .before .before .before .before .before .before in
     let a = s .args in
     let f = s .pre .0 .fits in
-    let k = counted (a .t1) (a .place) (a .word) (a .doms) (a .parents) (c .create-synthetic-resource .result) f (c .create-synthetic-resource .ensures) in
+    let k = counted (a .t1) (a .place) (a .word) (a .doms) (a .parents) (c .before .create-synthetic-resource .result) f (c .before .create-synthetic-resource .ensures) in
     (s .pre .0 .sound, (s .pre .0 .holding, (f .place, omega (arith, k .word, f .word), k .parents, k .marks)))
 
 -- src/lib.rt:50:13
@@ -90,13 +91,13 @@ returns-2 : tie.Need-returns-2
 returns-2 c =
     let s = c .before .before .before .before .before .before .before .before .before .before .before .before .before in
     let a = s .args in
-    let n = c .before .before .before .before .before .before .create-synthetic-resource in
-    let o = c .before .before .before .before .before .before .before .before .first-other in
+    let n = c .before .before .before .before .before .before .before .create-synthetic-resource in
+    let o = c .before .before .before .before .before .before .before .before .before .first-other in
     let k = counted (a .t1) (a .place) (a .word) (a .doms) (a .parents) (n .result) (s .pre .0 .fits) (n .ensures) in
     let q : firstOf (isOther (a .t1)) (classesOf (a .doms) (a .word)) ≡ [] =
-    o .ensures .0 ∙ ap (λ b. cond b (className (a .word) (o .result) ∷ []) []) (le-ltb (o .result) 201 (c .before .before .before .before .before .before .before .if1 .left)) in
+    o .ensures .0 ∙ ap (λ b. cond b (className (a .word) (o .result) ∷ []) []) (le-ltb (o .result) 201 (c .before .before .before .before .before .before .before .before .if1 .left)) in
     by-verdict
-    (verdict-last (a .t1) (a .place) (a .word) (a .doms) (a .parents) (a .s .failed) (itemsHeld (a .t1) (a .place) (a .s .made)) true (s .pre .1 .0) (s .pre .1 .1) q
+    (verdict-last (a .t1) (a .place) (a .word) (a .doms) (a .parents) (a .s .failed) (itemsHeld (a .t1) (a .place) (makingsIn (a .made .now) (a .s .made))) true (s .pre .1 .0) (s .pre .1 .1) q
     (duplicate-same _ _ _ _ _ _ _ _ _ (c .before .before .before .before .before .is-duplicate .ensures) (k .word) (n .ensures) (c .before .before .before .before .if2 .taken)))
     (record {
       rows = row-none (a .limit) 6 (declarationAt (a .t1) (a .place)) (a .word) _ _ _ _ (named-at (a .t1) (a .place)) (c .before .before .put-row2 .ensures);
@@ -108,29 +109,32 @@ returns-2 c =
     })
 
 -- src/lib.rt:58:9
-with-making-requires : tie.Need-with-making-requires
-with-making-requires c κs = search needs
+put-making-requires : tie.Need-put-making-requires
+put-making-requires c κs = search needs
+
+add-t36 : tie.Need-add-t36
+add-t36 c = search needs
 
 -- src/lib.rt:22:1
 returns-3 : tie.Need-returns-3
 returns-3 c =
-    let s = c .before .before .before .before .before .before .before .before .before .before in
+    let s = c .before .before .before .before .before .before .before .before .before .before .before in
     let a = s .args in
-    let n = c .before .before .before .create-synthetic-resource in
-    let o = c .before .before .before .before .before .first-other in
+    let n = c .before .before .before .before .before .create-synthetic-resource in
+    let o = c .before .before .before .before .before .before .before .first-other in
     let k = counted (a .t1) (a .place) (a .word) (a .doms) (a .parents) (n .result) (s .pre .0 .fits) (n .ensures) in
     let q : firstOf (isOther (a .t1)) (classesOf (a .doms) (a .word)) ≡ [] =
-    o .ensures .0 ∙ ap (λ b. cond b (className (a .word) (o .result) ∷ []) []) (le-ltb (o .result) 201 (c .before .before .before .before .if1 .left)) in
+    o .ensures .0 ∙ ap (λ b. cond b (className (a .word) (o .result) ∷ []) []) (le-ltb (o .result) 201 (c .before .before .before .before .before .before .if1 .left)) in
     by-verdict
-    (verdict-last (a .t1) (a .place) (a .word) (a .doms) (a .parents) (a .s .failed) (itemsHeld (a .t1) (a .place) (a .s .made)) false (s .pre .1 .0) (s .pre .1 .1) q
-    (duplicate-same _ _ _ _ _ _ _ _ _ (c .before .before .is-duplicate .ensures) (k .word) (n .ensures) (c .before .if2 .left)))
+    (verdict-last (a .t1) (a .place) (a .word) (a .doms) (a .parents) (a .s .failed) (itemsHeld (a .t1) (a .place) (makingsIn (a .made .now) (a .s .made))) false (s .pre .1 .0) (s .pre .1 .1) q
+    (duplicate-same _ _ _ _ _ _ _ _ _ (c .before .before .before .is-duplicate .ensures) (k .word) (n .ensures) (c .before .before .if2 .left)))
     (record {
       rows = no-rows (a .limit) _;
       ended = refl;
       failed = refl;
-      items = c .with-making .ensures .items (a .t1) (a .place);
-      holding = c .with-making .ensures .holding (a .t1) (a .place) (s .pre .0 .holding) (s .pre .0 .fits);
-      count = omega (arith, c .with-making .ensures .count);
+      items = c .put-making .ensures .items (a .t1) (a .place);
+      holding = c .put-making .ensures .holding (a .t1) (a .place) (s .pre .0 .holding) (s .pre .0 .fits);
+      count = omega (arith, c .put-making .ensures .count);
     })
 
 pub interpret-known-spec : {M : Type 1} → statement M
@@ -149,5 +153,6 @@ interpret-known-spec =
     put-row-requires-2
     same-length-2
     returns-2
-    with-making-requires
+    put-making-requires
+    add-t36
     returns-3)

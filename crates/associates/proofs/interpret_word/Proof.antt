@@ -1,6 +1,7 @@
 use mathlib.Core.Path.{refl, sym, _∙_}
 use native.Mathlib.Omega.{arith}
 use Rattle.associates.specs.Step.{itemsHeld}
+use Rattle.duplicates.specs.Held.{makingsIn}
 use Rattle.associates.specs.StepLaws.{verdict-unknown, verdict-ends, no-rows, by-verdict}
 use borrow.Author.Needs.{needs}
 use Rattle.associates.proofs.interpret_word.Statement.{statement}
@@ -18,15 +19,16 @@ all-known-requires c κs = search needs
 -- src/lib.rt:77:13
 returns : tie.Need-returns
 returns c =
-    let s = c .before .before .before .before .before in
+    let s = c .before .before .before .before in
     let a = s .args in
     by-verdict
-    (verdict-ends (a .t) (a .place) (a .word) (a .doms) (a .parents) (a .s .failed) (itemsHeld (a .t) (a .place) (a .s .made)) (sym (c .before .before .before .all-known .ensures) ∙ c .before .before .if1 .taken) (c .before .if2 .taken))
+    (verdict-ends (a .t) (a .place) (a .word) (a .doms) (a .parents) (a .s .failed) (itemsHeld (a .t) (a .place) (makingsIn (a .made .now) (a .s .made))) (sym (c .before .before .all-known .ensures) ∙ c .before .if1 .taken) (c .if2 .taken))
     (record { rows = no-rows (a .limit) _; ended = refl; failed = refl; items = refl; holding = s .pre .holding; count = omega arith })
 
 -- src/lib.rt:84:9
 interpret-known-requires : tie.Need-interpret-known-requires
-interpret-known-requires c κs = (c .before .before .before .before .before .pre, (sym (c .before .before .before .all-known .ensures) ∙ c .before .before .if1 .taken, c .before .if2 .left))
+interpret-known-requires c κs =
+    (c .before .before .before .before .before .before .pre, (sym (c .before .before .before .before .all-known .ensures) ∙ c .before .before .before .if1 .taken, c .before .before .if2 .left))
 
 -- src/lib.rt:84:9
 same-length : tie.Need-same-length
@@ -47,11 +49,11 @@ same-length-2 c = search needs
 -- src/lib.rt:69:1
 returns-3 : tie.Need-returns-3
 returns-3 c =
-    let s = c .before .before .before .before .before .before .before .before in
+    let s = c .before .before .before .before .before .before .before in
     let a = s .args in
     by-verdict
-    (verdict-unknown (a .t) (a .place) (a .word) (a .doms) (a .parents) (a .s .failed) (itemsHeld (a .t) (a .place) (a .s .made)) (sym (c .before .before .before .before .before .before .all-known .ensures) ∙ c .before .before .before .before .before .if1 .left))
-    (record { rows = c .before .before .before .unknown-rows .ensures; ended = refl; failed = refl; items = refl; holding = s .pre .holding; count = omega arith })
+    (verdict-unknown (a .t) (a .place) (a .word) (a .doms) (a .parents) (a .s .failed) (itemsHeld (a .t) (a .place) (makingsIn (a .made .now) (a .s .made))) (sym (c .before .before .before .before .before .all-known .ensures) ∙ c .before .before .before .before .if1 .left))
+    (record { rows = c .before .before .unknown-rows .ensures; ended = refl; failed = refl; items = refl; holding = s .pre .holding; count = omega arith })
 
 pub interpret-word-spec : {M : Type 1} → statement M
 interpret-word-spec =

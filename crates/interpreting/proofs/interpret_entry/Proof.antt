@@ -4,6 +4,7 @@ use Prim.Native.Nat.{_-_, _≤_, _<_}
 use native.Mathlib.Omega.{arith}
 use borrow.Author.Needs.{needs}
 use Rattle.rows.specs.Lists.{and-left}
+use Rattle.associates.specs.Step.{reached}
 use Rattle.interpreting.specs.EntryLaws.{Onward, onward-start, onward-skipped, onward-taken, onward-room, onward-end}
 use Rattle.interpreting.proofs.interpret_entry.Statement.{statement}
 use Rattle.interpreting.proofs.interpret_entry.Tie as tie
@@ -13,87 +14,88 @@ use Rattle.associates.proofs.interpret_word.Reads as interpret-word-reads
 use Rattle.interpreting.proofs.is_due.Reads as is-due-reads
 
 abbrev Inv-loop : tie.InvT-loop
-Inv-loop t place buf₀ limit doms words parents p₀ w₀ buf p w = (w ≤ 200) × Onward t place (record { words = words; parents = parents }) doms limit p₀ buf₀ w p buf
+Inv-loop t place made₀ buf₀ limit doms words parents p₀ w₀ made buf p w =
+    (w ≤ 200) × Onward t place (record { words = words; parents = parents }) doms limit (reached p₀ made₀) buf₀ w (reached p made) buf
 
 abbrev μ-loop : tie.MeasureT-loop
-μ-loop t place buf₀ limit doms words parents p₀ w₀ buf p w = 200 - w
+μ-loop t place made₀ buf₀ limit doms words parents p₀ w₀ made buf p w = 200 - w
 
--- src/lib.rt:46:5
+-- src/lib.rt:67:5
 loop-holds : tie.Need-loop-holds Inv-loop μ-loop
-loop-holds c = (omega arith, onward-start _ _ _ _ _ _ _ (c .before .before .before .pre .holding))
+loop-holds c = (omega arith, onward-start _ _ _ _ _ _ _ (c .before .before .pre .holding))
 
--- src/lib.rt:47:12
+-- src/lib.rt:68:12
 is-due-requires : tie.Need-is-due-requires Inv-loop μ-loop
 is-due-requires c κs = search needs
 
--- src/lib.rt:48:21
+-- src/lib.rt:69:21
 mul-d : tie.Need-mul-d Inv-loop μ-loop
 mul-d c = search needs
 
--- src/lib.rt:48:21
+-- src/lib.rt:69:21
 array-copy-out-d : tie.Need-array-copy-out-d Inv-loop μ-loop
 array-copy-out-d c = search needs
 
--- src/lib.rt:49:54
+-- src/lib.rt:70:54
 cast-interpret-word : tie.Need-cast-interpret-word Inv-loop μ-loop
 cast-interpret-word c = search needs
 
--- src/lib.rt:49:13
+-- src/lib.rt:70:13
 interpret-word-requires : tie.Need-interpret-word-requires Inv-loop μ-loop
 interpret-word-requires c κs =
     let s = c .before .before .before .before .before .before .before .before .before in
     let a = s .args in
-    let l = c .before .before .before .before .before .loop in
+    let l = c .before .before .before .before .before .before .loop in
     let o = l .inv .1 in
     let h : l .w < 200 = omega arith in
-    let z = sym (c .before .before .before .is-due .ensures) ∙ c .before .before .if1 .taken in
+    let z = sym (c .before .before .before .before .is-due .ensures) ∙ c .before .before .before .if1 .taken in
     record {
       sound = s .pre .sound;
       fits = s .pre .fits (l .w) h (and-left _ _ z);
       holding = o .holding;
-      room = onward-room (a .t) (a .place) (a .e) (a .t4) (a .limit) _ (a .buf .now) (l .w) (l .p) (l .buf) o h z (s .pre .room);
+      room = onward-room (a .t) (a .place) (a .e) (a .t4) (a .limit) _ (a .buf .now) (l .w) (reached (l .p) (l .made)) (l .buf) o h z (s .pre .room);
       slice = omega (arith, o .same, s .pre .slice);
       few = s .pre .few;
     }
 
--- src/lib.rt:51:9
+-- src/lib.rt:72:9
 add-w : tie.Need-add-w Inv-loop μ-loop
 add-w c = search needs
 
--- src/lib.rt:46:5
+-- src/lib.rt:67:5
 loop-less : tie.Need-loop-less Inv-loop μ-loop
 loop-less c = search needs
 
--- src/lib.rt:46:5
+-- src/lib.rt:67:5
 loop-again : tie.Need-loop-again Inv-loop μ-loop
 loop-again c =
-    let s = c .before .before .before .before .before .before .before in
+    let s = c .before .before .before .before .before .before in
     let a = s .args in
     let l = c .before .before .before .loop in
     let h : l .w < 200 = omega arith in
     ⊎-elim
     (λ w.
-    rw (w .6, w .7) (
+    rw (w .7, w .8, w .9) (
       omega arith,
-      onward-taken (a .t) (a .place) (a .e) (a .t4) (a .limit) _ (a .buf .now) (l .w) (l .p) (l .buf) (l .inv .1) _ _ h (sym (c .before .is-due .ensures) ∙ w .0 .taken) (w .3 .kept .1 .1 .1 .1 .1 .1 .0) (w .3 .ensures),
+      onward-taken (a .t) (a .place) (a .e) (a .t4) (a .limit) _ (a .buf .now) (l .w) (reached (l .p) (l .made)) (l .buf) (l .inv .1) _ _ h (sym (c .before .is-due .ensures) ∙ w .0 .taken) (w .4 .kept .1 .1 .1 .1 .1 .1 .1 .0) (w .4 .ensures),
     ))
     (λ w.
-    rw (w .1, w .2) (
+    rw (w .1, w .2, w .3) (
       omega arith,
-      onward-skipped (a .t) (a .place) (a .e) (a .t4) (a .limit) _ (a .buf .now) (l .w) (l .p) (l .buf) (l .inv .1) h (sym (c .before .is-due .ensures) ∙ w .0 .left),
+      onward-skipped (a .t) (a .place) (a .e) (a .t4) (a .limit) _ (a .buf .now) (l .w) (reached (l .p) (l .made)) (l .buf) (l .inv .1) h (sym (c .before .is-due .ensures) ∙ w .0 .left),
     ))
     (c .if1 .came)
 
--- src/lib.rt:24:1
+-- src/lib.rt:45:1
 same-length : tie.Need-same-length Inv-loop μ-loop
 same-length c = c .before .loop .inv .1 .same
 
--- src/lib.rt:24:1
+-- src/lib.rt:45:1
 returns : tie.Need-returns Inv-loop μ-loop
 returns c =
-    let s = c .before .before .before .before .before in
+    let s = c .before .before .before .before in
     let l = c .before .loop in
-    let d = onward-end (s .args .t) (s .args .place) (s .args .e) (s .args .t4) (s .args .limit) _ (s .args .buf .now) (l .w) (l .p) (l .buf) (l .inv .1) (omega arith) (l .inv .0) in
+    let d = onward-end (s .args .t) (s .args .place) (s .args .e) (s .args .t4) (s .args .limit) _ (s .args .buf .now) (l .w) (reached (l .p) (l .made)) (l .buf) (l .inv .1) (omega arith) (l .inv .0) in
     record { rows = d .rows; items = d .items; failed = d .failed; holding = d .holding; count = d .count }
 
 pub interpret-entry-spec : {M : Type 1} → statement M

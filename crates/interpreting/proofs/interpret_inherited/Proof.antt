@@ -5,7 +5,7 @@ use lib.ListN.{length, take, getD}
 use Rattle.rows.specs.Lists.{length-mapped}
 use Rattle.dedup.specs.EntryLaws.{zeros}
 use Rattle.dedup.specs.Reading.{tableOf, read, readAll}
-use Rattle.interpreting.specs.Annotations.{typeNames, Added}
+use Rattle.interpreting.specs.Annotations.{typeReached, typeNames, Added}
 use Rattle.interpreting.specs.AnnotationsLaws.{added-none, added-then, added-as}
 use Rattle.interpreting.specs.InheritedLaws.{apart-items, inherited-all, read-resources, read-parents, total, total-none, total-most, total-more, total-room, read-step}
 use Rattle.interpreting.proofs.interpret_inherited.Statement.{statement}
@@ -15,11 +15,11 @@ use Rattle.interpreting.proofs.interpret_inherited.Lts as lts
 use Rattle.interpreting.proofs.with_entry.Reads as with-entry-reads
 
 abbrev Inv-loop : tie.InvT-loop
-Inv-loop t place buf₀ limit count items doms p₀ i₀ buf p i =
-    (i ≤ count) × (length buf ≡ length buf₀) × Added t place limit (readAll (typeNames t) (tableOf doms) (take i items)) (total (take i items)) p₀ buf₀ p buf
+Inv-loop t place made₀ buf₀ limit count items doms p₀ i₀ made buf p i =
+    (i ≤ count) × (length buf ≡ length buf₀) × Added t place limit (readAll (typeNames t) (tableOf doms) (take i items)) (total (take i items)) (typeReached p₀ made₀) buf₀ (typeReached p made) buf
 
 abbrev μ-loop : tie.MeasureT-loop
-μ-loop t place buf₀ limit count items doms p₀ i₀ buf p i = count - i
+μ-loop t place made₀ buf₀ limit count items doms p₀ i₀ made buf p i = count - i
 
 long : (s : tie.Start Inv-loop μ-loop) → length (s .args .h .list .items) ≡ 201
 long s = search length-mapped
@@ -43,9 +43,9 @@ array-copy-out-e c = omega (arith, c .before .before .before .before .before .be
 -- src/lib.rt:196:9
 with-entry-requires : tie.Need-with-entry-requires Inv-loop μ-loop
 with-entry-requires c κs =
-    let s = c .before .before .before .before .before .before .before .before in
+    let s = c .before .before .before .before .before .before .before .before .before in
     let a = s .args in
-    let l = c .before .before .before .loop in
+    let l = c .before .before .before .before .loop in
     let h : l .i < a .h .list .count = omega arith in
     let g = s .pre .0 in
     let n = long s in
@@ -63,7 +63,7 @@ with-entry-requires c κs =
 
 -- src/lib.rt:197:9
 add-i : tie.Need-add-i Inv-loop μ-loop
-add-i c = omega (arith, c .before .before .before .before .before .before .before .before .before .before .before .pre .1 .0 .good .kept .room)
+add-i c = omega (arith, c .before .before .before .before .before .before .before .before .before .before .before .before .pre .1 .0 .good .kept .room)
 
 -- src/lib.rt:194:5
 loop-less : tie.Need-loop-less Inv-loop μ-loop
@@ -72,17 +72,17 @@ loop-less c = omega arith
 -- src/lib.rt:194:5
 loop-again : tie.Need-loop-again Inv-loop μ-loop
 loop-again c =
-    let s = c .before .before .before .before .before .before .before .before .before .before .before in
+    let s = c .before .before .before .before .before .before .before .before .before .before .before .before in
     let a = s .args in
-    let l = c .before .before .before .before .before .before .loop in
+    let l = c .before .before .before .before .before .before .before .loop in
     let e = getD (a .h .list .items) (l .i) zeros in
     let D = tableOf (a .h .doms) in
     let n = long s in
     let p : l .i < length (a .h .list .items) = omega (arith, s .pre .1 .0 .good .kept .room) in (
       omega arith,
-      c .before .before .with-entry .kept .1 .1 .1 .1 .1 .0 ∙ l .inv .1,
-      added-as (a .t) (a .place) (a .limit) _ _ _ _ (a .s) (a .buf .now) _ _ (read-step (typeNames (a .t)) D (a .h .list .items) (l .i) p) (omega (arith, total-more (a .h .list .items) (l .i) p))
-          (added-then (a .t) (a .place) (a .limit) _ _ _ _ (a .s) (l .p) _ (a .buf .now) (l .buf) _ (l .inv .2)
+      c .before .before .with-entry .kept .1 .1 .1 .1 .1 .1 .0 ∙ l .inv .1,
+      added-as (a .t) (a .place) (a .limit) _ _ _ _ (typeReached (a .s) (a .made .now)) (a .buf .now) _ _ (read-step (typeNames (a .t)) D (a .h .list .items) (l .i) p) (omega (arith, total-more (a .h .list .items) (l .i) p))
+          (added-then (a .t) (a .place) (a .limit) _ _ _ _ (typeReached (a .s) (a .made .now)) (typeReached (l .p) (l .made)) _ (a .buf .now) (l .buf) _ (l .inv .2)
           (c .before .before .with-entry .ensures .added (read (typeNames (a .t)) D e) (read-resources (typeNames (a .t)) D e) (read-parents (a .t) D e))),
     )
 
@@ -97,7 +97,7 @@ returns c =
     let a = s .args in
     let l = c .before .loop in
     let e : l .i ≡ a .h .list .count = omega arith in
-    added-as (a .t) (a .place) (a .limit) _ _ _ 200 (a .s) (a .buf .now) (l .p) (l .buf) (inherited-all (typeNames (a .t)) (a .h) (l .i) e)
+    added-as (a .t) (a .place) (a .limit) _ _ _ 200 (typeReached (a .s) (a .made .now)) (a .buf .now) (typeReached (l .p) (l .made)) (l .buf) (inherited-all (typeNames (a .t)) (a .h) (l .i) e)
     (omega (arith, ap (λ (k : ℕ). total (take k (a .h .list .items))) e, total-most (take (a .h .list .count) (a .h .list .items)) (apart-items (a .h) (s .pre .1 .0 .good)))) (l .inv .2)
 
 pub interpret-inherited-spec : {M : Type 1} → statement M

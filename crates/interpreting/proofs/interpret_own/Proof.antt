@@ -1,7 +1,7 @@
 use mathlib.Core.Path.{sym, subst}
 use native.Mathlib.Omega.{arith}
 use Rattle.inheritance.specs.Own.{DomsWith}
-use Rattle.interpreting.specs.Annotations.{asOwn}
+use Rattle.interpreting.specs.Annotations.{typeReached, asOwn}
 use Rattle.interpreting.specs.AnnotationsLaws.{added-none, added-as}
 use Rattle.interpreting.specs.OwnLaws.{no-parents, own-resources, own-fits, own-size, plain-one, plain-none}
 use borrow.Author.Needs.{needs}
@@ -19,8 +19,8 @@ returns : tie.Need-returns
 returns c =
     let s = c .before .before .before in
     let a = s .args in
-    added-as (a .t) (a .place) (a .limit) _ _ 0 15 (a .s) (a .buf .now) (a .s) (a .buf .now) (plain-none (a .a) (c .if1 .taken)) (omega arith)
-    (added-none (a .t) (a .place) (a .limit) (a .s) (a .buf .now) (s .pre .1 .1 .holding))
+    added-as (a .t) (a .place) (a .limit) _ _ 0 15 (typeReached (a .s) (a .made .now)) (a .buf .now) (typeReached (a .s) (a .made .now)) (a .buf .now) (plain-none (a .a) (c .if1 .taken)) (omega arith)
+    (added-none (a .t) (a .place) (a .limit) (typeReached (a .s) (a .made .now)) (a .buf .now) (s .pre .1 .1 .holding))
 
 -- src/lib.rt:140:9
 words-of-requires : tie.Need-words-of-requires
@@ -37,17 +37,17 @@ doms-with-requires c κs = search needs
 -- src/lib.rt:147:5
 with-entry-requires : tie.Need-with-entry-requires
 with-entry-requires c κs =
-    let s = c .before .before .before .before .before .before .before in
+    let s = c .before .before .before .before .before .before .before .before in
     let a = s .args in
-    let w = c .before .before .before .words-of in
-    let k = c .before .before .before .before .if1 .left in
-    let d = subst (λ D. DomsWith D (a .a) (c .before .doms-with .result)) (c .before .before .no-doms .ensures) (c .before .doms-with .ensures) in
+    let w = c .before .before .before .before .words-of in
+    let k = c .before .before .before .before .before .if1 .left in
+    let d = subst (λ D. DomsWith D (a .a) (c .before .before .doms-with .result)) (c .before .before .before .no-doms .ensures) (c .before .before .doms-with .ensures) in
     record {
       sound = s .pre .0 .sound;
       place = s .pre .0 .place;
-      fits = own-fits (a .a) (w .result) (c .before .doms-with .result) (s .pre .1 .0 .own) (w .ensures) d (a .t) (a .place) (λ j l. s .pre .1 .0 .fits k j l (d .words));
+      fits = own-fits (a .a) (w .result) (c .before .before .doms-with .result) (s .pre .1 .0 .own) (w .ensures) d (a .t) (a .place) (λ j l. s .pre .1 .0 .fits k j l (d .words));
       holding = s .pre .1 .1 .holding;
-      room = omega (arith, s .pre .1 .1 .room, own-size (a .a) (w .result) (c .before .doms-with .result) (s .pre .1 .0 .own) (w .ensures) d);
+      room = omega (arith, s .pre .1 .1 .room, own-size (a .a) (w .result) (c .before .before .doms-with .result) (s .pre .1 .0 .own) (w .ensures) d);
       slice = s .pre .0 .slice;
       few = s .pre .0 .few;
     }
@@ -59,13 +59,13 @@ same-length c = search needs
 -- src/lib.rt:125:1
 returns-2 : tie.Need-returns-2
 returns-2 c =
-    let s = c .before .before .before .before .before .before .before .before .before .before in
+    let s = c .before .before .before .before .before .before .before .before .before .before .before in
     let a = s .args in
-    let w = c .before .before .before .before .before .before .words-of in
-    let k = c .before .before .before .before .before .before .before .if1 .left in
-    let E = c .before .before .before .before .doms-with in
-    let d = subst (λ D. DomsWith D (a .a) (E .result)) (c .before .before .before .before .before .no-doms .ensures) (E .ensures) in
-    added-as (a .t) (a .place) (a .limit) _ _ _ 15 (a .s) (a .buf .now) _ _ (plain-one (a .a) k) (own-size (a .a) (w .result) (E .result) (s .pre .1 .0 .own) (w .ensures) d)
+    let w = c .before .before .before .before .before .before .before .words-of in
+    let k = c .before .before .before .before .before .before .before .before .if1 .left in
+    let E = c .before .before .before .before .before .doms-with in
+    let d = subst (λ D. DomsWith D (a .a) (E .result)) (c .before .before .before .before .before .before .no-doms .ensures) (E .ensures) in
+    added-as (a .t) (a .place) (a .limit) _ _ _ 15 (typeReached (a .s) (a .made .now)) (a .buf .now) _ _ (plain-one (a .a) k) (own-size (a .a) (w .result) (E .result) (s .pre .1 .0 .own) (w .ensures) d)
     (c .before .before .with-entry .ensures .added (asOwn (a .a)) (own-resources (a .a) (w .result) (E .result) (s .pre .1 .0 .own) (w .ensures) d k) (sym (no-parents (a .t))))
 
 pub interpret-own-spec : {M : Type 1} → statement M

@@ -1,4 +1,6 @@
+use mathlib.Core.Path.{refl}
 use native.Mathlib.Omega.{arith}
+use Rattle.interpreting.specs.Annotations.{typeReached}
 use Rattle.interpreting.specs.AnnotationsLaws.{added-then, nothing-room, type-done, type-nothing}
 use borrow.Author.Needs.{needs}
 use Rattle.interpreting.proofs.interpret_type.Statement.{statement}
@@ -7,52 +9,44 @@ use Rattle.interpreting.proofs.interpret_type.Reads as reads
 use Rattle.interpreting.proofs.interpret_type.Lts as lts
 use Rattle.interpreting.proofs.interpret_inherited.Reads as interpret-inherited-reads
 use Rattle.interpreting.proofs.interpret_owns.Reads as interpret-owns-reads
-use Rattle.interpreting.proofs.no_makings.Reads as no-makings-reads
 
+-- src/lib.rt:220:13
 returns : tie.Need-returns
 returns c =
     let a = c .before .before .before .before .before .args in
     type-nothing (a .t) (a .place) (a .limit) (a .own) (a .h) (a .n) (a .buf .now) (c .before .before .if1 .taken) (c .if2 .taken)
 
--- src/lib.rt:228:9
-no-makings-requires : tie.Need-no-makings-requires
-no-makings-requires c κs = search needs
-
--- src/lib.rt:234:9
+-- src/lib.rt:232:9
 interpret-owns-requires : tie.Need-interpret-owns-requires
 interpret-owns-requires c κs =
     let s = c .before .before .before .before .before in
     let a = s .args in
-    (s .pre .ground, (s .pre .own, nothing-room (a .t) (a .place) (a .limit) (c .before .no-makings .result) 180 (c .before .no-makings .ensures) (omega arith)))
+    (s .pre .ground, (s .pre .own, nothing-room (a .t) (a .place) (a .limit) _ 180 refl (omega arith)))
 
--- src/lib.rt:235:9
+-- src/lib.rt:233:9
 interpret-inherited-requires : tie.Need-interpret-inherited-requires
 interpret-inherited-requires c κs =
-    let s = c .before .before .before .before .before .before .before .before .before in
+    let s = c .before .before .before .before .before .before .before .before .before .before in
     let g = s .pre .ground in
-    let o = c .before .before .before .interpret-owns in (
-      record { sound = g .sound; place = g .place; slice = omega (arith, g .slice, o .kept .1 .1 .1 .1 .0); few = g .few },
-      (s .pre .inherited, record { holding = o .ensures .holding; room = omega (arith, o .ensures .count, c .before .before .before .before .before .no-makings .ensures) }),
+    let o = c .before .before .before .before .interpret-owns in (
+      record { sound = g .sound; place = g .place; slice = omega (arith, g .slice, o .kept .1 .1 .1 .1 .1 .0); few = g .few },
+      (s .pre .inherited, record { holding = o .ensures .holding; room = omega (arith, o .ensures .count) }),
     )
 
+-- src/lib.rt:206:1
 same-length : tie.Need-same-length
 same-length c = search needs
 
+-- src/lib.rt:206:1
 returns-2 : tie.Need-returns-2
 returns-2 c =
-    let a = c .before .before .before .before .before .before .before .before .before .before .before .before .args in
-    let m = c .before .before .before .before .before .before .before .before .no-makings in
-    let o = c .before .before .before .before .before .before .interpret-owns in
-    type-done (a .t) (a .place) (a .limit) (a .own) (a .h) (a .n) (m .result) (a .buf .now) _ (c .before .before .interpret-inherited .result) _ (m .ensures)
-    (added-then (a .t) (a .place) (a .limit) _ _ 180 200 _ (o .result) _ (a .buf .now) _ _ (o .ensures) (c .before .before .interpret-inherited .ensures))
+    let a = c .before .before .before .before .before .before .before .before .before .before .before .before .before .args in
+    let o = c .before .before .before .before .before .before .before .interpret-owns in
+    let i = c .before .before .interpret-inherited in
+    type-done (a .t) (a .place) (a .limit) (a .own) (a .h) (a .n) _ (a .buf .now) _ (typeReached (i .result) _) _ refl
+    (added-then (a .t) (a .place) (a .limit) _ _ 180 200 _ (typeReached (o .result) _) _ (a .buf .now) _ _ (o .ensures) (i .ensures))
 
 pub interpret-type-spec : {M : Type 1} → statement M
 interpret-type-spec =
     tie.close
-    (tie.spec
-    returns
-    no-makings-requires
-    interpret-owns-requires
-    interpret-inherited-requires
-    same-length
-    returns-2)
+    (tie.spec returns interpret-owns-requires interpret-inherited-requires same-length returns-2)

@@ -1,3 +1,5 @@
+use Rattle.associates.specs.Step.{reached}
+use Rattle.interpreting.specs.Annotations.{typeReached}
 use Rattle.interpreting.specs.AnnotationsLaws.{added-entry}
 use borrow.Author.Needs.{needs}
 use Rattle.interpreting.proofs.with_entry.Statement.{statement}
@@ -7,7 +9,7 @@ use Rattle.interpreting.proofs.with_entry.Lts as lts
 use Rattle.interpreting.proofs.interpret_entry.Reads as interpret-entry-reads
 use Rattle.interpreting.proofs.still_clean.Reads as still-clean-reads
 
--- src/lib.rt:106:9
+-- src/lib.rt:107:9
 interpret-entry-requires : tie.Need-interpret-entry-requires
 interpret-entry-requires c κs = search needs
 
@@ -15,18 +17,19 @@ interpret-entry-requires c κs = search needs
 still-clean-requires : tie.Need-still-clean-requires
 still-clean-requires c κs = search needs
 
--- src/lib.rt:87:1
+-- src/lib.rt:88:1
 same-length : tie.Need-same-length
 same-length c = search needs
 
--- src/lib.rt:87:1
+-- src/lib.rt:88:1
 returns : tie.Need-returns
 returns c =
-    let s = c .before .before .before .before .before .before .before .before in
+    let s = c .before .before .before .before .before .before .before in
     let a = s .args in
+    let e = c .before .before .before .interpret-entry in
     record {
       added = λ x us ps.
-          added-entry (a .t) (a .place) (a .limit) x (a .e) (a .doms) (a .s) (a .buf .now) (c .before .before .before .before .interpret-entry .result) _ _ us ps (c .before .before .before .before .interpret-entry .ensures) (c .still-clean .ensures);
+          added-entry (a .t) (a .place) (a .limit) x (a .e) (a .doms) (typeReached (a .s) (a .made .now)) (a .buf .now) (reached (e .result) _) _ _ us ps (e .ensures) (c .still-clean .ensures);
     }
 
 pub with-entry-spec : {M : Type 1} → statement M
