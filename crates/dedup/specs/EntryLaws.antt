@@ -207,6 +207,11 @@ zeros = record { words = record { a = 0; b = 0; c = 0; d = 0 }; parents = 0 }
 pub record SameWords (x y : Row) (r : Bool) : Type 0 where
   pub equal : r ≡ true → x ≡ y
 
+-- a search from below the count finds a first entry that has words
+pub record SearchFrom (first : Entry) (count r : ℕ) : Type 0 where
+  pub most : r ≤ count
+  pub stands : r < count → stands first ≡ true
+
 -- a place below the count is that of an entry with the newcomer's words, in a list whose first entry has words
 pub record PlaceOf (l : Entries) (n : Entry) (r : ℕ) : Type 0 where
   pub long : l .count ≤ length (l .items)

@@ -3,11 +3,11 @@ use annotations::Overlap;
 use rows::Row;
 ghost use mathlib.Core.Path.{_≡_};
 ghost use mathlib.Core.List.{[], _∷_, map};
-ghost use Prim.Native.Nat.{_<_, _≤_};
-ghost use lib.ListN.{length, getD, set};
+ghost use Prim.Native.Nat.{_≤_};
+ghost use lib.ListN.{length};
 ghost use Rattle.rows.specs.Rows.{common, without};
 ghost use Rattle.dedup.specs.Entries.{inter, diff, unlessEmpty, merge, joinAll, entriesOf, Sound, Apart};
-ghost use Rattle.dedup.specs.EntryLaws.{zeros, SameWords, PlaceOf};
+ghost use Rattle.dedup.specs.EntryLaws.{SameWords, SearchFrom};
 ghost use Rattle.dedup.specs.Reading.{noDoms, underPlace, Kept, Good, Nothing, Unites, Joins, JoinsAll};
 
 // The kind of every entry: 'an inherited NestAssociate entering it as an Associate'.
@@ -155,46 +155,8 @@ fn same_words(x: Row, y: Row) -> bool
     x.d == y.d
 }
 
-// The place of the entry that has the newcomer's words, or the count. Most newcomers come again, from another parent.
-fn place_of(l: Entries, n: Entry) -> usize
-    requires { ⌜ l .count ≤ 200 ⌝ }
-    ensures { λ r. ⌜ PlaceOf l n r ⌝ }
-{
-    let count = l.count;
-    let words = n.words;
-    let first = l.items[0];
-    if standing(first) == 0 {
-        return count;
-    }
-    let mut i: usize = 0;
-    while i < count {
-        let e = l.items[i];
-        let w = e.words;
-        if same_words(w, words) {
-            return i;
-        }
-        i += 1;
-    }
-    count
-}
-
-// What the entry at a place shares with the newcomer, in its place: all its words, under the parents of both.
-fn shared_at(l: Entries, at: usize, n: Entry) -> Entries
-    requires { ⌜ at < 201 ⌝ }
-    ensures { λ r. ⌜ (r .count ≡ l .count) × (r .items ≡ set (l .items) at (inter (getD (l .items) at zeros) n)) ⌝ }
-{
-    let mut items = l.items;
-    let e = items[at];
-    let both = intersection(e, n);
-    items[at] = both;
-    Entries {
-        count: l.count,
-        items: items,
-    }
-}
-
-// The list with the newcomer, whatever they share. The first of a list stays as it is, an associate without resources as well.
-fn appended(l: Entries, newcomer: Entry) -> Entries
+// 'Take a list of annotations and a new one to append.' The first of a list stays as it is, an associate without resources as well.
+pub fn dedup_inherited_annotations_one(l: Entries, newcomer: Entry) -> Entries
     requires { ⌜ Kept l ⌝ }
     requires { ⌜ Sound newcomer ⌝ }
     ensures { λ r. ⌜ Joins l newcomer r ⌝ }
@@ -203,19 +165,6 @@ fn appended(l: Entries, newcomer: Entry) -> Entries
         return alone(newcomer);
     }
     merged(l, newcomer)
-}
-
-// 'Take a list of annotations and a new one to append.'
-pub fn dedup_inherited_annotations_one(l: Entries, newcomer: Entry) -> Entries
-    requires { ⌜ Kept l ⌝ }
-    requires { ⌜ Sound newcomer ⌝ }
-    ensures { λ r. ⌜ Joins l newcomer r ⌝ }
-{
-    let at = place_of(l, newcomer);
-    if at < l.count {
-        return shared_at(l, at, newcomer);
-    }
-    appended(l, newcomer)
 }
 
 // No entries.
@@ -268,6 +217,16 @@ pub fn united(doms: [Row; 200], given: [Row; 200]) -> [Row; 200]
     out
 }
 
+// Where the search begins: at the end, if the first entry has no words.
+fn search_from(first: Entry, count: usize) -> usize
+    ensures { λ r. ⌜ SearchFrom first count r ⌝ }
+{
+    if standing(first) == 0 {
+        return count;
+    }
+    0
+}
+
 // The entries of a parent join a list, one after the other, under that parent. Most stand there, from another parent, and are found in their place.
 pub fn joined_entries(l: Entries, p: Entries, parent: u64) -> Entries
     requires { ⌜ Kept l ⌝ }
@@ -284,13 +243,23 @@ pub fn joined_entries(l: Entries, p: Entries, parent: u64) -> Entries
             words: words,
             parents: parent,
         };
-        let at = place_of(out, n);
-        if at < out.count {
+        let size = out.count;
+        let first = out.items[0];
+        let mut at = search_from(first, size);
+        while at < size {
             let x = out.items[at];
-            let both = intersection(x, n);
+            let v = x.words;
+            if same_words(v, words) {
+                break;
+            }
+            at += 1;
+        }
+        if at < size {
+            let y = out.items[at];
+            let both = intersection(y, n);
             out.items[at] = both;
         } else {
-            out = appended(out, n);
+            out = dedup_inherited_annotations_one(out, n);
         }
         i += 1;
     }
