@@ -4,8 +4,10 @@ use mathlib.Core.List.{List}
 use mathlib.Core.Path.{_≡_, sym, ap, _∙_}
 use Prim.Native.Nat.{ℕ, _≤_, _<_}
 use native.Mathlib.Omega.{arith}
+use borrow.Author.Tests.{ltb-true, ltb-false}
+use lib.Dec.{ltb}
 use lib.ListN.{length, getD}
-use Rattle.lists.specs.Tests.{never}
+use Rattle.lists.specs.Tests.{by, never}
 use Rattle.definitions.specs.Records as records
 use Rattle.definitions.specs.Bits.{bitsOf}
 use Rattle.definitions.specs.Map.{TypeMap, typeMapOf}
@@ -23,9 +25,23 @@ use Rattle.decoding.specs.DecodingLaws.{whole-is-held}
 use Rattle.access.specs.Answers.{inputOf}
 use Rattle.access.specs.Ending.{ended, Ended}
 use Rattle.access.specs.Starting.{Starts, Scheduled}
-use Rattle.access.specs.Testing.{Passed, Tests}
+use Rattle.access.specs.Testing.{early, Passed, Tests}
 use Rattle.access.specs.AnswerLaws.{untouched, one, two, turned, remains}
 use Rattle.access.specs.ReadLaws.{readable}
+
+-- tests 1 and 2 pass
+pub not-early : (s : List ℕ) (room e : ℕ) → e ≡ early (length s) room → e ≤ 0 → (length s ≤ 40960) × (1536 ≤ room)
+not-early s room e p h =
+    by (ltb 40960 (length s))
+    (λ a.
+    let n : e ≡ 1 = p ∙ rw a in
+    absurd (omega arith))
+    (λ a.
+    by (ltb room 1536)
+    (λ b.
+    let n : e ≡ 2 = p ∙ rw (a, b) in
+    absurd (omega arith))
+    (λ b. (ltb-false 40960 (length s) a, ltb-false room 1536 b)))
 
 -- an answer that refuses with n, where n is due
 refuses : (s : List ℕ) (room : ℕ) (x : Decoded) (n : ℕ) → (x .ok ≡ false) × (x .refusal ≡ n) →
@@ -33,11 +49,27 @@ refuses : (s : List ℕ) (room : ℕ) (x : Decoded) (n : ℕ) → (x .ok ≡ fal
 refuses s room x n a f = record { refused = λ q call l d k. rw (a .1) (f call l d k); passed = λ q. never q (a .0) }
 
 module _ (s : List ℕ) (room : ℕ) (x : Decoded) where
-  pub too-long : 40960 < length s → (x .ok ≡ false) × (x .refusal ≡ 1) → Tests s room x
+  too-long : 40960 < length s → (x .ok ≡ false) × (x .refusal ≡ 1) → Tests s room x
   too-long h a = refuses s room x 1 a (λ call l d k. one call s l d h)
 
-  pub no-room : length s ≤ 40960 → room < 1536 → (x .ok ≡ false) × (x .refusal ≡ 2) → Tests s room x
+  no-room : length s ≤ 40960 → room < 1536 → (x .ok ≡ false) × (x .refusal ≡ 2) → Tests s room x
   no-room h g a = refuses s room x 2 a (λ call l d k. two call s l d h (omega arith))
+
+  -- 1 or 2
+  pub as-early : (e : ℕ) → e ≡ early (length s) room → 0 < e → (x .ok ≡ false) × (x .refusal ≡ e) → Tests s room x
+  as-early e p h q =
+      by (ltb 40960 (length s))
+      (λ a.
+      let n : e ≡ 1 = p ∙ rw a in
+      too-long (ltb-true 40960 (length s) a) (q .0, q .1 ∙ n))
+      (λ a.
+      by (ltb room 1536)
+      (λ b.
+      let n : e ≡ 2 = p ∙ rw (a, b) in
+      no-room (ltb-false 40960 (length s) a) (ltb-true room 1536 b) (q .0, q .1 ∙ n))
+      (λ b.
+      let n : e ≡ 0 = p ∙ rw (a, b) in
+      absurd (omega arith)))
 
   pub as-decoded : length s ≤ 40960 → 1536 ≤ room → decodedOf x ≡ decoded s → Tests s room x
   as-decoded h g e = record {

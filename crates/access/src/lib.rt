@@ -13,7 +13,7 @@ ghost use Rattle.access.specs.Answers.{outcomeOf, orderInput, scheduleIn
 ghost use Rattle.access.specs.Ending.{Unordered, answerFor, Ended};
 ghost use Rattle.access.specs.Lines.{LinesListed};
 ghost use Rattle.access.specs.Starting.{Started, Scheduled};
-ghost use Rattle.access.specs.Testing.{Tests};
+ghost use Rattle.access.specs.Testing.{early, Tests};
 
 // What a call answers: the size written; the number of a refusal; its number, how many rows were
 // written and whether there are more; the size that the listing lacks.
@@ -24,15 +24,23 @@ pub enum Answer {
     TooShort(usize),
 }
 
+// Tests 1 and 2, for a sheet of `size` bytes and a diagnosis slice of `room`; 0 where both pass.
+fn refused_early(size: usize, room: usize) -> usize
+    ensures { λ r. ⌜ r ≡ early size room ⌝ }
+{
+    if 40960 < size {
+        return 1;
+    }
+    if room < 1536 { 2 } else { 0 }
+}
+
 // Tests 1 to 7, for a diagnosis slice of `room` bytes. 'Tests go 1, 2, then 3 and 4 by the first field read, then 7, 5, 6'.
 fn test(sheet: &[u8], room: usize) -> Decoded
     ensures { λ r. ⌜ Tests (now (sheet .entry)) room r ⌝ }
 {
-    if 40960 < sheet.len() {
-        return decoding::turned_back(1);
-    }
-    if room < 1536 {
-        return decoding::turned_back(2);
+    let number = refused_early(sheet.len(), room);
+    if 0 < number {
+        return decoding::turned_back(number);
     }
     decoding::decode(sheet)
 }

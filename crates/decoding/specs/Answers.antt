@@ -1,13 +1,11 @@
 -- What the decoder's struct means.
-use mathlib.Core.Bool.{false, cond}
-use mathlib.Core.Path.{_≡_}
-use Prim.Native.Nat.{_≤_}
-use Rattle.definitions.specs.Checks.{badWords}
+use mathlib.Core.Bool.{Bool, cond}
+use Prim.Native.Nat.{ℕ}
+use lib.Dec.{eqb}
 use Rattle.definitions.specs.Map.{TypeMap}
 use Rattle.words.specs.Words.{ofWords}
 use Rattle.types.specs.Types.{ofTypes}
 use Rattle.types.specs.Extensions.{ofExtensions}
-use Rattle.sheet.specs.declared.Sheet.{Sheet}
 use Rattle.decoding.specs.declared.Decoded.{Decoded}
 use Rattle.decoding.specs.Decoding.{Decoding, turnedBack, whole}
 
@@ -18,8 +16,10 @@ mapIn r = record { resource = r .resource; self = r .«self_word»; types = ofTy
 abbrev pub decodedOf : Decoded → Decoding
 decodedOf r = cond (r .ok) (whole (ofWords (r .words)) (mapIn r)) (turnedBack (r .refusal))
 
--- a sheet that was read, and whose words passed 5
-pub record Sound (s : Sheet) : Type 0 where
-  pub words : s .words .count ≤ 200
-  pub types : s .types .count ≤ 64
-  pub good : badWords (ofWords (s .words)) ≡ false
+-- the first of two numbers that is not 0
+abbrev pub firstOf : ℕ → ℕ → ℕ
+firstOf a b = cond (eqb a 0) b a
+
+-- 'then 7, 5, 6'; 0 where none holds
+abbrev pub behind : Bool → Bool → Bool → ℕ
+behind fill words twice = cond fill 7 (cond words 5 (cond twice 6 0))

@@ -1,33 +1,37 @@
 -- The code's tests are those of the definitions, in their order.
-use mathlib.Core.Bool.{Bool, true, false, not}
+use mathlib.Core.Bool.{Bool, true, false, not, cond, _||_}
 use mathlib.Core.List.{List}
+use mathlib.Core.Logic.{_⊎_, inl, inr, ⊎-elim}
 use mathlib.Core.Path.{_≡_, refl, sym, ap, _∙_}
-use Prim.Native.Nat.{ℕ, _≤_, _<_}
-use native.Mathlib.Omega.{arith}
+use Prim.Native.Nat.{ℕ}
 use lib.Dec.{eqb}
-use lib.ListN.{length, drop}
-use Rattle.lists.specs.Lists.{sameList, placeOf, sort}
+use lib.ListN.{drop}
+use Rattle.lists.specs.Lists.{repeats, sort}
+use Rattle.lists.specs.Tests.{by}
 use Rattle.definitions.specs.Records as records
 use Rattle.definitions.specs.Bits.{bitsOf}
-use Rattle.definitions.specs.Parse.{done, refused}
-use Rattle.definitions.specs.Reading.{sheet}
+use Rattle.definitions.specs.Parse.{done, refused, counted}
+use Rattle.definitions.specs.Reading.{word, typeInfo, extension, sheet}
 use Rattle.definitions.specs.Checks.{resourceBytes, selfBytes, badFill, badWords, somethingTwice}
 use Rattle.definitions.specs.Map.{numberOf, typeMapOf}
-use Rattle.words.specs.declared.Word.{Word}
-use Rattle.words.specs.Words.{wordOf, ofWords}
+use Rattle.reading_laws.specs.RoundTrip.{refused-with-3-or-4}
+use Rattle.words.specs.declared.WordsRead.{WordsRead}
+use Rattle.words.specs.Words.{ofWords, ofWordsRead}
 use Rattle.words.specs.WordLaws.{length-ofWords}
+use Rattle.types.specs.declared.ExtensionsRead.{ExtensionsRead}
 use Rattle.types.specs.Types.{ofTypes}
-use Rattle.types.specs.Extensions.{ofExtensions}
-use Rattle.types.specs.TypeLaws.{length-ofTypes, length-ofExtensions}
-use Rattle.sheet.specs.declared.Sheet.{Sheet}
-use Rattle.sheet.specs.declared.SheetRead.{SheetRead}
-use Rattle.sheet.specs.Sheets.{sheetOf, ofSheetRead}
+use Rattle.types.specs.Extensions.{ofExtensions, ofExtensionsRead}
+use Rattle.keys.specs.Keys.{ofKeys, sameKey, sameExtensionKey}
+use Rattle.keys.specs.KeyLaws.{names-twice}
+use Rattle.repeats.specs.RepeatLaws as repeat-laws
+use Rattle.sheet.specs.declared.Opening.{Opening}
+use Rattle.sheet.specs.declared.TypesRead.{TypesRead}
+use Rattle.sheet.specs.Sheets.{version, lists, ofOpening, typesIn, namesIn, ofTypesRead, Noted}
+use Rattle.sheet.specs.SheetLaws.{sheet-parts}
 use Rattle.sorting.specs.Sorting.{byName}
-use Rattle.decoding.specs.declared.Decoded.{Decoded}
-use Rattle.decoding.specs.Decoding.{Decoding, turnedBack, whole, wholeOf, tested, decoded}
-use Rattle.decoding.specs.Answers.{decodedOf, Sound}
+use Rattle.decoding.specs.Decoding.{Decoding, turnedBack, whole, tested, decoded}
+use Rattle.decoding.specs.Answers.{firstOf, behind}
 use Rattle.decoding.specs.DecodingLaws.{was-read, not-read, seven, five, six, passed}
-use Rattle.decoding.specs.ReadLaws.{resource-lt, self-lt, few-words, few-types, few-extensions}
 
 -- the test of the code is the other way round
 pub not-true : (b : Bool) → not b ≡ true → b ≡ false
@@ -38,81 +42,95 @@ pub not-false : (b : Bool) → not b ≡ false → b ≡ true
 not-false true h = refl
 not-false false h = sym h
 
--- ---- what a struct says
+-- ---- the lists of a sheet, each read behind the one before
 
-pub says-refused : (x : Decoded) (n : ℕ) → (x .ok ≡ false) × (x .refusal ≡ n) → decodedOf x ≡ turnedBack n
-says-refused x n a = rw (a .0, a .1)
+module _ (s : List ℕ) (o : Opening) (ws : WordsRead) (ts : TypesRead) (es : ExtensionsRead)
+    (eo : ofOpening (bitsOf s) o ≡ version (bitsOf s))
+    (ew : ofWordsRead (bitsOf s) ws ≡ counted 8 2 200 word (drop (o .next .at) (bitsOf s)))
+    (et : ofTypesRead (bitsOf s) ts ≡ counted 7 0 64 (typeInfo (ws .words .count)) (drop (ws .next .at) (bitsOf s)))
+    (ee : ofExtensionsRead (bitsOf s) es ≡ counted 6 0 32 (extension (ws .words .count)) (drop (ts .at) (bitsOf s))) where
+  abbrev read : records.Sheet
+  read = record { words = ofWords (ws .words); types = ofTypes (typesIn ts); extensions = ofExtensions (es .extensions) }
 
--- ---- the places of `resource` and `self`
+  abbrev rest : List Bool
+  rest = drop (es .next .at) (bitsOf s)
 
--- n is the place of the word w, which is spelled so
-abbrev pub PlaceOf : Sheet → List ℕ → Word → ℕ → Type 0
-PlaceOf h bytes w n = (wordOf w ≡ bytes) × (n ≡ placeOf (sameList eqb (wordOf w)) (ofWords (h .words)))
+  -- the refusal by the first field that deserves one; 0 for none
+  abbrev unread : ℕ
+  unread = firstOf (o .refusal) (firstOf (cond (ws .ok) 0 (ws .refusal)) (firstOf (cond (ts .ok) 0 (ts .refusal)) (cond (es .ok) 0 (es .refusal))))
 
-module _ (h : Sheet) (f : Sound h) where
-  place-is : (bytes : List ℕ) (w : Word) (n : ℕ) → PlaceOf h bytes w n → n ≡ numberOf bytes (ofWords (h .words))
-  unfolding numberOf
-  place-is bytes w n o = o .1 ∙ ap (λ x. placeOf (sameList eqb x) (ofWords (h .words))) (o .0)
+  not-zero : (r : ℕ) → sheet (bitsOf s) ≡ refused r → eqb r 0 ≡ false
+  not-zero r q = ⊎-elim (λ (t : r ≡ 3). ap (λ (n : ℕ). eqb n 0) t) (λ (t : r ≡ 4). ap (λ (n : ℕ). eqb n 0) t) (refused-with-3-or-4 (bitsOf s) r q)
 
-  pub resource-small : (w : Word) (n : ℕ) → PlaceOf h resourceBytes w n → n < 200
-  resource-small w n o = omega (arith, place-is resourceBytes w n o, resource-lt (ofWords (h .words)) (f .good), length-ofWords (h .words), f .words)
+  abbrev Was : Type 0
+  Was = ((eqb unread 0 ≡ true) × (sheet (bitsOf s) ≡ done read rest)) ⊎ ((eqb unread 0 ≡ false) × (sheet (bitsOf s) ≡ refused unread))
 
-  pub self-small : (w : Word) (n : ℕ) → PlaceOf h selfBytes w n → n < 200
-  self-small w n o = omega (arith, place-is selfBytes w n o, self-lt (ofWords (h .words)) (f .good), length-ofWords (h .words), f .words)
+  -- refused with r, which the code finds first
+  was-refused : (r : ℕ) → sheet (bitsOf s) ≡ refused r → unread ≡ r → Was
+  was-refused r q e = inr (ap (λ (n : ℕ). eqb n 0) e ∙ not-zero r q, q ∙ ap refused (sym e))
 
-  pub sorted-is : (v w : Word) (a b : ℕ) (l : List records.TypeInfo) → PlaceOf h resourceBytes v a → PlaceOf h selfBytes w b → l ≡ sort byName (ofTypes (h .types)) →
-      whole (ofWords (h .words)) (record { resource = a; self = b; types = l; extensions = ofExtensions (h .extensions) }) ≡ wholeOf (sheetOf h)
-  unfolding sheetOf typeMapOf
-  sorted-is v w a b l o p e = rw (place-is resourceBytes v a o, place-is selfBytes w b p, e)
+  was : Was
+  unfolding lists
+  was =
+      by (eqb (o .refusal) 0)
+      (λ a.
+      by (ws .ok)
+      (λ b.
+      by (ts .ok)
+      (λ c.
+      by (es .ok)
+      (λ d. inl (rw (a, b, c, d), sheet-parts (bitsOf s) ∙ rw (← eo, a, ← ew, b, length-ofWords (ws .words), ← et, c, ← ee, d)))
+      (λ d.
+      let q : sheet (bitsOf s) ≡ refused (es .refusal) = sheet-parts (bitsOf s) ∙ rw (← eo, a, ← ew, b, length-ofWords (ws .words), ← et, c, ← ee, d) in
+      was-refused (es .refusal) q (rw (a, b, c, d))))
+      (λ c.
+      let q : sheet (bitsOf s) ≡ refused (ts .refusal) = sheet-parts (bitsOf s) ∙ rw (← eo, a, ← ew, b, length-ofWords (ws .words), ← et, c) in
+      was-refused (ts .refusal) q (rw (a, b, c, not-zero (ts .refusal) q))))
+      (λ b.
+      let q : sheet (bitsOf s) ≡ refused (ws .refusal) = sheet-parts (bitsOf s) ∙ rw (← eo, a, ← ew, b) in
+      was-refused (ws .refusal) q (rw (a, b, not-zero (ws .refusal) q))))
+      (λ a.
+      let q : sheet (bitsOf s) ≡ refused (o .refusal) = sheet-parts (bitsOf s) ∙ rw (← eo, a) in
+      was-refused (o .refusal) q (rw a))
 
--- ---- test by test
+  -- ---- test by test
 
-module _ (s : List ℕ) (r : SheetRead) (e : ofSheetRead (bitsOf s) r ≡ sheet (bitsOf s)) where
-  pub unread : not (r .ok) ≡ true → decoded s ≡ turnedBack (r .refusal)
-  unread f =
-      let q : ofSheetRead (bitsOf s) r ≡ refused (r .refusal) = rw (not-true (r .ok) f) in
-      not-read s (r .refusal) (sym e ∙ q)
+  module _ (n : Noted (typesIn ts) (namesIn ts) (ts .twice)) where
+    pub twice-is : (repeats sameKey (ofKeys (namesIn ts)) || (repeats sameExtensionKey (ofExtensions (es .extensions)) || ts .twice)) ≡ somethingTwice read
+    twice-is =
+        rw (n .names, n .within, ← names-twice (typesIn ts)) (sym (repeat-laws.something-twice read))
 
-  module _ (f : not (r .ok) ≡ false) where
-    abbrev rest : List Bool
-    rest = drop (r .next .at) (bitsOf s)
+  module _ (fill bad twice : Bool) (f : fill ≡ badFill rest) (w : bad ≡ badWords (read .words)) (t : twice ≡ somethingTwice read)
+      (a b : ℕ) (l : List records.TypeInfo) (ea : a ≡ numberOf resourceBytes (read .words)) (eb : b ≡ numberOf selfBytes (read .words)) (el : l ≡ sort byName (read .types)) where
+    abbrev number : ℕ
+    number = firstOf unread (behind fill bad twice)
 
-    read : sheet (bitsOf s) ≡ done (sheetOf (r .sheet)) rest
-    read =
-        let q : ofSheetRead (bitsOf s) r ≡ done (sheetOf (r .sheet)) rest = rw (not-false (r .ok) f) in
-        sym e ∙ q
+    abbrev answer : Decoding
+    answer = cond (eqb number 0) (whole (read .words) (record { resource = a; self = b; types = l; extensions = read .extensions })) (turnedBack number)
 
-    pub words-few : r .sheet .words .count ≤ 200
-    unfolding sheetOf
-    words-few = omega (arith, length-ofWords (r .sheet .words), few-words (bitsOf s) (sheetOf (r .sheet)) rest read)
+    passes : behind fill bad twice ≡ number → tested read rest ≡ answer
+    unfolding typeMapOf
+    passes e =
+        by fill
+        (λ p. seven read rest (sym f ∙ p) ∙ rw (← e, p))
+        (λ p.
+        by bad
+        (λ q. five read rest (sym f ∙ p) (sym w ∙ q) ∙ rw (← e, p, q))
+        (λ q.
+        by twice
+        (λ r. six read rest (sym f ∙ p) (sym w ∙ q) (sym t ∙ r) ∙ rw (← e, p, q, r))
+        (λ r. passed read rest (sym f ∙ p) (sym w ∙ q) (sym t ∙ r) ∙ rw (← e, p, q, r, ea, eb, el))))
 
-    pub types-few : r .sheet .types .count ≤ 64
-    unfolding sheetOf
-    types-few = omega (arith, length-ofTypes (r .sheet .types), few-types (bitsOf s) (sheetOf (r .sheet)) rest read)
+    as-decoded : answer ≡ decoded s
+    as-decoded =
+        ⊎-elim
+        (λ (p : (eqb unread 0 ≡ true) × (sheet (bitsOf s) ≡ done read rest)). sym (was-read s read rest (p .1) ∙ passes (sym (rw (p .0)))))
+        (λ (p : (eqb unread 0 ≡ false) × (sheet (bitsOf s) ≡ refused unread)). rw (p .0, p .0) (sym (not-read s unread (p .1))))
+        was
 
-    pub extensions-few : r .sheet .extensions .count ≤ 32
-    unfolding sheetOf
-    extensions-few = omega (arith, length-ofExtensions (r .sheet .extensions), few-extensions (bitsOf s) (sheetOf (r .sheet)) rest read)
-
-    as-tested : decoded s ≡ tested (sheetOf (r .sheet)) rest
-    as-tested = was-read s (sheetOf (r .sheet)) rest read
-
-    pub bad-fill : badFill rest ≡ true → decoded s ≡ turnedBack 7
-    bad-fill a = as-tested ∙ seven (sheetOf (r .sheet)) rest a
-
-    module _ (a : badFill rest ≡ false) where
-      pub bad-words : badWords (ofWords (r .sheet .words)) ≡ true → decoded s ≡ turnedBack 5
-      unfolding sheetOf
-      bad-words b = as-tested ∙ five (sheetOf (r .sheet)) rest a b
-
-      module _ (b : badWords (ofWords (r .sheet .words)) ≡ false) where
-        pub sound : Sound (r .sheet)
-        sound = record { words = words-few; types = types-few; good = b }
-
-        pub something-twice : somethingTwice (sheetOf (r .sheet)) ≡ true → decoded s ≡ turnedBack 6
-        unfolding sheetOf
-        something-twice c = as-tested ∙ six (sheetOf (r .sheet)) rest a b c
-
-        pub whole-sheet : somethingTwice (sheetOf (r .sheet)) ≡ false → decoded s ≡ wholeOf (sheetOf (r .sheet))
-        unfolding sheetOf
-        whole-sheet c = as-tested ∙ passed (sheetOf (r .sheet)) rest a b c
+    -- and so by the number that the code has
+    pub answered : (k : ℕ) → k ≡ number →
+        cond (eqb k 0) (whole (read .words) (record { resource = a; self = b; types = l; extensions = read .extensions })) (turnedBack k) ≡ decoded s
+    answered k e =
+        ap (λ (n : ℕ). cond (eqb n 0) (whole (read .words) (record { resource = a; self = b; types = l; extensions = read .extensions })) (turnedBack n)) e
+        ∙ as-decoded

@@ -11,7 +11,7 @@ use Rattle.lists.specs.Tests.{by, never, any-in}
 use Rattle.definitions.specs.Records.{Sheet}
 use Rattle.definitions.specs.Parse.{done}
 use Rattle.definitions.specs.Reading.{sheet}
-use Rattle.definitions.specs.Checks.{resourceBytes, selfBytes, badWords}
+use Rattle.definitions.specs.Checks.{selfBytes, badWords}
 use Rattle.definitions.specs.Map.{numberOf}
 use Rattle.definitions.specs.Legal.{WithinLimits}
 use Rattle.reading_laws.specs.Rules.{words-exactly}
@@ -25,10 +25,6 @@ place-lt f (x ∷ l) e =
     (λ p. let h : placeOf f l < length l = place-lt f l (rw p at e) in rw p (omega arith))
 
 -- ---- words that passed 5
-
-pub resource-lt : (ws : List (List ℕ)) → badWords ws ≡ false → numberOf resourceBytes ws < length ws
-unfolding numberOf
-resource-lt ws b = place-lt (sameList eqb resourceBytes) ws (any-in (sameList eqb resourceBytes) (words-exactly ws .0 b .hasResource) refl)
 
 pub self-lt : (ws : List (List ℕ)) → badWords ws ≡ false → numberOf selfBytes ws < length ws
 unfolding numberOf
@@ -45,6 +41,3 @@ module _ (bits : List Bool) (t : Sheet) (rest : List Bool) (e : sheet bits ≡ d
 
   pub few-types : length (t .types) ≤ 64
   few-types = limits .types .few
-
-  pub few-extensions : length (t .extensions) ≤ 32
-  few-extensions = limits .extensions .few

@@ -1,15 +1,18 @@
 // The decoder: tests 3 to 7 of a sheet, and the whole of one that passes them.
-use sheet::Sheet;
+use bits::Cursor;
+use keys::Keys;
 use types::Extensions;
 use types::Types;
 use words::Words;
-ghost use mathlib.Core.Bool.{false};
+ghost use mathlib.Core.Bool.{false, cond, _||_};
 ghost use mathlib.Core.Path.{_≡_};
 ghost use Prim.Native.Nat.{_≤_};
 ghost use lib.ListN.{length};
-ghost use Rattle.sheet.specs.Sheets.{sheetOf};
-ghost use Rattle.decoding.specs.Decoding.{wholeOf, decoded};
-ghost use Rattle.decoding.specs.Answers.{Sound, decodedOf};
+ghost use Rattle.lists.specs.Lists.{repeats};
+ghost use Rattle.types.specs.Extensions.{ofExtensions};
+ghost use Rattle.keys.specs.Keys.{ofKeys, sameKey, sameExtensionKey};
+ghost use Rattle.decoding.specs.Decoding.{decoded};
+ghost use Rattle.decoding.specs.Answers.{decodedOf, firstOf, behind};
 
 // ok: every field of the sheet, its types in name order, and the numbers of the words `resource` and `self`. Else a refusal.
 pub struct Decoded {
@@ -39,28 +42,45 @@ pub fn turned_back(number: usize) -> Decoded
     }
 }
 
-// 'Types sort by name.'
-fn by_name(held: Sheet) -> Decoded
-    requires { ⌜ Sound held ⌝ }
-    ensures { λ r. ⌜ decodedOf r ≡ wholeOf (sheetOf held) ⌝ }
+// The refusal of a list; 0 where it was read.
+fn refusal_of(ok: bool, refusal: usize) -> usize
+    ensures { λ r. ⌜ r ≡ cond ok 0 refusal ⌝ }
 {
-    let words = held.words;
-    let types = held.types;
-    let extensions = held.extensions;
-    let class = spelling::resource_word();
-    let resource = spelling::place_of(words, class);
-    let own = spelling::self_word();
-    let place = spelling::place_of(words, own);
-    let sorted = sorting::sort_by_name(types);
-    Decoded {
-        ok: true,
-        refusal: 0,
-        words,
-        resource: resource as u8,
-        self_word: place as u8,
-        types: sorted,
-        extensions,
+    if ok { 0 } else { refusal }
+}
+
+// The first of two numbers that is not 0.
+fn first_of(a: usize, b: usize) -> usize
+    ensures { λ r. ⌜ r ≡ firstOf a b ⌝ }
+{
+    if a == 0 { b } else { a }
+}
+
+// 'then 7, 5, 6'; 0 where none holds.
+fn refusal_behind(fill: bool, words: bool, twice: bool) -> usize
+    ensures { λ r. ⌜ r ≡ behind fill words twice ⌝ }
+{
+    if fill {
+        return 7;
     }
+    if words {
+        return 5;
+    }
+    if twice { 6 } else { 0 }
+}
+
+// Refusal 6: 'a name twice among types, a key among extensions', or what a type repeats within itself.
+fn is_something_twice(names: Keys, e: Extensions, within: bool) -> bool
+    requires { ⌜ (names .count ≤ 64) × (e .count ≤ 32) ⌝ }
+    ensures { λ r. ⌜ r ≡ (repeats sameKey (ofKeys names) || (repeats sameExtensionKey (ofExtensions e) || within)) ⌝ }
+{
+    if keys::has_key_twice(names) {
+        return true;
+    }
+    if keys::has_extension_twice(e) {
+        return true;
+    }
+    within
 }
 
 // The decoder's answer. 'Tests go 1, 2, then 3 and 4 by the first field read, then 7, 5, 6'.
@@ -68,21 +88,43 @@ pub fn decode(sheet: &[u8]) -> Decoded
     requires { ⌜ length (now sheet) ≤ 40960 ⌝ }
     ensures { λ r. ⌜ decodedOf r ≡ decoded (now (sheet .entry)) ⌝ }
 {
-    let read = sheet::read_sheet(sheet);
-    if !read.ok {
-        return turned_back(read.refusal);
+    let opening = sheet::read_version(sheet, Cursor { at: 0 });
+    let ws = words::read_words(sheet, opening.next);
+    let words = ws.words;
+    let ts = sheet::read_types(sheet, ws.next, words.count);
+    let es = types::read_extensions(sheet, Cursor { at: ts.at }, words.count);
+    let extensions = es.extensions;
+    let lists = first_of(refusal_of(ts.ok, ts.refusal), refusal_of(es.ok, es.refusal));
+    let unread = first_of(
+        opening.refusal,
+        first_of(refusal_of(ws.ok, ws.refusal), lists),
+    );
+    let fill = sheet::is_bad_fill(sheet, es.next);
+    let spelled = spelling::spell(words);
+    let first = ts.first;
+    let second = ts.second;
+    let word = ts.word;
+    let names = Keys {
+        count: ts.count,
+        first,
+        second,
+        word,
+    };
+    let twice = is_something_twice(names, extensions, ts.twice);
+    let number = first_of(unread, refusal_behind(fill, spelled.bad, twice));
+    let items = ts.items;
+    let types = Types {
+        count: ts.count,
+        items,
+    };
+    let sorted = sorting::sort_by_name(types, names);
+    Decoded {
+        ok: number == 0,
+        refusal: number,
+        words,
+        resource: spelled.resource,
+        self_word: spelled.own,
+        types: sorted,
+        extensions,
     }
-    let next = read.next;
-    if sheet::is_bad_fill(sheet, next) {
-        return turned_back(7);
-    }
-    let held = read.sheet;
-    let words = held.words;
-    if spelling::is_bad_words(words) {
-        return turned_back(5);
-    }
-    if repeats::is_something_twice(held) {
-        return turned_back(6);
-    }
-    by_name(held)
 }

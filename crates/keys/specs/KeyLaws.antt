@@ -21,7 +21,7 @@ use Rattle.types.specs.declared.Types.{Types}
 use Rattle.types.specs.declared.Extensions.{Extensions}
 use Rattle.types.specs.declared.Extension.{Extension}
 use Rattle.spelling.specs.Scans.{getD-tabulate}
-use Rattle.keys.specs.Keys.{Key, keyOf, keyAt, ofKeys, sameKey, typeKey, typeKeys, extensionKey, extensionKeys, sameTypeName, sameExtensionKey}
+use Rattle.keys.specs.Keys.{Key, keyOf, keyAt, ofKeys, sameKey, sameBytes, typeKey, typeKeys, extensionKey, extensionKeys, sameTypeName, sameExtensionKey}
 use Rattle.keys.specs.declared.Keys.{Keys}
 
 pub length-ofKeys : (t : Keys) → length (ofKeys t) ≡ t .count
@@ -68,9 +68,7 @@ same-words a b c d = ap (λ (t : Bool). eqb a c && t) (go (eqb b 255) (eqb d 255
         last true = refl
         last false = refl
 
-pub same-key : (t : Keys) (i j : ℕ) →
-    sameKey (keyAt t i) (keyAt t j)
-    ≡ ((eqb (getD (t .first) i 0) (getD (t .first) j 0) && eqb (getD (t .second) i 0) (getD (t .second) j 0)) && eqb (getD (t .word) i 0) (getD (t .word) j 0))
+pub same-key : (t : Keys) (i j : ℕ) → sameKey (keyAt t i) (keyAt t j) ≡ sameBytes (t .first) (t .second) (t .word) i j
 unfolding sameKey keyAt
 same-key t i j =
     ap (λ (b : Bool). b && eqb (getD (t .word) i 0) (getD (t .word) j 0))

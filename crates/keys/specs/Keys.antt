@@ -1,9 +1,10 @@
 -- What keys mean.
 use mathlib.Core.Bool.{Bool, _&&_}
 use mathlib.Core.List.{List}
-use Prim.Native.Nat.{ℕ}
+use Prim.Native.Nat.{ℕ, _+_}
 use lib.Dec.{eqb}
-use lib.ListN.{getD}
+use lib.ListN.{getD, drop}
+use Rattle.lists.specs.Lists.{any}
 use Rattle.definitions.specs.Orders.{sameName}
 use Rattle.definitions.specs.Records as records
 use Rattle.fields.specs.Tabulate.{tabulate, places}
@@ -32,6 +33,18 @@ ofKeys t = tabulate (keyAt t) (t .count)
 
 unfoldable pub sameKey : Key → Key → Bool
 sameKey k l = sameName (k .name) (l .name) && eqb (k .word) (l .word)
+
+-- keys that are held apart
+abbrev pub keysIn : ℕ → List ℕ → List ℕ → List ℕ → Keys
+keysIn n first second word = record { count = n; first = first; second = second; word = word }
+
+-- whether the bytes at two places are equal
+abbrev pub sameBytes : List ℕ → List ℕ → List ℕ → ℕ → ℕ → Bool
+sameBytes first second word i j = (eqb (getD first i 0) (getD first j 0) && eqb (getD second i 0) (getD second j 0)) && eqb (getD word i 0) (getD word j 0)
+
+-- whether the key at i stands again behind it
+abbrev pub isAgain : Keys → ℕ → Bool
+isAgain t i = any (sameKey (keyAt t i)) (drop (i + 1) (ofKeys t))
 
 -- the key of a type, and of an extension, as the code has them
 abbrev pub typeKey : TypeInfo → Key

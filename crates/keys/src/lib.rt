@@ -2,17 +2,13 @@
 use fields::Name;
 use types::Extension;
 use types::Extensions;
-use types::TypeInfo;
-use types::Types;
 ghost use mathlib.Core.List.{[], _∷_, _++_};
 ghost use mathlib.Core.Path.{_≡_};
 ghost use Prim.Native.Nat.{_+_, _≤_, _<_};
-ghost use lib.ListN.{drop};
-ghost use Rattle.lists.specs.Lists.{any, repeats};
+ghost use Rattle.lists.specs.Lists.{repeats};
 ghost use Rattle.fields.specs.Fields.{nameOf};
-ghost use Rattle.types.specs.Types.{ofTypes};
 ghost use Rattle.types.specs.Extensions.{ofExtensions};
-ghost use Rattle.keys.specs.Keys.{keyOf, keyAt, ofKeys, sameKey, typeKey, typeKeys, extensionKey, extensionKeys, sameTypeName, sameExtensionKey};
+ghost use Rattle.keys.specs.Keys.{keyOf, keysIn, ofKeys, sameKey, sameBytes, isAgain, extensionKey, extensionKeys, sameExtensionKey};
 
 // The first count keys: a name, and a resource word (0 for a type).
 pub struct Keys {
@@ -47,13 +43,19 @@ pub fn with_key(t: Keys, n: Name, w: u8) -> Keys
     r
 }
 
-pub fn is_same_key(t: Keys, i: usize, j: usize) -> bool
+fn is_same_key<'a>(
+    first: &'a [u8; 64],
+    second: &'a [u8; 64],
+    word: &'a [u8; 64],
+    i: usize,
+    j: usize,
+) -> bool
     requires { ⌜ (i < 64) × (j < 64) ⌝ }
-    ensures { λ r. ⌜ r ≡ sameKey (keyAt t i) (keyAt t j) ⌝ }
+    ensures { λ r. ⌜ r ≡ sameBytes (now (first .entry)) (now (second .entry)) (now (word .entry)) i j ⌝ }
 {
-    if t.first[i] == t.first[j] {
-        if t.second[i] == t.second[j] {
-            t.word[i] == t.word[j]
+    if first[i] == first[j] {
+        if second[i] == second[j] {
+            word[i] == word[j]
         } else {
             false
         }
@@ -62,14 +64,20 @@ pub fn is_same_key(t: Keys, i: usize, j: usize) -> bool
     }
 }
 
-// Whether the key at i stands again behind it.
-fn is_key_again(t: Keys, i: usize) -> bool
-    requires { ⌜ (i < t .count) × (t .count ≤ 64) ⌝ }
-    ensures { λ r. ⌜ r ≡ any (sameKey (keyAt t i)) (drop (i + 1) (ofKeys t)) ⌝ }
+// Whether the key at i of n stands again behind it.
+fn is_key_again<'a>(
+    first: &'a [u8; 64],
+    second: &'a [u8; 64],
+    word: &'a [u8; 64],
+    n: usize,
+    i: usize,
+) -> bool
+    requires { ⌜ (i < n) × (n ≤ 64) ⌝ }
+    ensures { λ r. ⌜ r ≡ isAgain (keysIn n (now (first .entry)) (now (second .entry)) (now (word .entry))) i ⌝ }
 {
     let mut j = i + 1;
-    while j < t.count {
-        if is_same_key(t, i, j) {
+    while j < n {
+        if is_same_key(first, second, word, i, j) {
             return true;
         }
         j += 1;
@@ -81,37 +89,15 @@ pub fn has_key_twice(t: Keys) -> bool
     requires { ⌜ t .count ≤ 64 ⌝ }
     ensures { λ r. ⌜ r ≡ repeats sameKey (ofKeys t) ⌝ }
 {
+    let n = t.count;
     let mut i = 0;
-    while i < t.count {
-        if is_key_again(t, i) {
+    while i < n {
+        if is_key_again(&t.first, &t.second, &t.word, n, i) {
             return true;
         }
         i += 1;
     }
     false
-}
-
-fn with_type_key(k: Keys, x: TypeInfo) -> Keys
-    requires { ⌜ k .count < 64 ⌝ }
-    ensures { λ r. ⌜ (ofKeys r ≡ ofKeys k ++ (typeKey x ∷ [])) × (r .count ≡ k .count + 1) ⌝ }
-{
-    let n = x.name;
-    with_key(k, n, 0)
-}
-
-// The names of the types.
-pub fn keys_of_types(t: Types) -> Keys
-    requires { ⌜ t .count ≤ 64 ⌝ }
-    ensures { λ r. ⌜ (ofKeys r ≡ typeKeys t) × (r .count ≡ t .count) ⌝ }
-{
-    let mut keys = no_keys();
-    let mut i = 0;
-    while i < t.count {
-        let x = t.items[i];
-        keys = with_type_key(keys, x);
-        i += 1;
-    }
-    keys
 }
 
 fn with_extension_key(k: Keys, x: Extension) -> Keys
@@ -135,15 +121,6 @@ pub fn keys_of_extensions(t: Extensions) -> Keys
         i += 1;
     }
     keys
-}
-
-// Whether a name stands twice among the types.
-pub fn has_name_twice(t: Types) -> bool
-    requires { ⌜ t .count ≤ 64 ⌝ }
-    ensures { λ r. ⌜ r ≡ repeats sameTypeName (ofTypes t) ⌝ }
-{
-    let keys = keys_of_types(t);
-    has_key_twice(keys)
 }
 
 // Whether a key stands twice among the extensions.

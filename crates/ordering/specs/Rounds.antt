@@ -3,16 +3,16 @@ use mathlib.Core.Bool.{Bool, true, false, _&&_, _||_, not}
 use mathlib.Core.List.{List, [], _∷_, _++_, append-nil}
 use mathlib.Core.Logic.{_⊎_, inl, inr, ⊎-elim}
 use mathlib.Core.Path.{_≡_, refl, sym, ap, _∙_}
-use Prim.Native.Nat.{ℕ, zero, suc, _+_, _≤_, _<_}
+use Prim.Native.Nat.{ℕ, zero, suc, _+_, _*_, _≤_, _<_}
 use native.Mathlib.Nat.{le-of-suc-le-suc, not-suc-le-zero, eq-or-lt-of-le}
 use native.Mathlib.Omega.{arith}
 use lib.Dec.{eqb, ltb}
-use lib.ListN.{length, length-append}
+use lib.ListN.{length, getD, length-append}
 use borrow.Author.Tests.{lt-ltb}
 use lib.Seq.{length-take-le}
 use Rattle.lists.specs.Lists.{any, all}
 use Rattle.ordering.specs.Lists.{never, same-test, and-left, and-right, or-elim, or-left, or-right, any-append, all-imp, elem, elem-left, elem-cases, all-of, tab, below, below-in, below-is, below-most, below-none, below-full, below-split}
-use Rattle.ordering.specs.Reading.{Parent, listed, selfIn, placesOf}
+use Rattle.ordering.specs.Reading.{Parent, parentAt, listed, selfIn, placesOf}
 use Rattle.ordering.specs.declared.Parents.{Parents}
 use Rattle.ordering.specs.declared.Placed.{Placed}
 
@@ -20,12 +20,38 @@ use Rattle.ordering.specs.declared.Placed.{Placed}
 abbrev pub settled : Parents → List ℕ → Parent → Bool
 settled p out q = selfIn p q || elem (q .place) out
 
+-- the parents of types that are held apart
+abbrev pub parentsIn : ℕ → List ℕ → List ℕ → List ℕ → Parents
+parentsIn word places firsts seconds = record {
+  count = 0;
+  «self_word» = word;
+  firsts = [];
+  seconds = [];
+  counts = [];
+  places = places;
+  «parent_firsts» = firsts;
+  «parent_seconds» = seconds;
+}
+
+-- whether each of so many parents from a place on is settled
+abbrev pub allPlaced : Parents → ℕ → ℕ → List ℕ → Bool
+allPlaced p base count out = all (settled p out) (tab (λ i. parentAt p (base + i)) count)
+
 unfoldable pub isReady : Parents → List ℕ → ℕ → Bool
 isReady p out t = all (settled p out) (listed p t)
 
 -- type t is not placed yet, and is ready
 unfoldable pub free : Parents → List ℕ → ℕ → Bool
 free p out t = not (elem t out) && isReady p out t
+
+-- the same of a type that lists so many parents
+abbrev pub freeIn : Parents → List ℕ → ℕ → ℕ → Bool
+freeIn p out t count = not (elem t out) && allPlaced p (8 * t) count out
+
+pub free-in : (p : Parents) (out : List ℕ) (t : ℕ) →
+    freeIn (parentsIn (p .«self_word») (p .places) (p .«parent_firsts») (p .«parent_seconds»)) out t (getD (p .counts) t 0) ≡ free p out t
+unfolding free isReady listed
+free-in p out t = refl
 
 -- one round: the types that are free now go behind those placed, in name order
 unfoldable pub next : Parents → List ℕ → List ℕ

@@ -2,13 +2,13 @@
 // 'Borrowed `&TypeInfo` becomes a type number', so a type is handed on as its place.
 ghost use mathlib.Core.Path.{_≡_};
 ghost use mathlib.Core.Bool.{_&&_};
-ghost use Prim.Native.Nat.{_<_, _≤_};
+ghost use Prim.Native.Nat.{_+_, _<_, _≤_};
 ghost use lib.Dec.{eqb};
 ghost use lib.ListN.{length, take};
 ghost use Rattle.lists.specs.Lists.{any};
 ghost use Rattle.ordering.specs.Lists.{elem};
 ghost use Rattle.ordering.specs.Reading.{Valid, placesOf, listed, selfIn};
-ghost use Rattle.ordering.specs.Rounds.{isReady, free, round, placed, final, listsSelf};
+ghost use Rattle.ordering.specs.Rounds.{parentsIn, allPlaced, freeIn, round, placed, final, listsSelf};
 ghost use Rattle.ordering.specs.Organized.{Organized};
 
 // The names and the parents of the types, in name order. A name is its two words, 255 for none.
@@ -63,23 +63,26 @@ pub fn has(out: [u8; 64], n: usize, t: u8) -> bool
     false
 }
 
-// Whether each parent of type t stands among the first n of `out`; `self` holds no type back.
+// Whether each of `count` parents from `base` on stands among the first n of `out`; `self` holds no type back.
 // 'the ready scan is left at the first parent not placed'
-fn all_placed(p: Parents, t: usize, out: [u8; 64], n: usize) -> bool
-    requires { ⌜ Valid p ⌝ }
-    requires { ⌜ (t < p .count) × (n ≤ 64) ⌝ }
-    ensures { λ r. ⌜ r ≡ isReady p (take n out) t ⌝ }
+fn all_placed<'a>(
+    places: &'a [u8; 512],
+    firsts: &'a [u8; 512],
+    seconds: &'a [u8; 512],
+    word: u8,
+    base: usize,
+    count: usize,
+    out: [u8; 64],
+    n: usize,
+) -> bool
+    requires { ⌜ (base + count ≤ 512) × (n ≤ 64) ⌝ }
+    ensures { λ r. ⌜ r ≡ allPlaced (parentsIn word (now (places .entry)) (now (firsts .entry)) (now (seconds .entry))) base count (take n out) ⌝ }
 {
-    let word = p.self_word;
-    let count = p.counts[t] as usize;
-    let base = 8 * t;
     let mut i = 0;
     'parents: while i < count {
         let at = base + i;
-        let first = p.parent_firsts[at];
-        let second = p.parent_seconds[at];
-        if !is_self(word, first, second) {
-            let place = p.places[at];
+        if !is_self(word, firsts[at], seconds[at]) {
+            let place = places[at];
             let mut j = 0;
             loop {
                 if j == n {
@@ -96,17 +99,25 @@ fn all_placed(p: Parents, t: usize, out: [u8; 64], n: usize) -> bool
     i == count
 }
 
-// Whether type t is not placed yet, and is ready.
-fn is_free(p: Parents, t: usize, out: [u8; 64], n: usize) -> bool
-    requires { ⌜ Valid p ⌝ }
-    requires { ⌜ (t < p .count) × (n ≤ 64) ⌝ }
-    ensures { λ r. ⌜ r ≡ free p (take n out) t ⌝ }
+// Whether type t, which lists `count` parents, is not placed yet, and is ready.
+fn is_free<'a>(
+    places: &'a [u8; 512],
+    firsts: &'a [u8; 512],
+    seconds: &'a [u8; 512],
+    word: u8,
+    t: usize,
+    count: usize,
+    out: [u8; 64],
+    n: usize,
+) -> bool
+    requires { ⌜ (t < 64) × (count ≤ 8) × (n ≤ 64) ⌝ }
+    ensures { λ r. ⌜ r ≡ freeIn (parentsIn word (now (places .entry)) (now (firsts .entry)) (now (seconds .entry))) (take n out) t count ⌝ }
 {
     let b = t as u8;
     if has(out, n, b) {
         return false;
     }
-    all_placed(p, t, out, n)
+    all_placed(places, firsts, seconds, word, 8 * t, count, out, n)
 }
 
 // One round over the types: those that are ready go behind the ones placed, in name order.
@@ -117,12 +128,23 @@ fn one_round(p: Parents, from: Placed) -> Placed
     ensures { λ r. ⌜ (r .count ≡ length (round p (placesOf from))) × (placesOf r ≡ round p (placesOf from)) ⌝ }
 {
     let types = p.count;
+    let word = p.self_word;
     let start = from.count;
     let mut out = from.items;
     let mut end = from.count;
     let mut t: usize = 0;
     while t < types {
-        if is_free(p, t, out, start) {
+        let count = p.counts[t] as usize;
+        if is_free(
+            &p.places,
+            &p.parent_firsts,
+            &p.parent_seconds,
+            word,
+            t,
+            count,
+            out,
+            start,
+        ) {
             out[end] = t as u8;
             end += 1;
         }

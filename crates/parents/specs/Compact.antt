@@ -33,22 +33,24 @@ pub record Place (firsts seconds : List ℕ) (n a b r : ℕ) : Type 0 where
   pub before : (k : ℕ) → k < r → isNamed firsts seconds a b k ≡ false
   pub found : r < n → isNamed firsts seconds a b r ≡ true
 
--- the names, and how many parents each type lists; q was there before
+-- the names, how many parents each type lists, and the words of these; q was there before
 pub record Named (ts : Types) (q p : Parents) : Type 0 where
   pub count : p .count ≡ q .count
   pub self : p .«self_word» ≡ q .«self_word»
   pub first : (t : ℕ) → t < ts .count → getD (p .firsts) t 0 ≡ itemAt ts t .name .first
   pub second : (t : ℕ) → t < ts .count → getD (p .seconds) t 0 ≡ itemAt ts t .name .second
   pub most : (t : ℕ) → t < ts .count → getD (p .counts) t 0 ≡ listedBy ts t .count
+  pub parentFirst : (k : ℕ) → k < 8 * ts .count → getD (p .«parent_firsts») k 0 ≡ getD (listedBy ts (k / 8) .first) (k % 8) 0
+  pub parentSecond : (k : ℕ) → k < 8 * ts .count → getD (p .«parent_seconds») k 0 ≡ getD (listedBy ts (k / 8) .second) (k % 8) 0
 
--- the parents; q was there before
-pub record Listed (ts : Types) (q p : Parents) : Type 0 where
+-- the places of the parents; q was there before
+pub record Looked (q p : Parents) : Type 0 where
   pub count : p .count ≡ q .count
   pub self : p .«self_word» ≡ q .«self_word»
   pub firsts : p .firsts ≡ q .firsts
   pub seconds : p .seconds ≡ q .seconds
   pub counts : p .counts ≡ q .counts
-  pub first : (k : ℕ) → k < 8 * ts .count → getD (p .«parent_firsts») k 0 ≡ getD (listedBy ts (k / 8) .first) (k % 8) 0
-  pub second : (k : ℕ) → k < 8 * ts .count → getD (p .«parent_seconds») k 0 ≡ getD (listedBy ts (k / 8) .second) (k % 8) 0
-  pub place : (k : ℕ) → k < 8 * ts .count →
-      Place (q .firsts) (q .seconds) (ts .count) (getD (listedBy ts (k / 8) .first) (k % 8) 0) (getD (listedBy ts (k / 8) .second) (k % 8) 0) (getD (p .places) k 0)
+  pub parentFirsts : p .«parent_firsts» ≡ q .«parent_firsts»
+  pub parentSeconds : p .«parent_seconds» ≡ q .«parent_seconds»
+  pub place : (k : ℕ) → k < 8 * q .count → k % 8 < getD (q .counts) (k / 8) 0 →
+      Place (q .firsts) (q .seconds) (q .count) (getD (q .«parent_firsts») k 0) (getD (q .«parent_seconds») k 0) (getD (p .places) k 0)

@@ -24,7 +24,7 @@ use Rattle.types.specs.TypeLaws.{length-ofTypes}
 use Rattle.ordering.specs.Lists.{tab, tab-at}
 use Rattle.ordering.specs.Reading.{Parent, parentAt, howMany, listed, noType, typeAt, placeIn, firstWord, secondWord, parentIn, isName, ReadsType, Reads}
 use Rattle.ordering.specs.declared.Parents.{Parents}
-use Rattle.parents.specs.Compact.{itemAt, listedBy, Few, isNamed, Place, Named, Listed}
+use Rattle.parents.specs.Compact.{itemAt, listedBy, Few, isNamed, Place, Named, Looked}
 use Rattle.parents.specs.Parents.{Readable}
 
 -- ---- lists
@@ -35,6 +35,16 @@ stored P l i v h old new k s =
     by (eqb k i)
     (λ t. let q : k ≡ i = eqb-true k i t in rw (q, Seq.getD-set-same l i v 0 h) new)
     (λ t. rw (Seq.getD-set-other l i k v 0 (λ q. eqb-false k i t (omega arith))) (old k (omega (arith, eqb-false k i t))))
+
+-- the same of arrays in which place i has the eight places from 8 * i on
+pub stored-eighth : (P : ℕ → ℕ → Type 0) (l : List ℕ) (at v : ℕ) → at / 8 < length l → ((k : ℕ) → 8 * k < at → P k (getD l k 0)) → P (at / 8) v →
+    (k : ℕ) → 8 * k < at + 1 → P k (getD (set l (at / 8) v) k 0)
+stored-eighth P l at v h old new k s =
+    by (eqb k (at / 8))
+    (λ t. let q : k ≡ at / 8 = eqb-true k (at / 8) t in rw (q, Seq.getD-set-same l (at / 8) v 0 h) new)
+    (λ t.
+    let d : k ≡ at / 8 → ⊥ = eqb-false k (at / 8) t in
+    rw (Seq.getD-set-other l (at / 8) k v 0 d) (old k (omega (arith, d))))
 
 tabulate-tab : {A : Type 0} (f : ℕ → A) (n : ℕ) → tabulate f n ≡ tab f n
 unfolding tabulate
@@ -104,14 +114,14 @@ few-of ts w g = record {
 }
 
 -- the names
-pub all-named : (ts : Types) (o q p : Parents) → Named ts o q → Listed ts q p → (t : ℕ) → t < length (ofTypes ts) →
+pub all-named : (ts : Types) (o q p : Parents) → Named ts o q → Looked q p → (t : ℕ) → t < length (ofTypes ts) →
     twoWords (getD (p .firsts) t 0) (getD (p .seconds) t 0) ≡ getD (ofTypes ts) t noType .name
 unfolding typeInfoOf
 all-named ts o q p a b t h =
     let l : t < ts .count = omega (arith, length-ofTypes ts) in
     rw (type-in ts t l, b .firsts, b .seconds, a .first t l, a .second t l)
 
-module _ (ts : Types) (w : ℕ) (o q p : Parents) (g : Readable (ofTypes ts) w) (a : Named ts o q) (b : Listed ts q p) (n : o .count ≡ ts .count) (s : o .«self_word» ≡ w) (m : TypeMap) (e : m .types ≡ ofTypes ts) (f : m .self ≡ w) where
+module _ (ts : Types) (w : ℕ) (o q p : Parents) (g : Readable (ofTypes ts) w) (a : Named ts o q) (b : Looked q p) (n : o .count ≡ ts .count) (s : o .«self_word» ≡ w) (m : TypeMap) (e : m .types ≡ ofTypes ts) (f : m .self ≡ w) where
   here : (t : ℕ) → t < ts .count → typeAt m t ≡ typeInfoOf (itemAt ts t)
   here t h = rw e (type-in ts t h)
 
@@ -129,22 +139,25 @@ module _ (ts : Types) (w : ℕ) (o q p : Parents) (g : Readable (ofTypes ts) w) 
       (λ k h. same k (omega (arith, l .within)) ∙ l .before k h)
       (λ h. same r (omega (arith, many)) ∙ l .found (omega (arith, many)))
 
-  parent-is : (t i : ℕ) → t < ts .count → i < 8 → parentAt p (8 * t + i) ≡ parentIn m (twoWords (getD (listedBy ts t .first) i 0) (getD (listedBy ts t .second) i 0))
+  many-listed : (t : ℕ) → t < ts .count → howMany p t ≡ listedBy ts t .count
+  many-listed t h = ap (λ l. getD l t 0) (b .counts) ∙ a .most t h
+
+  parent-is : (t i : ℕ) → t < ts .count → i < listedBy ts t .count → i < 8 →
+      parentAt p (8 * t + i) ≡ parentIn m (twoWords (getD (listedBy ts t .first) i 0) (getD (listedBy ts t .second) i 0))
   unfolding parentIn
-  parent-is t i h l =
+  parent-is t i h j l =
+      let c : q .count ≡ ts .count = a .count ∙ n in
       let k : 8 * t + i < 8 * ts .count = omega arith in
       let d : (8 * t + i) / 8 ≡ t = omega arith in
       let v : (8 * t + i) % 8 ≡ i = omega arith in
-      let x = rw (d, v) at (b .first (8 * t + i) k) in
-      let y = rw (d, v) at (b .second (8 * t + i) k) in
-      let z = rw (d, v) at (b .place (8 * t + i) k) in
+      let x = rw (d, v) at (a .parentFirst (8 * t + i) k) in
+      let y = rw (d, v) at (a .parentSecond (8 * t + i) k) in
+      let g : (8 * t + i) % 8 < getD (q .counts) ((8 * t + i) / 8) 0 = rw (d, v, a .most t h) j in
+      let z = rw (c, x, y) at (b .place (8 * t + i) (omega arith) g) in
       same-parent _ _ _ _ _ _
       (sym (looked (getD (listedBy ts t .first) i 0) (getD (listedBy ts t .second) i 0) _ z))
-      (x ∙ sym (first-two (getD (listedBy ts t .first) i 0) (getD (listedBy ts t .second) i 0)))
-      (y ∙ sym (second-two (getD (listedBy ts t .first) i 0) (getD (listedBy ts t .second) i 0)))
-
-  many-listed : (t : ℕ) → t < ts .count → howMany p t ≡ listedBy ts t .count
-  many-listed t h = ap (λ l. getD l t 0) (b .counts) ∙ a .most t h
+      (ap (λ w. getD w (8 * t + i) 0) (b .parentFirsts) ∙ x ∙ sym (first-two (getD (listedBy ts t .first) i 0) (getD (listedBy ts t .second) i 0)))
+      (ap (λ w. getD w (8 * t + i) 0) (b .parentSeconds) ∙ y ∙ sym (second-two (getD (listedBy ts t .first) i 0) (getD (listedBy ts t .second) i 0)))
 
   type-reads : (t : ℕ) → t < ts .count → ReadsType p m t
   unfolding listed typeInfoOf ofNames
@@ -155,7 +168,7 @@ module _ (ts : Types) (w : ℕ) (o q p : Parents) (g : Readable (ofTypes ts) w) 
         second = ap (λ l. getD l t 0) (b .seconds) ∙ a .second t h ∙ sym (rw (here t h) (second-two (itemAt ts t .name .first) (itemAt ts t .name .second)));
         parents =
             ap (tab (λ i. parentAt p (8 * t + i))) (many-listed t h)
-            ∙ tab-same _ _ (listedBy ts t .count) (λ i v. parent-is t i h (omega (arith, few-of ts w g .parents t h)))
+            ∙ tab-same _ _ (listedBy ts t .count) (λ i v. parent-is t i h v (omega (arith, few-of ts w g .parents t h)))
             ∙ sym (map-tab (parentIn m) (λ i. twoWords (getD (listedBy ts t .first) i 0) (getD (listedBy ts t .second) i 0)) (listedBy ts t .count))
             ∙ ap (map (parentIn m)) (sym (tabulate-tab (λ i. twoWords (getD (listedBy ts t .first) i 0) (getD (listedBy ts t .second) i 0)) (listedBy ts t .count)))
             ∙ sym (ap (λ (T : records.TypeInfo). map (parentIn m) (T .parents)) (here t h));

@@ -2,13 +2,13 @@
 use fields::Names;
 use ordering::Parents;
 use types::Types;
-ghost use mathlib.Core.Bool.{_&&_};
+ghost use mathlib.Core.Bool.{_&&_, cond};
 ghost use mathlib.Core.Path.{_≡_};
 ghost use Prim.Native.Nat.{_≤_, _<_};
-ghost use lib.Dec.{eqb};
+ghost use lib.Dec.{eqb, ltb};
 ghost use lib.ListN.{getD};
 ghost use Rattle.types.specs.Types.{ofTypes};
-ghost use Rattle.parents.specs.Compact.{Few, Place, Named, Listed};
+ghost use Rattle.parents.specs.Compact.{Few, Place, Named, Looked};
 ghost use Rattle.parents.specs.Parents.{Readable, Reading};
 
 // Whether two names of these words are one.
@@ -22,9 +22,9 @@ fn is_same(first: u8, second: u8, a: u8, b: u8) -> bool
 }
 
 // The place of the first of n names that has these words; n where none has them.
-fn place_of(firsts: [u8; 64], seconds: [u8; 64], n: usize, first: u8, second: u8) -> u8
+fn place_of<'a>(firsts: &'a [u8; 64], seconds: &'a [u8; 64], n: usize, first: u8, second: u8) -> u8
     requires { ⌜ n ≤ 64 ⌝ }
-    ensures { λ r. ⌜ Place firsts seconds n first second r ⌝ }
+    ensures { λ r. ⌜ Place (now (firsts .entry)) (now (seconds .entry)) n first second r ⌝ }
 {
     let mut i: usize = 0;
     while i < n {
@@ -67,46 +67,50 @@ fn no_parents(count: usize, self_word: u8) -> Parents
     }
 }
 
-// The names of the types, and how many parents each lists.
+// The names of the types, how many parents each lists, and the words of these as listed, eight places a type.
 fn with_names(p: Parents, types: Types) -> Parents
     requires { ⌜ Few types ⌝ }
     ensures { λ r. ⌜ Named types p r ⌝ }
 {
-    let n = types.count;
+    let end = 8 * types.count;
     let mut r = p;
-    let mut t: usize = 0;
-    while t < n {
+    let mut at: usize = 0;
+    while at < end {
+        let t = at / 8;
         let x = types.items[t];
         let name = x.name;
         let parents = x.parents;
         r.firsts[t] = name.first;
         r.seconds[t] = name.second;
         r.counts[t] = parents.count as u8;
-        t += 1;
+        r.parent_firsts[at] = first_at(parents, at % 8);
+        r.parent_seconds[at] = second_at(parents, at % 8);
+        at += 1;
     }
     r
 }
 
-// The parents as listed, eight places a type, each with the place of the type that it names. 'Lookup by name only.'
-fn with_listed(p: Parents, types: Types) -> Parents
-    requires { ⌜ types .count ≤ 64 ⌝ }
-    ensures { λ r. ⌜ Listed types p r ⌝ }
+// How many names a look-up goes through: none at a place that has no parent.
+fn names_for(i: usize, count: u8, n: usize) -> usize
+    ensures { λ r. ⌜ (r ≡ cond (ltb i count) n 0) × (r ≤ n) ⌝ }
 {
-    let n = types.count;
+    if i < count as usize { n } else { 0 }
+}
+
+// The place of the type that each parent names. 'Lookup by name only.'
+fn with_places(p: Parents) -> Parents
+    requires { ⌜ p .count ≤ 64 ⌝ }
+    ensures { λ r. ⌜ Looked p r ⌝ }
+{
+    let n = p.count;
     let end = 8 * n;
-    let firsts = p.firsts;
-    let seconds = p.seconds;
     let mut r = p;
     let mut at: usize = 0;
     while at < end {
-        let t = at / 8;
-        let x = types.items[t];
-        let names = x.parents;
-        let first = first_at(names, at % 8);
-        let second = second_at(names, at % 8);
-        r.parent_firsts[at] = first;
-        r.parent_seconds[at] = second;
-        r.places[at] = place_of(firsts, seconds, n, first, second);
+        let m = names_for(at % 8, p.counts[at / 8], n);
+        let first = p.parent_firsts[at];
+        let second = p.parent_seconds[at];
+        r.places[at] = place_of(&p.firsts, &p.seconds, m, first, second);
         at += 1;
     }
     r
@@ -119,5 +123,5 @@ pub fn parents_of(types: Types, self_word: u8) -> Parents
 {
     let empty = no_parents(types.count, self_word);
     let named = with_names(empty, types);
-    with_listed(named, types)
+    with_places(named)
 }

@@ -1,3 +1,2 @@
 pub mod Repeats
 pub mod RepeatLaws
-pub mod SheetCounts

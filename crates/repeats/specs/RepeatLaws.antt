@@ -17,16 +17,11 @@ use Rattle.lists.specs.Lexicographic.{same-numbers, numbers-same}
 use Rattle.definitions.specs.Checks.{resourcesOf, kindOf, contentOf, sameAnnotation, namesTwice, keysTwice, wordsTwice, annotationsTwice, somethingTwice}
 use Rattle.definitions.specs.Records.{Resource, AnnotationOf}
 use Rattle.definitions.specs.Records as records
-use Rattle.fields.specs.Tabulate.{tabulate, places, length-tabulate}
+use Rattle.fields.specs.Tabulate.{length-tabulate}
 use Rattle.fields.specs.Fields.{twoWords, ofNames}
 use Rattle.records.specs.Annotations.{resourceOf, wordOfRows, annotationAs, annotationOf, zeroAnnotation, ofAnnotations}
 use Rattle.records.specs.declared.Annotation.{Annotation}
 use Rattle.records.specs.declared.Annotations.{Annotations}
-use Rattle.types.specs.Types.{typeInfoOf, zeroType, ofTypes}
-use Rattle.types.specs.Extensions.{ofExtensions}
-use Rattle.types.specs.declared.Types.{Types}
-use Rattle.sheet.specs.Sheets.{sheetOf}
-use Rattle.sheet.specs.declared.Sheet.{Sheet}
 use Rattle.spelling.specs.Scans.{getD-tabulate, getD-places}
 use Rattle.keys.specs.Keys.{sameTypeName, sameExtensionKey}
 use Rattle.keys.specs.KeyLaws.{repeats-map, map-tabulate, same-words}
@@ -206,24 +201,16 @@ only-word a =
         positive zero h = absurd (h refl)
         positive (suc n) h = omega arith
 
--- ---- annotations and types by place
+-- ---- annotations by place
 
 pub annotation-of : (t : Annotations) (i : ℕ) (d : AnnotationOf Resource) → i < t .count → getD (ofAnnotations t) i d ≡ annotationOf (getD (t .items) i zeroAnnotation)
 unfolding ofAnnotations
 annotation-of t i d h = getD-places annotationOf zeroAnnotation (t .items) (t .count) i d h
 
-pub type-of : (t : Types) (i : ℕ) (d : records.TypeInfo) → i < t .count → getD (ofTypes t) i d ≡ typeInfoOf (getD (t .items) i zeroType)
-unfolding ofTypes
-type-of t i d h = getD-places typeInfoOf zeroType (t .items) (t .count) i d h
-
 -- MakeList, whatever the rows
 pub no-rows : (words doms : List ℕ) → annotationOf (record { kind = 0; count = 0; words = words; doms = doms }) ≡ annotationOf zeroAnnotation
 unfolding annotationOf annotationAs
 no-rows words doms = refl
-
-pub no-type : typeRepeats (typeInfoOf zeroType) ≡ false
-unfolding typeInfoOf ofAnnotations repeatsIn places tabulate
-no-type = refl
 
 -- all words of a list are those of the first i and those behind
 pub all-step : {A : Type 0} (f : A → Bool) (l : List A) (i : ℕ) (d : A) → i < length l → all f (drop i l) ≡ (f (getD l i d) && all f (drop (i + 1) l))
@@ -250,9 +237,7 @@ twice-within s =
     any-or (λ (T : records.TypeInfo). any repeatsWord (T .annotations)) (λ (T : records.TypeInfo). repeats sameAnnotation (T .annotations)) (s .types)
 
 -- refusal 6 from its parts
-pub something-twice : (s : Sheet) →
-    somethingTwice (sheetOf s)
-    ≡ (repeats sameTypeName (ofTypes (s .types)) || (repeats sameExtensionKey (ofExtensions (s .extensions)) || any typeRepeats (ofTypes (s .types))))
-unfolding somethingTwice sheetOf namesTwice keysTwice
-something-twice s =
-    ap (λ (b : Bool). repeats sameTypeName (ofTypes (s .types)) || (repeats sameExtensionKey (ofExtensions (s .extensions)) || b)) (sym (twice-within (sheetOf s)))
+pub something-twice : (s : records.Sheet) →
+    somethingTwice s ≡ (repeats sameTypeName (s .types) || (repeats sameExtensionKey (s .extensions) || any typeRepeats (s .types)))
+unfolding somethingTwice namesTwice keysTwice
+something-twice s = ap (λ (b : Bool). repeats sameTypeName (s .types) || (repeats sameExtensionKey (s .extensions) || b)) (sym (twice-within s))

@@ -1,20 +1,15 @@
 // 01, refusal 6: 'a word within an associate; two annotations of a type of one kind and equal (associates: equal word sets)'.
 use records::Annotation;
 use records::Annotations;
-use sheet::Sheet;
 use types::TypeInfo;
-use types::Types;
 ghost use mathlib.Core.Bool.{_&&_, _||_};
 ghost use mathlib.Core.Path.{_≡_};
-ghost use Prim.Native.Nat.{_≤_};
 ghost use lib.Dec.{eqb};
 ghost use lib.ListN.{getD, drop};
 ghost use Rattle.lists.specs.Lists.{any, all, repeats, sameList};
-ghost use Rattle.definitions.specs.Checks.{sameAnnotation, somethingTwice};
+ghost use Rattle.definitions.specs.Checks.{sameAnnotation};
 ghost use Rattle.records.specs.Annotations.{annotationOf, wordOfRows, zeroAnnotation, ofAnnotations};
-ghost use Rattle.sheet.specs.Sheets.{sheetOf};
-ghost use Rattle.types.specs.Types.{ofTypes, typeInfoOf, zeroType};
-ghost use Rattle.repeats.specs.Repeats.{wordsOf, rowsOf, rowAt, repeatsWord, kindIn, sameContent, repeatsIn, typeRepeats};
+ghost use Rattle.repeats.specs.Repeats.{wordsOf, rowsOf, rowAt, repeatsWord, kindIn, sameContent, repeatsIn};
 
 // The word at i; 0 past the array.
 fn word_at(a: Annotation, i: usize) -> u8
@@ -246,7 +241,8 @@ fn has_repeated_word(t: Annotations) -> bool
     false
 }
 
-fn is_repeating(x: TypeInfo) -> bool
+// Whether within a type a word stands twice in an associate, or an annotation twice.
+pub fn is_repeating(x: TypeInfo) -> bool
     ensures { λ r. ⌜ r ≡ repeatsIn (ofAnnotations (x .annotations)) ⌝ }
 {
     let a = x.annotations;
@@ -255,37 +251,4 @@ fn is_repeating(x: TypeInfo) -> bool
     } else {
         repeats_annotation(a)
     }
-}
-
-// Whether within a type a word stands twice in an associate, or an annotation twice.
-pub fn has_annotation_twice(t: Types) -> bool
-    ensures { λ r. ⌜ r ≡ any typeRepeats (ofTypes t) ⌝ }
-{
-    let mut i = 0;
-    while i < t.count {
-        if i < 64 {
-            let x = t.items[i];
-            if is_repeating(x) {
-                return true;
-            }
-        }
-        i += 1;
-    }
-    false
-}
-
-// Refusal 6: 'a name twice among types, a key among extensions', and the two above.
-pub fn is_something_twice(s: Sheet) -> bool
-    requires { ⌜ (s .types .count ≤ 64) × (s .extensions .count ≤ 32) ⌝ }
-    ensures { λ r. ⌜ r ≡ somethingTwice (sheetOf s) ⌝ }
-{
-    let t = s.types;
-    let e = s.extensions;
-    if keys::has_name_twice(t) {
-        return true;
-    }
-    if keys::has_extension_twice(e) {
-        return true;
-    }
-    has_annotation_twice(t)
 }

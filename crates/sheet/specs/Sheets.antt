@@ -1,17 +1,21 @@
 -- What the answers of the code mean, as the definitions' parsers give it.
 use mathlib.Core.Bool.{Bool, cond}
 use mathlib.Core.List.{List}
-use Prim.Native.Nat.{ℕ}
+use mathlib.Core.Path.{_≡_}
+use Prim.Native.Nat.{ℕ, _≤_}
 use lib.Dec.{eqb}
 use lib.ListN.{length, drop}
+use Rattle.lists.specs.Lists.{any}
 use Rattle.definitions.specs.Parse.{Parsed, done, refused, Parser, _>>=_, pure, allowed, counted}
 use Rattle.definitions.specs.Reading.{word, typeInfo, extension}
 use Rattle.definitions.specs.Records as records
-use Rattle.words.specs.Words.{ofWords}
 use Rattle.types.specs.Types.{ofTypes}
-use Rattle.types.specs.Extensions.{ofExtensions}
-use Rattle.sheet.specs.declared.Sheet.{Sheet}
-use Rattle.sheet.specs.declared.SheetRead.{SheetRead}
+use Rattle.types.specs.declared.Types.{Types}
+use Rattle.keys.specs.Keys.{ofKeys, keysIn, typeKeys}
+use Rattle.keys.specs.declared.Keys.{Keys}
+use Rattle.repeats.specs.Repeats.{typeRepeats}
+use Rattle.sheet.specs.declared.Opening.{Opening}
+use Rattle.sheet.specs.declared.TypesRead.{TypesRead}
 
 unfoldable pub version : Parser ℕ
 version = allowed 4 (λ v. eqb v 1)
@@ -24,8 +28,22 @@ lists = do
   es ← counted 6 0 32 (extension (length ws))
   pure (record { words = ws; types = ts; extensions = es })
 
-unfoldable pub sheetOf : Sheet → records.Sheet
-sheetOf s = record { words = ofWords (s .words); types = ofTypes (s .types); extensions = ofExtensions (s .extensions) }
+abbrev pub ofOpening : List Bool → Opening → Parsed ℕ
+ofOpening bs r = cond (eqb (r .refusal) 0) (done 1 (drop (r .next .at) bs)) (refused (r .refusal))
 
-abbrev pub ofSheetRead : List Bool → SheetRead → Parsed records.Sheet
-ofSheetRead bs r = cond (r .ok) (done (sheetOf (r .sheet)) (drop (r .next .at) bs)) (refused (r .refusal))
+-- the types that were read
+abbrev pub typesIn : TypesRead → Types
+typesIn r = record { count = r .count; items = r .items }
+
+-- and their names
+abbrev pub namesIn : TypesRead → Keys
+namesIn r = keysIn (r .count) (r .first) (r .second) (r .word)
+
+abbrev pub ofTypesRead : List Bool → TypesRead → Parsed (List records.TypeInfo)
+ofTypesRead bs r = cond (r .ok) (done (ofTypes (typesIn r)) (drop (r .at) bs)) (refused (r .refusal))
+
+-- the names of the types, and whether one repeats something within itself
+pub record Noted (t : Types) (k : Keys) (twice : Bool) : Type 0 where
+  pub few : t .count ≤ 64
+  pub names : ofKeys k ≡ typeKeys t
+  pub within : twice ≡ any typeRepeats (ofTypes t)

@@ -1,114 +1,129 @@
-// A whole sheet, read: its words, types and extensions, and the fill behind them.
+// The parts of a sheet: its version, its types, and the fill behind its lists.
 use bits::Cursor;
 use bits::Read;
 use fields::Field;
-use types::Extensions;
-use types::Types;
-use words::Words;
-ghost use mathlib.Core.Bool.{false};
-ghost use mathlib.Core.List.{[]};
+use types::TypeInfo;
+ghost use mathlib.Core.Bool.{true, false, _||_};
 ghost use mathlib.Core.Path.{_≡_};
 ghost use Prim.Native.Nat.{_+_, _*_, _≤_, _<_};
 ghost use lib.ListN.{length, drop};
 ghost use Rattle.definitions.specs.Bits.{bitsOf};
+ghost use Rattle.definitions.specs.Parse.{repeat, counted};
 ghost use Rattle.definitions.specs.Checks.{badFill};
-ghost use Rattle.definitions.specs.Reading.{sheet};
-ghost use Rattle.fields.specs.Fields.{ofField};
-ghost use Rattle.sheet.specs.Sheets.{version, lists, ofSheetRead};
+ghost use Rattle.definitions.specs.Reading.{typeInfo};
+ghost use Rattle.sheet.specs.Sheets.{version, ofOpening, typesIn, namesIn, ofTypesRead, Noted};
 
-pub struct Sheet {
-    pub words: Words,
-    pub types: Types,
-    pub extensions: Extensions,
-}
-
-// ok: the sheet and the cursor behind it. Else a refusal.
-pub struct SheetRead {
-    pub ok: bool,
+// What a sheet begins with: the cursor behind the version, or a refusal other than 0.
+pub struct Opening {
     pub refusal: usize,
     pub next: Cursor,
-    pub sheet: Sheet,
 }
 
-fn sheet_refused(r: usize) -> SheetRead
-    ensures { λ x. ⌜ (x .ok ≡ false) × (x .refusal ≡ r) ⌝ }
-{
-    let words = words::no_words();
-    let types = types::no_types();
-    let extensions = types::no_extensions();
-    SheetRead {
-        ok: false,
-        refusal: r,
-        next: Cursor { at: 0 },
-        sheet: Sheet {
-            words,
-            types,
-            extensions,
-        },
-    }
+// ok: the first count types as listed, and the place behind them. Else a refusal.
+// Their names stand in arrays of their own too, with a word of 0 each; twice: a type repeats something within itself.
+pub struct TypesRead {
+    pub ok: bool,
+    pub refusal: usize,
+    pub at: usize,
+    pub twice: bool,
+    pub count: usize,
+    pub first: [u8; 64],
+    pub second: [u8; 64],
+    pub word: [u8; 64],
+    pub items: [TypeInfo; 64],
 }
 
 // 01: 'Version 4 (is 1)'.
-fn read_version(s: &[u8], c: Cursor) -> Field
+pub fn read_version(s: &[u8], c: Cursor) -> Opening
     requires { ⌜ length (now s) ≤ 40960 ⌝ }
-    ensures { λ r. ⌜ ofField (bitsOf (now (s .entry))) r ≡ version (drop (c .at) (bitsOf (now (s .entry)))) ⌝ }
+    ensures { λ r. ⌜ ofOpening (bitsOf (now (s .entry))) r ≡ version (drop (c .at) (bitsOf (now (s .entry)))) ⌝ }
 {
     match reader::read_at(s, c, 4) {
         Read::Value(v, next) => {
             if v == 1 {
-                Field::At(v, next)
+                Opening { refusal: 0, next }
             } else {
-                Field::Refused(4)
+                Opening { refusal: 4, next }
             }
         }
-        Read::Past => Field::Refused(3),
-    }
-}
-
-// 01: 'then three lists, each its count and directly after it its entries: words; types; extensions'.
-fn read_lists(s: &[u8], c: Cursor) -> SheetRead
-    requires { ⌜ length (now s) ≤ 40960 ⌝ }
-    ensures { λ r. ⌜ ofSheetRead (bitsOf (now (s .entry))) r ≡ lists (drop (c .at) (bitsOf (now (s .entry)))) ⌝ }
-{
-    let ws = words::read_words(s, c);
-    if !ws.ok {
-        return sheet_refused(ws.refusal);
-    }
-    let words = ws.words;
-    let limit = words.count;
-    let c1 = ws.next;
-    let ts = types::read_types(s, c1, limit);
-    if !ts.ok {
-        return sheet_refused(ts.refusal);
-    }
-    let c2 = ts.next;
-    let es = types::read_extensions(s, c2, limit);
-    if !es.ok {
-        return sheet_refused(es.refusal);
-    }
-    let types = ts.types;
-    let extensions = es.extensions;
-    let next = es.next;
-    SheetRead {
-        ok: true,
-        refusal: 0,
-        next,
-        sheet: Sheet {
-            words,
-            types,
-            extensions,
+        Read::Past => Opening {
+            refusal: 3,
+            next: c,
         },
     }
 }
 
-// The sheet from its first bit on: refusals 3 and 4 by the first field that deserves one.
-pub fn read_sheet(s: &[u8]) -> SheetRead
-    requires { ⌜ length (now s) ≤ 40960 ⌝ }
-    ensures { λ r. ⌜ ofSheetRead (bitsOf (now (s .entry))) r ≡ sheet (bitsOf (now (s .entry))) ⌝ }
+// No type yet.
+fn no_types_read(c: Cursor) -> TypesRead
+    ensures { λ r. ⌜ (r .ok ≡ true) × (r .at ≡ c .at) × (r .count ≡ 0) × Noted (typesIn r) (namesIn r) (r .twice) ⌝ }
 {
-    match read_version(s, Cursor { at: 0 }) {
-        Field::At(_, next) => read_lists(s, next),
-        Field::Refused(r) => sheet_refused(r),
+    let info = types::no_type();
+    TypesRead {
+        ok: true,
+        refusal: 0,
+        at: c.at,
+        twice: false,
+        count: 0,
+        first: [0u8; 64],
+        second: [0u8; 64],
+        word: [0u8; 64],
+        items: [info; 64],
+    }
+}
+
+fn types_refused(r: usize) -> TypesRead
+    ensures { λ x. ⌜ (x .ok ≡ false) × (x .refusal ≡ r) × Noted (typesIn x) (namesIn x) (x .twice) ⌝ }
+{
+    let mut read = no_types_read(Cursor { at: 0 });
+    read.ok = false;
+    read.refusal = r;
+    read
+}
+
+fn either(a: bool, b: bool) -> bool
+    ensures { λ r. ⌜ r ≡ (a || b) ⌝ }
+{
+    if a { true } else { b }
+}
+
+// n types.
+fn read_each_type(s: &[u8], c: Cursor, limit: usize, n: usize) -> TypesRead
+    requires { ⌜ (length (now s) ≤ 40960) × (limit ≤ 255) × (n ≤ 64) ⌝ }
+    ensures { λ r. ⌜ (ofTypesRead (bitsOf (now (s .entry))) r ≡ repeat (typeInfo limit) n (drop (c .at) (bitsOf (now (s .entry))))) × Noted (typesIn r) (namesIn r) (r .twice) ⌝ }
+{
+    let mut read = no_types_read(c);
+    let mut left = n;
+    while 0 < left {
+        let r = types::read_type(s, Cursor { at: read.at }, limit);
+        if !r.ok {
+            read.ok = false;
+            read.refusal = r.refusal;
+            return read;
+        }
+        let x = r.info;
+        let name = x.name;
+        let next = r.next;
+        let i = read.count;
+        read.items[i] = x;
+        read.first[i] = name.first;
+        read.second[i] = name.second;
+        read.word[i] = 0;
+        read.count = i + 1;
+        read.at = next.at;
+        read.twice = either(read.twice, repeats::is_repeating(x));
+        left -= 1;
+    }
+    read
+}
+
+// 01: 'types, N 7 (0 to 64)'.
+pub fn read_types(s: &[u8], c: Cursor, limit: usize) -> TypesRead
+    requires { ⌜ (length (now s) ≤ 40960) × (limit ≤ 255) ⌝ }
+    ensures { λ r. ⌜ (ofTypesRead (bitsOf (now (s .entry))) r ≡ counted 7 0 64 (typeInfo limit) (drop (c .at) (bitsOf (now (s .entry))))) × Noted (typesIn r) (namesIn r) (r .twice) ⌝ }
+{
+    match fields::read_between(s, c, 7, 0, 64) {
+        Field::At(n, next) => read_each_type(s, next, limit, n),
+        Field::Refused(r) => types_refused(r),
     }
 }
 

@@ -103,6 +103,14 @@ place-step f l i d h e = rw (drop-step l i d h, e)
 pub place-end : {A : Type 0} (f : A → Bool) (l : List A) (i : ℕ) → length l ≤ i → placeOf f (drop i l) ≡ 0
 place-end f l i h = rw (drop-end l i h)
 
+pub place-le : {A : Type 0} (f : A → Bool) (l : List A) → placeOf f l ≤ length l
+place-le f [] = omega arith
+place-le f (x ∷ l) = go (f x) (place-le f l)
+  where
+    go : (t : Bool) → placeOf f l ≤ length l → cond t zero (suc (placeOf f l)) ≤ suc (length l)
+    go true h = omega arith
+    go false h = omega arith
+
 -- none is found exactly if the place is past the end
 pub place-none : {A : Type 0} (f : A → Bool) (l : List A) → not (any f l) ≡ leb (length l) (placeOf f l)
 place-none f [] = refl

@@ -1,19 +1,21 @@
 -- Laws of words by place.
-use mathlib.Core.Bool.{_&&_, _||_}
+use mathlib.Core.Bool.{Bool, not, _&&_, _||_}
 use mathlib.Core.List.{List, []}
-use mathlib.Core.Path.{_≡_, _∙_}
+use mathlib.Core.Path.{_≡_, sym, ap, ap₂, _∙_}
 use Prim.Native.Nat.{ℕ, _+_, _-_, _≤_, _<_}
 use native.Mathlib.Omega.{arith}
-use lib.Dec.{eqb, ltb}
+use lib.Dec.{eqb, ltb, leb}
 use lib.ListN.{getD, drop}
-use Rattle.lists.specs.Lists.{sameList, listBefore, ascends}
+use Rattle.lists.specs.Lists.{any, sameList, listBefore, ascends, placeOf}
 use Rattle.definitions.specs.Orders.{bytesBefore}
+use Rattle.definitions.specs.Checks.{resourceBytes, selfBytes, badWords}
+use Rattle.definitions.specs.Map.{numberOf}
 use Rattle.fields.specs.Tabulate.{places}
 use Rattle.words.specs.Words.{wordOf, zeroWord, ofWords}
 use Rattle.words.specs.WordLaws.{length-wordOf, length-ofWords}
 use Rattle.words.specs.declared.Word.{Word}
 use Rattle.words.specs.declared.Words.{Words}
-use Rattle.spelling.specs.Scans.{getD-places, same-step, before-step, ascends-step}
+use Rattle.spelling.specs.Scans.{getD-places, same-step, before-step, ascends-step, place-le, place-none}
 
 pub byte-of : (w : Word) (i : ℕ) → i < w .count → getD (wordOf w) i 0 ≡ getD (w .bytes) i 0
 unfolding wordOf
@@ -46,3 +48,23 @@ ascends-words t i g h =
     let f : i + 1 - 1 ≡ i = omega arith in
     ascends-step bytesBefore (ofWords t) (i - 1) [] (omega (arith, length-ofWords t))
     ∙ rw (e, f, word-of t (i - 1) (omega arith), word-of t i h)
+
+-- ---- the words `resource` and `self`
+
+module _ (t : Words) (bytes : List ℕ) (w : Word) (n : ℕ) (e : wordOf w ≡ bytes) (p : n ≡ placeOf (sameList eqb (wordOf w)) (ofWords t)) where
+  pub place-is : n ≡ numberOf bytes (ofWords t)
+  unfolding numberOf
+  place-is = p ∙ ap (λ (x : List ℕ). placeOf (sameList eqb x) (ofWords t)) e
+
+  pub place-few : n ≤ t .count
+  place-few = omega (arith, p, place-le (sameList eqb (wordOf w)) (ofWords t), length-ofWords t)
+
+missing : (t : Words) (f : List ℕ → Bool) (n : ℕ) → n ≡ placeOf f (ofWords t) → leb (t .count) n ≡ not (any f (ofWords t))
+missing t f n e = ap₂ leb (sym (length-ofWords t)) e ∙ sym (place-none f (ofWords t))
+
+-- refusal 5 from the places
+pub bad-is : (t : Words) (up : Bool) (a b : ℕ) → up ≡ ascends bytesBefore (ofWords t) → a ≡ numberOf resourceBytes (ofWords t) → b ≡ numberOf selfBytes (ofWords t) →
+    (not up || (leb (t .count) a || leb (t .count) b)) ≡ badWords (ofWords t)
+unfolding badWords numberOf
+bad-is t up a b e f g =
+    ap₂ (λ (x y : Bool). not x || y) e (ap₂ _||_ (missing t (sameList eqb resourceBytes) a f) (missing t (sameList eqb selfBytes) b g))

@@ -1,15 +1,23 @@
 // Words compared by their bytes, and refusal 5: 'words not ascending, or `resource` or `self` missing'.
 use words::Word;
 use words::Words;
-ghost use mathlib.Core.Bool.{Bool};
+ghost use mathlib.Core.Bool.{not, _||_};
 ghost use mathlib.Core.Path.{_≡_};
 ghost use Prim.Native.Nat.{_+_, _≤_, _<_};
-ghost use lib.Dec.{eqb};
+ghost use lib.Dec.{eqb, leb};
 ghost use lib.ListN.{getD};
 ghost use Rattle.lists.specs.Lists.{sameList, ascends, placeOf};
 ghost use Rattle.definitions.specs.Orders.{bytesBefore};
-ghost use Rattle.definitions.specs.Checks.{resourceBytes, selfBytes, badWords};
+ghost use Rattle.definitions.specs.Checks.{resourceBytes, selfBytes};
 ghost use Rattle.words.specs.Words.{wordOf, ofWords};
+ghost use Rattle.spelling.specs.Spelling.{Spells};
+
+// bad: refusal 5. The numbers of the words `resource` and `self`, the count of the words for one that is missing.
+pub struct Spelled {
+    pub bad: bool,
+    pub resource: u8,
+    pub own: u8,
+}
 
 // The byte at i; 0 past the array.
 fn byte_at(w: Word, i: usize) -> u8
@@ -18,7 +26,7 @@ fn byte_at(w: Word, i: usize) -> u8
     if i < 31 { w.bytes[i] } else { 0 }
 }
 
-pub fn is_same_word(a: Word, b: Word) -> bool
+fn is_same_word(a: Word, b: Word) -> bool
     ensures { λ r. ⌜ r ≡ sameList eqb (wordOf a) (wordOf b) ⌝ }
 {
     let n = a.count;
@@ -38,7 +46,7 @@ pub fn is_same_word(a: Word, b: Word) -> bool
 }
 
 // 01: 'Words ascend strictly by bytes'. The first byte that differs decides; a word comes before its extensions.
-pub fn is_word_before(a: Word, b: Word) -> bool
+fn is_word_before(a: Word, b: Word) -> bool
     ensures { λ r. ⌜ r ≡ bytesBefore (wordOf a) (wordOf b) ⌝ }
 {
     let n = a.count;
@@ -61,7 +69,7 @@ pub fn is_word_before(a: Word, b: Word) -> bool
     i < m
 }
 
-pub fn is_ascending(t: Words) -> bool
+fn is_ascending(t: Words) -> bool
     requires { ⌜ t .count ≤ 200 ⌝ }
     ensures { λ r. ⌜ r ≡ ascends bytesBefore (ofWords t) ⌝ }
 {
@@ -79,7 +87,7 @@ pub fn is_ascending(t: Words) -> bool
 }
 
 // The number of a word by its bytes; the count of the words where it is missing.
-pub fn place_of(t: Words, w: Word) -> usize
+fn place_of(t: Words, w: Word) -> usize
     requires { ⌜ t .count ≤ 200 ⌝ }
     ensures { λ r. ⌜ r ≡ placeOf (sameList eqb (wordOf w)) (ofWords t) ⌝ }
 {
@@ -94,7 +102,7 @@ pub fn place_of(t: Words, w: Word) -> usize
     i
 }
 
-pub fn resource_word() -> Word
+fn resource_word() -> Word
     ensures { λ r. ⌜ wordOf r ≡ resourceBytes ⌝ }
 {
     let mut bytes = [0u8; 31];
@@ -109,7 +117,7 @@ pub fn resource_word() -> Word
     Word { count: 8, bytes }
 }
 
-pub fn self_word() -> Word
+fn self_word() -> Word
     ensures { λ r. ⌜ wordOf r ≡ selfBytes ⌝ }
 {
     let mut bytes = [0u8; 31];
@@ -120,18 +128,31 @@ pub fn self_word() -> Word
     Word { count: 4, bytes }
 }
 
-// Refusal 5.
-pub fn is_bad_words(t: Words) -> bool
-    requires { ⌜ t .count ≤ 200 ⌝ }
-    ensures { λ r. ⌜ r ≡ badWords (ofWords t) ⌝ }
+// Refusal 5, from whether the words ascend, how many they are, and the places of the two words.
+fn is_bad(ascending: bool, count: usize, resource: usize, own: usize) -> bool
+    ensures { λ r. ⌜ r ≡ (not ascending || (leb count resource || leb count own)) ⌝ }
 {
-    if !is_ascending(t) {
+    if !ascending {
         return true;
     }
-    let resource = resource_word();
-    if t.count <= place_of(t, resource) {
+    if count <= resource {
         return true;
     }
-    let own = self_word();
-    t.count <= place_of(t, own)
+    count <= own
+}
+
+// Refusal 5, and the numbers of the words `resource` and `self`.
+pub fn spell(t: Words) -> Spelled
+    requires { ⌜ t .count ≤ 200 ⌝ }
+    ensures { λ r. ⌜ Spells (ofWords t) r ⌝ }
+{
+    let class = resource_word();
+    let resource = place_of(t, class);
+    let self_word = self_word();
+    let own = place_of(t, self_word);
+    Spelled {
+        bad: is_bad(is_ascending(t), t.count, resource, own),
+        resource: resource as u8,
+        own: own as u8,
+    }
 }

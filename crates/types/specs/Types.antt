@@ -17,7 +17,6 @@ use Rattle.types.specs.declared.HeadRead.{HeadRead}
 use Rattle.types.specs.declared.TypeInfo.{TypeInfo}
 use Rattle.types.specs.declared.TypeInfoRead.{TypeInfoRead}
 use Rattle.types.specs.declared.Types.{Types}
-use Rattle.types.specs.declared.TypesRead.{TypesRead}
 
 -- what a type begins with
 pub record Heading : Type 0 where
@@ -81,6 +80,3 @@ zeroType = record {
 
 unfoldable pub ofTypes : Types → List records.TypeInfo
 ofTypes t = places typeInfoOf zeroType (t .items) (t .count)
-
-abbrev pub ofTypesRead : List Bool → TypesRead → Parsed (List records.TypeInfo)
-ofTypesRead bs r = cond (r .ok) (done (ofTypes (r .types)) (drop (r .next .at) bs)) (refused (r .refusal))

@@ -16,7 +16,7 @@ ghost use lib.ListN.{length, drop};
 ghost use Rattle.definitions.specs.Bits.{bitsOf};
 ghost use Rattle.definitions.specs.Parse.{repeat, counted};
 ghost use Rattle.definitions.specs.Reading.{typeInfo, extension};
-ghost use Rattle.types.specs.Types.{headingOf, head, body, ofHeadRead, typeInfoOf, ofTypeInfoRead, ofTypes, ofTypesRead};
+ghost use Rattle.types.specs.Types.{headingOf, head, body, ofHeadRead, typeInfoOf, ofTypeInfoRead, ofTypes};
 ghost use Rattle.types.specs.Extensions.{extensionOf, ofExtensionRead, ofExtensions, ofExtensionsRead};
 
 // What a type begins with. The variant is 01's number: 0 domain, 1 resource, 2 other.
@@ -54,13 +54,6 @@ pub struct TypeInfoRead {
 pub struct Types {
     pub count: usize,
     pub items: [TypeInfo; 64],
-}
-
-pub struct TypesRead {
-    pub ok: bool,
-    pub refusal: usize,
-    pub next: Cursor,
-    pub types: Types,
 }
 
 pub struct Extension {
@@ -208,58 +201,6 @@ pub fn no_types() -> Types
     }
 }
 
-pub fn types_refused(r: usize) -> TypesRead
-    ensures { λ x. ⌜ (x .ok ≡ false) × (x .refusal ≡ r) ⌝ }
-{
-    let types = no_types();
-    TypesRead {
-        ok: false,
-        refusal: r,
-        next: Cursor { at: 0 },
-        types,
-    }
-}
-
-// n types.
-fn read_each_type(s: &[u8], c: Cursor, limit: usize, n: usize) -> TypesRead
-    requires { ⌜ (length (now s) ≤ 40960) × (limit ≤ 255) × (n ≤ 64) ⌝ }
-    ensures { λ r. ⌜ ofTypesRead (bitsOf (now (s .entry))) r ≡ repeat (typeInfo limit) n (drop (c .at) (bitsOf (now (s .entry)))) ⌝ }
-{
-    let mut next = c;
-    let mut types = no_types();
-    let mut left = n;
-    while 0 < left {
-        let r = read_type(s, next, limit);
-        if r.ok {
-            let x = r.info;
-            let i = types.count;
-            types.items[i] = x;
-            types.count = i + 1;
-            next = r.next;
-        } else {
-            return types_refused(r.refusal);
-        }
-        left -= 1;
-    }
-    TypesRead {
-        ok: true,
-        refusal: 0,
-        next,
-        types,
-    }
-}
-
-// 01: 'types, N 7 (0 to 64)'.
-pub fn read_types(s: &[u8], c: Cursor, limit: usize) -> TypesRead
-    requires { ⌜ (length (now s) ≤ 40960) × (limit ≤ 255) ⌝ }
-    ensures { λ r. ⌜ ofTypesRead (bitsOf (now (s .entry))) r ≡ counted 7 0 64 (typeInfo limit) (drop (c .at) (bitsOf (now (s .entry)))) ⌝ }
-{
-    match fields::read_between(s, c, 7, 0, 64) {
-        Field::At(n, next) => read_each_type(s, next, limit, n),
-        Field::Refused(r) => types_refused(r),
-    }
-}
-
 pub fn no_extension() -> Extension {
     let parents = fields::no_names();
     Extension {
@@ -325,8 +266,8 @@ pub fn no_extensions() -> Extensions
     }
 }
 
-pub fn extensions_refused(r: usize) -> ExtensionsRead
-    ensures { λ x. ⌜ (x .ok ≡ false) × (x .refusal ≡ r) ⌝ }
+fn extensions_refused(r: usize) -> ExtensionsRead
+    ensures { λ x. ⌜ (x .ok ≡ false) × (x .refusal ≡ r) × (x .extensions .count ≡ 0) ⌝ }
 {
     let extensions = no_extensions();
     ExtensionsRead {
@@ -340,7 +281,7 @@ pub fn extensions_refused(r: usize) -> ExtensionsRead
 // n extensions.
 fn read_each_extension(s: &[u8], c: Cursor, limit: usize, n: usize) -> ExtensionsRead
     requires { ⌜ (length (now s) ≤ 40960) × (limit ≤ 255) × (n ≤ 32) ⌝ }
-    ensures { λ r. ⌜ ofExtensionsRead (bitsOf (now (s .entry))) r ≡ repeat (extension limit) n (drop (c .at) (bitsOf (now (s .entry)))) ⌝ }
+    ensures { λ r. ⌜ (ofExtensionsRead (bitsOf (now (s .entry))) r ≡ repeat (extension limit) n (drop (c .at) (bitsOf (now (s .entry))))) × (r .extensions .count ≤ 32) ⌝ }
 {
     let mut next = c;
     let mut extensions = no_extensions();
@@ -369,7 +310,7 @@ fn read_each_extension(s: &[u8], c: Cursor, limit: usize, n: usize) -> Extension
 // 01: 'extensions, 6 (0 to 32)'.
 pub fn read_extensions(s: &[u8], c: Cursor, limit: usize) -> ExtensionsRead
     requires { ⌜ (length (now s) ≤ 40960) × (limit ≤ 255) ⌝ }
-    ensures { λ r. ⌜ ofExtensionsRead (bitsOf (now (s .entry))) r ≡ counted 6 0 32 (extension limit) (drop (c .at) (bitsOf (now (s .entry)))) ⌝ }
+    ensures { λ r. ⌜ (ofExtensionsRead (bitsOf (now (s .entry))) r ≡ counted 6 0 32 (extension limit) (drop (c .at) (bitsOf (now (s .entry))))) × (r .extensions .count ≤ 32) ⌝ }
 {
     match fields::read_between(s, c, 6, 0, 32) {
         Field::At(n, next) => read_each_extension(s, next, limit, n),

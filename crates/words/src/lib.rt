@@ -170,7 +170,7 @@ pub fn no_words() -> Words
 }
 
 fn words_refused(r: usize) -> WordsRead
-    ensures { λ x. ⌜ (x .ok ≡ false) × (x .refusal ≡ r) ⌝ }
+    ensures { λ x. ⌜ (x .ok ≡ false) × (x .refusal ≡ r) × (x .words .count ≡ 0) ⌝ }
 {
     let words = no_words();
     WordsRead {
@@ -184,7 +184,7 @@ fn words_refused(r: usize) -> WordsRead
 // n words.
 fn read_each_word(s: &[u8], c: Cursor, n: usize) -> WordsRead
     requires { ⌜ (length (now s) ≤ 40960) × (n ≤ 200) ⌝ }
-    ensures { λ r. ⌜ ofWordsRead (bitsOf (now (s .entry))) r ≡ repeat word n (drop (c .at) (bitsOf (now (s .entry)))) ⌝ }
+    ensures { λ r. ⌜ (ofWordsRead (bitsOf (now (s .entry))) r ≡ repeat word n (drop (c .at) (bitsOf (now (s .entry))))) × (r .words .count ≤ 200) ⌝ }
 {
     let mut next = c;
     let mut words = no_words();
@@ -213,7 +213,7 @@ fn read_each_word(s: &[u8], c: Cursor, n: usize) -> WordsRead
 // 01: 'words, W 8 (2 to 200)'.
 pub fn read_words(s: &[u8], c: Cursor) -> WordsRead
     requires { ⌜ length (now s) ≤ 40960 ⌝ }
-    ensures { λ r. ⌜ ofWordsRead (bitsOf (now (s .entry))) r ≡ counted 8 2 200 word (drop (c .at) (bitsOf (now (s .entry)))) ⌝ }
+    ensures { λ r. ⌜ (ofWordsRead (bitsOf (now (s .entry))) r ≡ counted 8 2 200 word (drop (c .at) (bitsOf (now (s .entry))))) × (r .words .count ≤ 200) ⌝ }
 {
     match fields::read_between(s, c, 8, 2, 200) {
         Field::At(n, next) => read_each_word(s, next, n),

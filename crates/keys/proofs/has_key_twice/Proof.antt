@@ -11,10 +11,10 @@ use Rattle.keys.proofs.has_key_twice.Statement.{statement}
 use Rattle.keys.proofs.has_key_twice.Tie as tie
 
 abbrev Inv-loop : tie.InvT-loop
-Inv-loop t i₀ i = (i ≤ t .count) × (repeats sameKey (ofKeys t) ≡ repeats sameKey (drop i (ofKeys t)))
+Inv-loop t n i₀ i = (i ≤ n) × (repeats sameKey (ofKeys t) ≡ repeats sameKey (drop i (ofKeys t)))
 
 abbrev μ-loop : tie.MeasureT-loop
-μ-loop t i₀ i = t .count - i
+μ-loop t n i₀ i = n - i
 
 loop-holds : tie.Need-loop-holds Inv-loop μ-loop
 loop-holds c = (omega arith, refl)
@@ -24,9 +24,9 @@ is-key-again-requires c κs = search needs
 
 returns : tie.Need-returns Inv-loop μ-loop
 returns c =
-    let l = c .before .before .before .before .loop in
-    let a = c .before .before .before .before .before .args .t in
-    sym (l .inv .1 ∙ repeats-step sameKey (ofKeys a) (l .i) (keyAt a 0) (omega (arith, length-ofKeys a)) ∙ rw (key-of a (l .i) (keyAt a 0) (omega arith), ← c .before .is-key-again .ensures, c .if2 .taken))
+    let l = c .before .before .before .before .before .before .before .loop in
+    let a = c .before .before .before .before .before .before .before .before .args .t1 in
+    sym (l .inv .1 ∙ repeats-step sameKey (ofKeys a) (l .i) (keyAt a 0) (omega (arith, length-ofKeys a)) ∙ rw (key-of a (l .i) (keyAt a 0) (omega arith), ← c .before .is-key-again .ensures, c .if1 .taken))
 
 add-i : tie.Need-add-i Inv-loop μ-loop
 add-i c = search needs
@@ -36,16 +36,16 @@ loop-less c = search needs
 
 loop-again : tie.Need-loop-again Inv-loop μ-loop
 loop-again c =
-    let l = c .before .before .before .before .loop in
-    let a = c .before .before .before .before .before .args .t in (
+    let l = c .before .before .before .before .before .before .before .loop in
+    let a = c .before .before .before .before .before .before .before .before .args .t1 in (
       omega arith,
-      l .inv .1 ∙ repeats-step sameKey (ofKeys a) (l .i) (keyAt a 0) (omega (arith, length-ofKeys a)) ∙ rw (key-of a (l .i) (keyAt a 0) (omega arith), ← c .before .is-key-again .ensures, c .if2 .left),
+      l .inv .1 ∙ repeats-step sameKey (ofKeys a) (l .i) (keyAt a 0) (omega (arith, length-ofKeys a)) ∙ rw (key-of a (l .i) (keyAt a 0) (omega arith), ← c .before .is-key-again .ensures, c .if1 .left),
     )
 
 returns-2 : tie.Need-returns-2 Inv-loop μ-loop
 returns-2 c =
-    let l = c .before .before .loop in
-    let a = c .before .before .before .args .t in
+    let l = c .before .loop in
+    let a = c .before .before .args .t1 in
     sym (l .inv .1 ∙ repeats-end sameKey (ofKeys a) (l .i) (omega (arith, length-ofKeys a)))
 
 pub has-key-twice-spec : {M : Type 1} → statement M

@@ -1,20 +1,23 @@
 use borrow.Author.Needs.{needs}
 use mathlib.Core.Path.{_≡_, refl, sym, _∙_}
 use native.Mathlib.Omega.{arith}
-use Prim.Native.Nat.{_+_, _-_, _≤_}
+use denote.Ref.{now}
+use Prim.Native.Nat.{_-_, _≤_}
 use lib.ListN.{drop}
 use Rattle.lists.specs.Lists.{any}
-use Rattle.keys.specs.Keys.{keyAt, ofKeys, sameKey}
+use Rattle.keys.specs.Keys.{keyAt, keysIn, ofKeys, sameKey, isAgain}
 use Rattle.spelling.specs.Scans.{any-step, any-end}
-use Rattle.keys.specs.KeyLaws.{length-ofKeys, key-of}
+use Rattle.keys.specs.KeyLaws.{length-ofKeys, key-of, same-key}
 use Rattle.keys.proofs.is_key_again.Statement.{statement}
 use Rattle.keys.proofs.is_key_again.Tie as tie
 
 abbrev Inv-loop : tie.InvT-loop
-Inv-loop t i j₀ j = (j ≤ t .count) × (any (sameKey (keyAt t i)) (drop (i + 1) (ofKeys t)) ≡ any (sameKey (keyAt t i)) (drop j (ofKeys t)))
+Inv-loop first second word n i j₀ j =
+    let t = keysIn n first second word in
+    (j ≤ n) × (isAgain t i ≡ any (sameKey (keyAt t i)) (drop j (ofKeys t)))
 
 abbrev μ-loop : tie.MeasureT-loop
-μ-loop t i j₀ j = t .count - j
+μ-loop first second word n i j₀ j = n - j
 
 add-j : tie.Need-add-j Inv-loop μ-loop
 add-j c = search needs
@@ -27,12 +30,13 @@ is-same-key-requires c κs = search needs
 
 returns : tie.Need-returns Inv-loop μ-loop
 returns c =
-    let l = c .before .before .before .before .loop in
-    let a = c .before .before .before .before .before .args in
-    let k = keyAt (a .t) (a .i) in
+    let l = c .before .before .before .loop in
+    let a = c .before .before .before .before .args in
+    let t = keysIn (a .n) (now (a .first)) (now (a .second)) (now (a .word)) in
+    let k = keyAt t (a .i) in
     sym
-    (l .inv .1 ∙ any-step (sameKey k) (ofKeys (a .t)) (l .j) k (omega (arith, length-ofKeys (a .t)))
-    ∙ rw (key-of (a .t) (l .j) k (omega arith), ← c .before .is-same-key .ensures, c .if2 .taken))
+    (l .inv .1 ∙ any-step (sameKey k) (ofKeys t) (l .j) k (omega (arith, length-ofKeys t))
+    ∙ rw (key-of t (l .j) k (omega arith), same-key t (a .i) (l .j), ← c .before .is-same-key .ensures, c .if1 .taken))
 
 add-j-2 : tie.Need-add-j-2 Inv-loop μ-loop
 add-j-2 c = search needs
@@ -42,19 +46,21 @@ loop-less c = search needs
 
 loop-again : tie.Need-loop-again Inv-loop μ-loop
 loop-again c =
-    let l = c .before .before .before .before .loop in
-    let a = c .before .before .before .before .before .args in
-    let k = keyAt (a .t) (a .i) in (
+    let l = c .before .before .before .loop in
+    let a = c .before .before .before .before .args in
+    let t = keysIn (a .n) (now (a .first)) (now (a .second)) (now (a .word)) in
+    let k = keyAt t (a .i) in (
       omega arith,
-      l .inv .1 ∙ any-step (sameKey k) (ofKeys (a .t)) (l .j) k (omega (arith, length-ofKeys (a .t)))
-          ∙ rw (key-of (a .t) (l .j) k (omega arith), ← c .before .is-same-key .ensures, c .if2 .left),
+      l .inv .1 ∙ any-step (sameKey k) (ofKeys t) (l .j) k (omega (arith, length-ofKeys t))
+          ∙ rw (key-of t (l .j) k (omega arith), same-key t (a .i) (l .j), ← c .before .is-same-key .ensures, c .if1 .left),
     )
 
 returns-2 : tie.Need-returns-2 Inv-loop μ-loop
 returns-2 c =
-    let l = c .before .before .loop in
-    let a = c .before .before .before .args in
-    sym (l .inv .1 ∙ any-end (sameKey (keyAt (a .t) (a .i))) (ofKeys (a .t)) (l .j) (omega (arith, length-ofKeys (a .t))))
+    let l = c .before .loop in
+    let a = c .before .before .args in
+    let t = keysIn (a .n) (now (a .first)) (now (a .second)) (now (a .word)) in
+    sym (l .inv .1 ∙ any-end (sameKey (keyAt t (a .i))) (ofKeys t) (l .j) (omega (arith, length-ofKeys t)))
 
 pub is-key-again-spec : {M : Type 1} → statement M
 is-key-again-spec =

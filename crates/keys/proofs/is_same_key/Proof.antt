@@ -1,5 +1,4 @@
 use borrow.Author.Tests.{eq-eqb, ne-eqb}
-use Rattle.keys.specs.KeyLaws.{same-key}
 use borrow.Author.Needs.{needs}
 use Rattle.keys.proofs.is_same_key.Statement.{statement}
 use Rattle.keys.proofs.is_same_key.Tie as tie
@@ -23,19 +22,13 @@ element-copy-out-result-2 : tie.Need-element-copy-out-result-2
 element-copy-out-result-2 c = search needs
 
 returns : tie.Need-returns
-returns c =
-    let a = c .before .before .before .before .before .before .before .before .args in
-    rw (same-key (a .t1) (a .i) (a .j), eq-eqb _ _ (c .before .before .before .before .before .if1 .taken), eq-eqb _ _ (c .before .before .if2 .taken))
+returns c = rw (eq-eqb _ _ (c .before .before .before .before .before .if1 .taken), eq-eqb _ _ (c .before .before .if2 .taken))
 
 returns-2 : tie.Need-returns-2
-returns-2 c =
-    let a = c .before .before .before .before .before .before .args in
-    rw (same-key (a .t1) (a .i) (a .j), eq-eqb _ _ (c .before .before .before .if1 .taken), ne-eqb _ _ (c .if2 .left))
+returns-2 c = rw (eq-eqb _ _ (c .before .before .before .if1 .taken), ne-eqb _ _ (c .if2 .left))
 
 returns-3 : tie.Need-returns-3
-returns-3 c =
-    let a = c .before .before .before .args in
-    rw (same-key (a .t1) (a .i) (a .j), ne-eqb _ _ (c .if1 .left))
+returns-3 c = rw (ne-eqb _ _ (c .if1 .left))
 
 pub is-same-key-spec : {M : Type 1} → statement M
 is-same-key-spec =

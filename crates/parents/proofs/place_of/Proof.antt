@@ -8,24 +8,21 @@ use lib.ListN.{length, getD}
 use Rattle.parents.specs.Compact.{isNamed, Place}
 use Rattle.parents.proofs.place_of.Statement.{statement}
 use Rattle.parents.proofs.place_of.Tie as tie
-use Rattle.parents.proofs.place_of.Reads as reads
-use Rattle.parents.proofs.place_of.Lts as lts
-use Rattle.parents.proofs.is_same.Reads as is-same-reads
 
 abbrev Inv-loop : tie.InvT-loop
-Inv-loop n first second firsts seconds i₀ i = (i ≤ n) × ((k : ℕ) → k < i → isNamed firsts seconds first second k ≡ false)
+Inv-loop firsts seconds n first second i₀ i = (i ≤ n) × ((k : ℕ) → k < i → isNamed firsts seconds first second k ≡ false)
 
 abbrev μ-loop : tie.MeasureT-loop
-μ-loop n first second firsts seconds i₀ i = n - i
+μ-loop firsts seconds n first second i₀ i = n - i
 
 loop-holds : tie.Need-loop-holds Inv-loop μ-loop
 loop-holds c = (omega arith, λ k h. absurd (omega arith))
 
-array-read-is-same : tie.Need-array-read-is-same Inv-loop μ-loop
-array-read-is-same c = search needs
+element-copy-out-is-same : tie.Need-element-copy-out-is-same Inv-loop μ-loop
+element-copy-out-is-same c = search needs
 
-array-read-is-same-2 : tie.Need-array-read-is-same-2 Inv-loop μ-loop
-array-read-is-same-2 c = search needs
+element-copy-out-is-same-2 : tie.Need-element-copy-out-is-same-2 Inv-loop μ-loop
+element-copy-out-is-same-2 c = search needs
 
 is-same-requires : tie.Need-is-same-requires Inv-loop μ-loop
 is-same-requires c κs = search needs
@@ -35,7 +32,7 @@ cast-result c = omega arith
 
 returns : tie.Need-returns Inv-loop μ-loop
 returns c =
-    let i = c .before .before .before .loop in
+    let i = c .before .before .before .before .before .loop in
     record { within = omega arith; before = i .inv .1; found = λ h. sym (c .before .is-same .ensures) ∙ c .if1 .taken }
 
 add-i : tie.Need-add-i Inv-loop μ-loop
@@ -45,7 +42,7 @@ loop-less : tie.Need-loop-less Inv-loop μ-loop
 loop-less c = omega arith
 
 loop-again : tie.Need-loop-again Inv-loop μ-loop
-loop-again c = (omega arith, below-more _ _ (c .before .before .before .loop .inv .1) (sym (c .before .is-same .ensures) ∙ c .if1 .left))
+loop-again c = (omega arith, below-more _ _ (c .before .before .before .before .before .loop .inv .1) (sym (c .before .is-same .ensures) ∙ c .if1 .left))
 
 cast-result-2 : tie.Need-cast-result-2 Inv-loop μ-loop
 cast-result-2 c = omega arith
@@ -60,8 +57,8 @@ place-of-spec =
     Inv-loop
     μ-loop
     loop-holds
-    array-read-is-same
-    array-read-is-same-2
+    element-copy-out-is-same
+    element-copy-out-is-same-2
     is-same-requires
     cast-result
     returns

@@ -20,7 +20,7 @@ returns : tie.Need-returns
 unfolding version allowed
 returns c =
     let b = c .before .before in
-    rw (field-read _ _ 4 (omega arith), ← b .before .before .read-at .ensures, b .v .given .1, eq-eqb _ _ (c .if1 .taken))
+    rw (field-read _ _ 4 (omega arith), ← b .before .before .read-at .ensures, b .v .given .1, eq-eqb _ _ (c .if1 .taken), c .if1 .taken)
 
 returns-2 : tie.Need-returns-2
 unfolding version allowed

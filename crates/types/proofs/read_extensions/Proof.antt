@@ -33,13 +33,13 @@ returns : tie.Need-returns
 unfolding counted
 returns c =
     let b = c .before .before in
-    rw (← b .before .before .read-between .ensures, b .n .given .1) (c .read-each-extension .ensures)
+    (rw (← b .before .before .read-between .ensures, b .n .given .1) (c .read-each-extension .ensures .0), c .read-each-extension .ensures .1)
 
 returns-2 : tie.Need-returns-2
 unfolding counted
 returns-2 c =
     let b = c .before .before in
-    rw (← b .before .before .read-between .ensures, b .r .given .1, c .extensions-refused .ensures .0, c .extensions-refused .ensures .1)
+    (rw (← b .before .before .read-between .ensures, b .r .given .1, c .extensions-refused .ensures .0, c .extensions-refused .ensures .1), omega (arith, c .extensions-refused .ensures .2))
 
 pub read-extensions-spec : {M : Type 1} → statement M
 read-extensions-spec =

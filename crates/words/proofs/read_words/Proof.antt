@@ -33,13 +33,13 @@ returns : tie.Need-returns
 unfolding counted
 returns c =
     let b = c .before .before in
-    rw (← b .before .before .read-between .ensures, b .n .given .1) (c .read-each-word .ensures)
+    (rw (← b .before .before .read-between .ensures, b .n .given .1) (c .read-each-word .ensures .0), c .read-each-word .ensures .1)
 
 returns-2 : tie.Need-returns-2
 unfolding counted
 returns-2 c =
     let b = c .before .before in
-    rw (← b .before .before .read-between .ensures, b .r .given .1, c .words-refused .ensures .0, c .words-refused .ensures .1)
+    (rw (← b .before .before .read-between .ensures, b .r .given .1, c .words-refused .ensures .0, c .words-refused .ensures .1), omega (arith, c .words-refused .ensures .2))
 
 pub read-words-spec : {M : Type 1} → statement M
 read-words-spec =

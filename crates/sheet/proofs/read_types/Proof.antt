@@ -7,8 +7,8 @@ use Rattle.definitions.specs.Parse.{counted}
 use Rattle.fields.specs.FieldLaws.{between-in}
 use Rattle.fields.specs.Fields.{ofField}
 use borrow.Author.Needs.{needs}
-use Rattle.types.proofs.read_types.Statement.{statement}
-use Rattle.types.proofs.read_types.Tie as tie
+use Rattle.sheet.proofs.read_types.Statement.{statement}
+use Rattle.sheet.proofs.read_types.Tie as tie
 
 read-between-requires : tie.Need-read-between-requires
 read-between-requires c κs = search needs
@@ -33,13 +33,13 @@ returns : tie.Need-returns
 unfolding counted
 returns c =
     let b = c .before .before in
-    rw (← b .before .before .read-between .ensures, b .n .given .1) (c .read-each-type .ensures)
+    (rw (← b .before .before .read-between .ensures, b .n .given .1) (c .read-each-type .ensures .0), c .read-each-type .ensures .1)
 
 returns-2 : tie.Need-returns-2
 unfolding counted
 returns-2 c =
     let b = c .before .before in
-    rw (← b .before .before .read-between .ensures, b .r .given .1, c .types-refused .ensures .0, c .types-refused .ensures .1)
+    (rw (← b .before .before .read-between .ensures, b .r .given .1, c .types-refused .ensures .0, c .types-refused .ensures .1), c .types-refused .ensures .2)
 
 pub read-types-spec : {M : Type 1} → statement M
 read-types-spec =
