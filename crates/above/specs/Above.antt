@@ -2,15 +2,14 @@
 use mathlib.Core.Bool.{Bool, true, false, _&&_, _||_}
 use mathlib.Core.List.{List, [], _∷_, _++_, map}
 use mathlib.Core.Path.{_≡_, refl, sym, ap, ap₂, _∙_, subst}
-use Prim.Native.Nat.{ℕ, zero, suc, _+_, _*_, _≤_, _<_}
+use Prim.Native.Nat.{ℕ, suc, _+_, _*_, _<_}
 use native.Mathlib.Omega.{arith}
 use borrow.Author.Tests.{lt-ltb, le-ltb, eqb-true}
 use lib.Dec.{eqb, ltb}
-use lib.ListN.{length, getD}
 use Rattle.lists.specs.Lists.{In, any, filter, each, setOf}
-use Rattle.lists.specs.Tests.{any-of, each-of, filter-of, cons-elim}
-use Rattle.definitions.specs.Records.{Name, Dom, Resource, TypeInfo}
-use Rattle.definitions.specs.Orders.{sameName, elemName, domBefore, dotted}
+use Rattle.lists.specs.Tests.{any-of, filter-of}
+use Rattle.definitions.specs.Records.{Dom, Resource}
+use Rattle.definitions.specs.Orders.{sameName, domBefore, dotted}
 use Rattle.definitions.specs.Map.{TypeMap, Declaration, declarationOf, mapOf}
 use Rattle.definitions.specs.Items.{owned, given, ofWord, hasWord, associateWord, parentsOf, ancestors, domsAbove, parentsAbove, wordsMade}
 use Rattle.rows.specs.declared.Row.{Row}
@@ -22,10 +21,10 @@ use Rattle.ordering.specs.Lists as ordering
 use Rattle.ordering.specs.Reading.{Parent, listed, typeAt, placeIn, parentIn, Reads}
 use Rattle.ordering.specs.Names.{place-same}
 use Rattle.ordering.specs.declared.Parents.{Parents}
-use Rattle.ancestry.specs.Rows.{declarationAt, typesIn, RowOf, Ancestors}
+use Rattle.ancestry.specs.Rows.{declarationAt, typesIn, RowOf}
 use Rattle.ancestry.specs.Places.{types-at}
 use Rattle.above.specs.Lists.{eqb-flip, any-alike, any-each, filter-each, any-and, any-below, any-upTo}
-use Rattle.above.specs.Tables.{rowAt, slotOf, upTo, hasIn, United, Passed, WithMaking, passesAs, Passing}
+use Rattle.above.specs.Tables.{rowAt, slotOf, upTo, hasIn, United, Passed, WithMaking, Direct, PassingIn, passesAs, Passing}
 
 -- ---- what a table says of a map
 
@@ -160,6 +159,17 @@ module _ (p : Parents) (m : TypeMap) (r : Reads p m) (passed : List ℕ) where
       step : (b : Bool) → eqb (q .place) a ≡ b → (b && has (rowAt passed (4 * q .place)) w) ≡ (b && has (rowAt passed (4 * a)) w)
       step true e = ap (λ (x : ℕ). has (rowAt passed (4 * x)) w) (eqb-true (q .place) a e)
       step false e = refl
+
+  -- the types of the row of the direct parents that pass on the word w
+  pub passing-direct : (t w ps x : ℕ) → Direct p t ps → PassingIn ps passed w x → Passing p passed t w x
+  passing-direct t w ps x d g =
+      record {
+        bits = λ a.
+            g .bits a
+            ∙ ap (λ (b : Bool). b && has (rowAt passed (4 * a)) w) (d .bits a)
+            ∙ sym (any-and (λ (q : Parent). eqb (q .place) a) (has (rowAt passed (4 * a)) w) (listed p t))
+            ∙ sym (any-alike (passesAs passed w a) (λ (q : Parent). eqb (q .place) a && has (rowAt passed (4 * a)) w) (listed p t) (at-place w a));
+      }
 
   -- the row of the words that each type passes on
   pub record Passes : Type 0 where

@@ -1,10 +1,9 @@
 -- What was read keeps to the bounds that the rows ask.
-use mathlib.Core.List.{List, [], _∷_, _++_, map, Memᴰ·of-map, List·Memᴰ·head, List·Memᴰ·append-cases}
+use mathlib.Core.List.{List, [], _∷_, _++_, Memᴰ·of-map, List·Memᴰ·head, List·Memᴰ·append-cases}
 use mathlib.Core.Logic.{⊎-elim}
 use mathlib.Core.Path.{_≡_, refl, sym, subst}
-use Prim.Native.Nat.{ℕ, _≤_, _<_}
+use Prim.Native.Nat.{ℕ, _<_}
 use native.Mathlib.Omega.{arith}
-use lib.ListN.{length}
 use Rattle.lists.specs.Lists.{In, each}
 use Rattle.lists.specs.Tests.{each-of}
 use Rattle.definitions.specs.Records.{Dom, Resource, Annotation, associate, nestAssociate, makeList, alias, inherit, derive, noDerive, TypeInfo}

@@ -1,7 +1,7 @@
 -- A map and its tables: what the laws ask is no empty demand. Type `a` associates the word 0 without a dom, type `b` under `a` nests 0 with the dom 199.
 use mathlib.Core.Bool.{Bool, true, false, _||_, or-false}
 use mathlib.Core.List.{List, [], _∷_, _++_, List·Memᴰ·not-nil}
-use mathlib.Core.Path.{_≡_, refl, sym, ap, ap₂, _∙_}
+use mathlib.Core.Path.{_≡_, refl, sym, ap, _∙_}
 use Prim.Native.Nat.{ℕ, zero, suc, _+_, _*_, _<_}
 use native.Mathlib.Omega.{arith}
 use lib.ListN.{replicate, getD, List·getD-append}

@@ -1,3 +1,4 @@
+pub mod Walks
 pub mod Tables
 pub mod Lists
 pub mod Steps

@@ -1,13 +1,12 @@
 -- Laws of tests over lists. Nothing here knows of types or resources.
-use mathlib.Core.Bool.{Bool, true, false, _&&_, _||_, or-false, or-assoc}
-use mathlib.Core.List.{List, [], _∷_, _++_, map}
+use mathlib.Core.Bool.{Bool, true, false, _&&_, _||_}
+use mathlib.Core.List.{List, [], _∷_, _++_}
 use mathlib.Core.Path.{_≡_, refl, sym, ap, ap₂, _∙_}
 use Prim.Native.Nat.{ℕ, zero, suc, _<_}
-use native.Mathlib.Omega.{arith}
 use borrow.Author.Tests.{eq-eqb, ne-eqb, eqb-true, eqb-false}
 use lib.Dec.{eqb}
-use Rattle.lists.specs.Lists.{In, any, filter, each}
-use Rattle.lists.specs.Tests.{by, never}
+use Rattle.lists.specs.Lists.{any, filter, each}
+use Rattle.lists.specs.Tests.{by}
 use Rattle.rows.specs.Lists.{any-append, filter-append}
 use Rattle.ordering.specs.Lists as ordering
 

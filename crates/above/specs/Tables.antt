@@ -1,8 +1,8 @@
 -- What the code makes of its tables, by places.
-use mathlib.Core.Bool.{Bool, _&&_, _||_}
+use mathlib.Core.Bool.{Bool, true, _&&_, _||_}
 use mathlib.Core.List.{List}
 use mathlib.Core.Path.{_≡_}
-use Prim.Native.Nat.{ℕ, _+_, _*_}
+use Prim.Native.Nat.{ℕ, _+_, _*_, _≤_, _<_}
 use lib.Dec.{eqb}
 use lib.ListN.{getD}
 use Rattle.lists.specs.Lists.{any}
@@ -24,9 +24,6 @@ slotOf table slot a = rowAt table (804 * a + 4 * slot)
 abbrev pub upTo : ℕ → List ℕ
 upTo n = tab (λ a. a) n
 
-pub record JoinedIf (x y : Row) (counts : Bool) (r : Row) : Type 0 where
-  pub bits : (k : ℕ) → has r k ≡ (has x k || (counts && has y k))
-
 pub record WithType (types a : ℕ) (counts : Bool) (r : ℕ) : Type 0 where
   pub bits : (k : ℕ) → hasBit r k ≡ (hasBit types k || (eqb a k && counts))
 
@@ -45,6 +42,30 @@ pub record Passed (table : List ℕ) (t types count : ℕ) (r : Row) : Type 0 wh
 -- the words of a row, or that a type of the row of types gives
 pub record WithMaking (table : List ℕ) (own : Row) (types count : ℕ) (r : Row) : Type 0 where
   pub bits : (k : ℕ) → has r k ≡ (has own k || any (hasIn table 0 types k) (upTo count))
+
+-- ---- direct parents
+
+-- the parents of type t stand within the arrays, and their places are below 64
+pub record ListedRoom (counts places : List ℕ) (t : ℕ) : Type 0 where
+  pub type : t < 64
+  pub parents : getD counts t 0 ≤ 8
+  pub place : (i : ℕ) → i < getD counts t 0 → getD places (8 * t + i) 0 < 64
+
+-- the row of the types at the places of the parents of type t
+pub record DirectIn (counts places : List ℕ) (t x : ℕ) : Type 0 where
+  pub bits : (a : ℕ) → hasBit x a ≡ any (λ i. eqb (getD places (8 * t + i) 0) a) (upTo (getD counts t 0))
+
+-- the row of the direct parents of type t
+pub record Direct (p : Parents) (t x : ℕ) : Type 0 where
+  pub bits : (a : ℕ) → hasBit x a ≡ any (λ (q : Parent). eqb (q .place) a) (listed p t)
+
+-- a row of types that are below n
+pub record TypesBelow (types n : ℕ) : Type 0 where
+  pub below : (a : ℕ) → hasBit types a ≡ true → a < n
+
+-- the types of a row that pass on the word r
+pub record PassingIn (parents : ℕ) (passed : List ℕ) (r x : ℕ) : Type 0 where
+  pub bits : (a : ℕ) → hasBit x a ≡ (hasBit parents a && has (rowAt passed (4 * a)) r)
 
 -- q is type a, and passes on the word r
 abbrev pub passesAs : List ℕ → ℕ → ℕ → Parent → Bool

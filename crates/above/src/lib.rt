@@ -1,15 +1,11 @@
 // What a type has from above, for a type and a word, over tables of rows that are lent as slices of numbers.
 // A table has 804 numbers to a type, types in name order: the row of the words that the type gives, and then for each word the row of the doms that it gives
 // that word, 0 for none and d + 1 for the word d.
-use ordering::Parents;
 use rows::Row;
 ghost use mathlib.Core.Path.{_≡_};
 ghost use Prim.Native.Nat.{_<_, _≤_, _*_, _+_};
 ghost use lib.ListN.{length};
-ghost use Rattle.rows.specs.Rows.{hasBit};
-ghost use Rattle.ordering.specs.Reading.{Valid};
-ghost use Rattle.ancestry.specs.Rows.{ParentsBelow};
-ghost use Rattle.above.specs.Tables.{rowAt, JoinedIf, WithType, United, Passed, WithMaking, Passing};
+ghost use Rattle.above.specs.Tables.{rowAt, WithType, United, Passed, ListedRoom, DirectIn, TypesBelow, PassingIn};
 
 // The row at a place.
 fn row_at(s: &[u64], at: usize) -> Row
@@ -26,24 +22,6 @@ fn row_at(s: &[u64], at: usize) -> Row
         c: c,
         d: d,
     }
-}
-
-// Whether type a stands in a row of types.
-fn stands(types: u64, a: usize) -> bool
-    requires { ⌜ a < 64 ⌝ }
-    ensures { λ r. ⌜ r ≡ hasBit types a ⌝ }
-{
-    (types >> a) & 1 == 1
-}
-
-// A row, with another if it counts.
-fn joined_if(x: Row, y: Row, counts: bool) -> Row
-    ensures { λ r. ⌜ JoinedIf x y counts r ⌝ }
-{
-    if counts {
-        return rows::in_either(x, y);
-    }
-    x
 }
 
 // A row of types, with a type if it counts.
@@ -66,12 +44,11 @@ pub fn united(table: &[u64], slot: usize, types: u64, count: usize) -> Row
     ensures { λ r. ⌜ United (now (table .entry)) slot types count r ⌝ }
 {
     let mut out = rows::empty_row();
-    let mut a: usize = 0;
+    let mut a = rows::next_type(types, 0);
     while a < count {
         let row = row_at(table, 804 * a + 4 * slot);
-        let counts = stands(types, a);
-        out = joined_if(out, row, counts);
-        a += 1;
+        out = rows::in_either(out, row);
+        a = rows::next_type(types, a + 1);
     }
     out
 }
@@ -87,34 +64,37 @@ pub fn words_passed(table: &[u64], t: usize, types: u64, count: usize) -> Row
     rows::in_either(own, above)
 }
 
-// The words with a making: `own` has those of the own Associates, and the others come from a type of the row.
-// 'each resource of each own Associate', 'each word r associated, nested or not, by a proper ancestor'
-pub fn words_made(table: &[u64], own: Row, types: u64, count: usize) -> Row
-    requires { ⌜ (count ≤ 64) × (804 * count ≤ length (now table)) × (length (now table) < 1000000) ⌝ }
-    ensures { λ r. ⌜ WithMaking (now (table .entry)) own types count r ⌝ }
+// The direct parents of type t as a row of types, from the counts and the places of `Parents`.
+pub fn direct_parents<'a>(counts: &'a [u8; 64], places: &'a [u8; 512], t: usize) -> u64
+    requires { ⌜ ListedRoom (now counts) (now places) t ⌝ }
+    ensures { λ x. ⌜ DirectIn (now (counts .entry)) (now (places .entry)) t x ⌝ }
 {
-    let others = united(table, 0, types, count);
-    rows::in_either(own, others)
-}
-
-// The direct parents of type t that pass on the word r. `passed` has four numbers to a type, the row of the words that it passes on.
-// 'Its first parents are P.r for each direct parent P that associates r, or has an ancestor that does, ascending by P, each once.'
-pub fn parents_passing(p: Parents, passed: &[u64], t: usize, r: usize) -> u64
-    requires { ⌜ Valid p ⌝ }
-    requires { ⌜ (t < p .count) × ParentsBelow p t × (r < 256) × (4 * p .count ≤ length (now passed)) × (length (now passed) < 1000000) ⌝ }
-    ensures { λ x. ⌜ Passing p (now (passed .entry)) t r x ⌝ }
-{
-    let count = p.counts[t] as usize;
+    let count = counts[t] as usize;
     let base = 8 * t;
     let mut out: u64 = 0;
     let mut i = 0;
     while i < count {
-        let at = base + i;
-        let place = p.places[at] as usize;
-        let words = row_at(passed, 4 * place);
-        let counts = rows::holds(words, r);
-        out = with_type(out, place, counts);
+        let place = places[base + i] as usize;
+        out = with_type(out, place, true);
         i += 1;
+    }
+    out
+}
+
+// The direct parents of a type that pass on the word r. `passed` has four numbers to a type, the row of the words that it passes on.
+// 'Its first parents are P.r for each direct parent P that associates r, or has an ancestor that does, ascending by P, each once.'
+pub fn parents_passing(parents: u64, passed: &[u64], count: usize, r: usize) -> u64
+    requires { ⌜ TypesBelow parents count ⌝ }
+    requires { ⌜ (count ≤ 64) × (r < 256) × (4 * count ≤ length (now passed)) × (length (now passed) < 1000000) ⌝ }
+    ensures { λ x. ⌜ PassingIn parents (now (passed .entry)) r x ⌝ }
+{
+    let mut out: u64 = 0;
+    let mut a = rows::next_type(parents, 0);
+    while a < count {
+        let words = row_at(passed, 4 * a);
+        let counts = rows::holds(words, r);
+        out = with_type(out, a, counts);
+        a = rows::next_type(parents, a + 1);
     }
     out
 }

@@ -20,7 +20,8 @@ use Rattle.ordering.specs.Reading.{Valid, valid}
 use Rattle.held_map.specs.HeldMap.{HeldMap}
 use Rattle.packing.specs.declared.Listed.{Listed}
 use Rattle.packing.specs.Order.{Listing}
-use Rattle.decoding.specs.CodeLaws.{not-true, not-false}
+use Rattle.line_laws.specs.Statements.{lineMap, anyRefused}
+use Rattle.synthesis_laws.specs.Rows.{rows-are-tested}
 use Rattle.access.specs.declared.Answer.{Answer}
 use Rattle.access.specs.Answers.{outcomeOf}
 use Rattle.access.specs.Ending.{listed, ended, Unordered, answerFor}
@@ -43,13 +44,24 @@ module _ (ts : Types) (es : Extensions) (resource : ℕ) (p : Parents) (r : Orde
   pub no-order : (l d d′ : List ℕ) (a : Answer) → not (r .found) ≡ true → Unordered p d d′ a → outcomeOf a l d′ ≡ ended schedule (typeMapOf s) l d
   no-order l d d′ a f q = unordered-so schedule p r o (typeMapOf s) (h .reads) l d d′ a f q
 
-  module _ (f : not (r .found) ≡ false) where
+  module _ (f : r .found ≡ true) where
     has-order : hasOrder (typeMapOf s) ≡ true
-    has-order = sym (o .found (typeMapOf s) (h .reads)) ∙ not-false (r .found) f
+    has-order = sym (o .found (typeMapOf s) (h .reads)) ∙ f
 
     -- what the synthesis starts from
     pub held : HeldMap s ts es p
     held = record { readable = h .readable; within = h .within; order = has-order; types = h .types; extensions = h .extensions; reads = h .reads }
+
+    -- 10 and acceptance
+    module _ (n : rowsOf s ≡ []) where
+      pub accepted : (l l′ d : List ℕ) (w : Listed) (a : Answer) → Listing l l′ (scheduleBits (scheduleOf schedule (typeMapOf s))) w → a ≡ answerFor w →
+          outcomeOf a l′ d ≡ ended schedule (typeMapOf s) l d
+      unfolding ended
+      accepted l l′ d w a g e = listed-so (scheduleBits (scheduleOf schedule (typeMapOf s))) l l′ d w a g e ∙ sym (rw (has-order, ap null n))
+
+    -- no type is refused
+    pub tested : anyRefused (lineMap s) ≡ false → rowsOf s ≡ []
+    tested e = rows-are-tested s (record { readable = h .readable; order = has-order }) .1 e
 
     module _ (d d′ : List ℕ) (count : ℕ) (more : Bool) (q : Rows s d d′ count more) where
       -- 9
@@ -64,11 +76,6 @@ module _ (ts : Types) (es : Extensions) (resource : ℕ) (p : Parents) (r : Orde
       untouched : count ≤ 0 → d′ ≡ d
       untouched n = q .written ∙ ap (λ (rs : List Row). overwrite (each rowBytes (take 256 rs)) d) (no-rows n)
 
-      -- 10 and acceptance
       pub scheduled : (l l′ : List ℕ) (w : Listed) (a : Answer) → count ≤ 0 → Listing l l′ (scheduleBits (scheduleOf schedule (typeMapOf s))) w → a ≡ answerFor w →
           outcomeOf a l′ d′ ≡ ended schedule (typeMapOf s) l d
-      unfolding ended
-      scheduled l l′ w a n g e =
-          ap (λ (x : List ℕ). outcomeOf a l′ x) (untouched n)
-          ∙ listed-so (scheduleBits (scheduleOf schedule (typeMapOf s))) l l′ d w a g e
-          ∙ sym (rw (has-order, ap null (no-rows n)))
+      scheduled l l′ w a n g e = ap (λ (x : List ℕ). outcomeOf a l′ x) (untouched n) ∙ accepted (no-rows n) l l′ d w a g e

@@ -1,13 +1,16 @@
 // The public calls.
 use decoding::Decoded;
+use ordering::Order;
 use ordering::Parents;
 use packing::Listed;
 use types::Extensions;
 use types::Types;
+ghost use mathlib.Core.Bool.{true};
 ghost use mathlib.Core.Path.{_≡_};
 ghost use Prim.Native.Nat.{_≤_};
 ghost use lib.ListN.{length};
 ghost use Rattle.definitions.specs.Answer.{outcome};
+ghost use Rattle.ordering.specs.Organized.{Organized};
 ghost use Rattle.ordering.specs.Reading.{Valid};
 ghost use Rattle.access.specs.Answers.{outcomeOf, orderInput, scheduleInput};
 ghost use Rattle.access.specs.Ending.{Unordered, answerFor, Ended};
@@ -95,7 +98,31 @@ pub fn order(sheet: &[u8], listing: &mut [u8], diagnosis: &mut [u8]) -> Answer
     end_order(parents, listing, diagnosis)
 }
 
-// Writes the schedule, if there is one: 8, 9, 10 or acceptance.
+// Writes the schedule of a map with an order, or the rows of its synthesis: 9, 10 or acceptance.
+fn end_synthesis(
+    types: Types,
+    extensions: Extensions,
+    resource: u8,
+    p: Parents,
+    order: Order,
+    listing: &mut [u8],
+    diagnosis: &mut [u8],
+) -> Answer
+    requires { ⌜ Started types extensions resource p ⌝ }
+    requires { ⌜ Organized p order ⌝ }
+    requires { ⌜ (order .found ≡ true) × (1536 ≤ length (now diagnosis)) ⌝ }
+    ensures { λ r. ⌜ Scheduled types extensions resource p (now (listing .entry)) (now (diagnosis .entry)) (outcomeOf r (now (listing .exit)) (now (diagnosis .exit))) ⌝ }
+{
+    let report = synthesis::synthesize(types, extensions, resource, p, diagnosis);
+    if 0 < report.rows {
+        return Answer::Diagnosed(9, report.rows, report.more);
+    }
+    let tried = listing::write_schedule(listing, true, types, extensions, resource, p, order);
+    let listed = tried.listed;
+    answer_for(listed)
+}
+
+// Writes the schedule, if there is one: 8, 9, 10 or acceptance. The synthesis runs where the quick test can't tell that no type is refused.
 fn end_schedule(
     types: Types,
     extensions: Extensions,
@@ -112,12 +139,12 @@ fn end_schedule(
     if !order.found {
         return no_order(p, diagnosis);
     }
-    let report = synthesis::synthesize(types, extensions, resource, p, diagnosis);
-    if 0 < report.rows {
-        return Answer::Diagnosed(9, report.rows, report.more);
+    let tried = listing::write_schedule(listing, false, types, extensions, resource, p, order);
+    if tried.decided {
+        let listed = tried.listed;
+        return answer_for(listed);
     }
-    let listed = listing::write_schedule(listing, types, extensions, resource, p, order);
-    answer_for(listed)
+    end_synthesis(types, extensions, resource, p, order, listing, diagnosis)
 }
 
 // The schedule call.

@@ -6,7 +6,7 @@ use Prim.Native.Nat.{ℕ, zero, suc, _+_, _*_, _≤_, _<_}
 use native.Mathlib.Omega.{arith}
 use borrow.Author.Tests.{eqb-true, eqb-false, ltb-true, ltb-false}
 use lib.Dec.{eqb, ltb}
-use lib.ListN.{length, getD, List·getD-append}
+use lib.ListN.{length, getD, replicate, List·getD-append}
 use lib.Seq
 use Rattle.lists.specs.Tests.{by}
 use Rattle.definitions.specs.Records as records
@@ -23,9 +23,9 @@ use Rattle.above.specs.Tables as tables
 use Rattle.above.specs.Tables.{Passed}
 use Rattle.above.specs.Above.{passed-words}
 use Rattle.giving.specs.Tables.{Filled, filled-table}
-use Rattle.filling.specs.Filling.{Fills}
-use Rattle.filling.specs.FillingLaws.{filled-none, filled-more}
-use Rattle.associations.specs.Associations.{itemAt, FillsTable, FillsPassed}
+use Rattle.filling.specs.Filling.{Blank, Fills}
+use Rattle.filling.specs.FillingLaws.{blank-zeros, blank-kept, filled-none, filled-more}
+use Rattle.associations.specs.Associations.{itemAt, Blanks, FillsTable, FillsPassed}
 
 -- ---- the types
 
@@ -46,17 +46,26 @@ pub type-is : (ts : Types) (m : TypeMap) → ofTypes ts ≡ m .types → (a : �
 unfolding ofTypes places
 type-is ts m e a h = sym (getD-tabulate (λ i. typeInfoOf (itemAt ts i)) (ts .count) a noType h) ∙ ap (λ (l : List records.TypeInfo). getD l a noType) e
 
--- the table of the first n types
+-- the table of the first n types, with the rows of the others empty
 pub record FilledTo (ts : Types) (n : ℕ) (s u : List ℕ) : Type 0 where
   pub rows : (m : TypeMap) → ofTypes ts ≡ m .types → Filled m n (itemAt ts) u
+  pub blank : (a : ℕ) → n ≤ a → a < ts .count → Blank u a
   pub long : length u ≡ length s
 
-pub filled-start : (ts : Types) (s : List ℕ) → FilledTo ts 0 s s
-filled-start ts s = record { rows = λ m e. filled-none m (itemAt ts) s; long = refl }
+pub filled-start : (ts : Types) (s : List ℕ) → Blanks s (ts .count) → FilledTo ts 0 s s
+filled-start ts s b = record { rows = λ m e. filled-none m (itemAt ts) s; blank = λ a p q. b .type a q; long = refl }
+
+-- a table of zeros has empty rows
+pub blanks-zeros : (k n : ℕ) → Blanks (replicate k 0) n
+blanks-zeros k n = record { type = λ a h. blank-zeros k a }
 
 pub filled-step : (ts : Types) (n : ℕ) (s u v : List ℕ) → n < ts .count → FilledTo ts n s u → Fills u n (itemAt ts n) v → FilledTo ts (n + 1) s v
 filled-step ts n s u v h f g =
-    record { rows = λ m e. filled-more m n (itemAt ts) u v (f .rows m e) (type-is ts m e n h) g; long = g .long ∙ f .long }
+    record {
+      rows = λ m e. filled-more m n (itemAt ts) u v (f .rows m e) (type-is ts m e n h) g;
+      blank = λ a p q. blank-kept u n (itemAt ts n) v g a (λ e. absurd (omega arith)) (f .blank a (omega arith) q);
+      long = g .long ∙ f .long;
+    }
 
 pub filled-end : (ts : Types) (n : ℕ) (s u : List ℕ) → n ≡ ts .count → FilledTo ts n s u → FillsTable ts s u
 filled-end ts n s u e f =

@@ -12,6 +12,7 @@ use Rattle.ordering.specs.Reading.{Reads}
 use Rattle.ordering.specs.declared.Parents.{Parents}
 use Rattle.ancestry.specs.Rows.{Ancestors}
 use Rattle.above.specs.Above.{Table, Passes}
+use Rattle.filling.specs.Filling.{Blank}
 
 -- the type at a place, as the code has it
 abbrev pub itemAt : Types → ℕ → TypeInfo
@@ -21,6 +22,10 @@ itemAt ts a = getD (ts .items) a zeroType
 pub record TypesHeld (ts : Types) : Type 0 where
   pub count : ts .count ≤ 64
   pub type : (a : ℕ) → a < ts .count → TypeWithin 200 (typeInfoOf (itemAt ts a))
+
+-- the rows of the first n types are empty
+pub record Blanks (s : List ℕ) (n : ℕ) : Type 0 where
+  pub type : (a : ℕ) → a < n → Blank s a
 
 -- u is the table of every map that has these types
 pub record FillsTable (ts : Types) (s u : List ℕ) : Type 0 where

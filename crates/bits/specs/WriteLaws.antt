@@ -1,19 +1,19 @@
 -- Laws of writing.
-use mathlib.Core.Bool.{Bool, true, false}
+use mathlib.Core.Bool.{Bool}
 use mathlib.Core.List.{List, [], _∷_, _++_, append-assoc, append-nil}
 use mathlib.Core.Logic.{_⊎_, inl, inr}
 use mathlib.Core.Path.{_≡_, refl, sym, ap, _∙_}
 use Prim.Native.Nat.{ℕ, zero, suc, _+_, _*_, _-_, _/_, _%_, _^_, _≤_, _<_}
 use native.Mathlib.Decide.{decLt}
-use native.Mathlib.Nat.{mod-lt, mod-eq-of-lt, add-assoc, add-zero, mul-assoc, add-mul}
+use native.Mathlib.Nat.{mod-lt, mod-eq-of-lt, add-assoc, add-zero, zero-add, zero-mul, zero-div, mul-assoc, add-mul}
 use native.Mathlib.Numerals.{one-add}
 use native.Mathlib.Omega.{arith}
 use lib.ListN.{length, getD, set, take, drop, length-append, length-drop, length-set, drop-of-length-le}
 use lib.Pow
 use lib.Seq
-use Rattle.definitions.specs.Bits.{bit, odd, toBits, bitsOf, num, packTo, size, pack}
+use Rattle.definitions.specs.Bits.{odd, toBits, bitsOf, num, packTo, size, pack}
 use Rattle.bits.specs.Writing.{putBit, put, Wrote, Left}
-use Rattle.bits.specs.NumberLaws.{length-toBits, num-lt, num-nil, num-toBits, num-split, num-prefix, num-take, toBits-split, toBits-num, length-bitsOf, shl-one, pad, take-pad, length-packTo}
+use Rattle.bits.specs.NumberLaws.{length-toBits, num-lt, num-nil, num-toBits, num-split, num-prefix, num-take, toBits-split, toBits-num, length-bitsOf, shl-one, take-pad, length-packTo}
 
 byte-or-more : (p : ℕ) → (p < 8) ⊎ ((q : ℕ) × (p ≡ 8 + q))
 byte-or-more p = elim (decLt p 8) [ yes h ↦ inl h | no h ↦ inr (p - 8, omega arith) ]
@@ -152,6 +152,18 @@ chunk-is buf p m w h z f l =
     let e : num 8 xs % 2 ^ 64 % 256 ≡ num 8 xs = omega arith in
     rw (y, shl-one m (omega arith), ← v, e) (sym (put-chunk buf p m w h z f))
 
+-- at the start of a byte nothing of it stays
+pub start-is : (buf : List ℕ) (i m w : ℕ) → i < length buf → 0 < m → m ≤ 8 →
+    set buf i (w % (1 * 2 ^ m % 2 ^ 64) * 2 ^ (8 - m) % 2 ^ 64 % 256) ≡ put buf (8 * i) (toBits m w)
+start-is buf i m w h z f =
+    let q : 8 * i / 8 ≡ i = omega arith in
+    let r : 8 * i % 8 ≡ 0 = omega arith in
+    let y : (0 / 2 ^ (m + (8 - m)) * 2 ^ m + w % 2 ^ m) * 2 ^ (8 - m) ≡ w % 2 ^ m * 2 ^ (8 - m) = rw (zero-div (2 ^ (m + (8 - m))), zero-mul (2 ^ m), zero-add (w % 2 ^ m)) in
+    let v : num 8 (toBits m w) ≡ w % 2 ^ m * 2 ^ (8 - m) = num-kept 0 m (8 - m) 0 w (omega arith) (omega arith) ∙ y in
+    let b : num 8 (toBits m w) < 256 = num-lt 8 (toBits m w) in
+    let e : num 8 (toBits m w) % 2 ^ 64 % 256 ≡ num 8 (toBits m w) = omega arith in
+    rw (shl-one m (omega arith), ← v, e) (sym (rw (q, r) at (put-chunk buf (8 * i) m w (omega arith) z (omega arith))))
+
 -- its sum fits
 pub chunk-fits : (x o m w : ℕ) → x < 256 → m ≤ 8 → x / 2 ^ o * 2 ^ m % 2 ^ 64 + w % (1 * 2 ^ m % 2 ^ 64) < 2 ^ 64
 chunk-fits x o m w l h =
@@ -168,6 +180,11 @@ put-part buf p k m v h =
     let t : k ≡ m + (k - m) = omega arith in
     ap (λ (j : ℕ). put buf p (toBits j v)) t
     ∙ rw (toBits-split m (k - m) v, put-append buf p (toBits m (v / 2 ^ (k - m))) (toBits (k - m) v), length-toBits m (v / 2 ^ (k - m)))
+
+-- what does not fit in the byte that it begins in goes on at the start of the next one
+pub put-on : (buf : List ℕ) (p n m i v : ℕ) → m ≤ n → p + m ≡ 8 * i →
+    put (put buf p (toBits m (v / 2 ^ (n - m)))) (8 * i) (toBits (n - m) v) ≡ put buf p (toBits n v)
+put-on buf p n m i v h e = rw (← e) (sym (put-part buf p n m v h))
 
 -- a whole byte
 pub put-byte : (x : ℕ) (buf : List ℕ) (b : Bool) (bs : List Bool) → put (x ∷ buf) 0 (b ∷ bs) ≡ num 8 (b ∷ bs) ∷ put buf 0 (drop 7 bs)

@@ -1,6 +1,6 @@
 // Fields of bits in a list of bytes. 01: 'Fields are bit-packed, most significant first; widths in bits.'
 ghost use mathlib.Core.Path.{_≡_};
-ghost use Prim.Native.Nat.{_+_, _*_, _%_, _^_, _≤_, _<_, min};
+ghost use Prim.Native.Nat.{_+_, _*_, _%_, _^_, _≤_, _<_};
 ghost use lib.ListN.{length, drop, getD};
 ghost use Rattle.definitions.specs.Bits.{bitsOf, num, toBits};
 ghost use Rattle.bits.specs.Reading.{readAt};
@@ -47,10 +47,26 @@ fn put_chunk(buf: &mut [u8], p: usize, m: usize, w: usize)
     buf[i] = (y % 256) as u8;
 }
 
-fn lesser(a: usize, b: usize) -> usize
-    ensures { λ r. ⌜ r ≡ min a b ⌝ }
+// Writes the last m bits of w at the start of byte i, and zeros behind them.
+fn put_start(buf: &mut [u8], i: usize, m: usize, w: usize)
+    requires { ⌜ (i < length (now buf)) × (0 < m) × (m ≤ 8) ⌝ }
+    ensures { λ _. ⌜ now (buf .exit) ≡ put (now (buf .entry)) (8 * i) (toBits m w) ⌝ }
 {
-    if a < b { a } else { b }
+    let z = (w % (1 << m)) << (8 - m);
+    buf[i] = (z % 256) as u8;
+}
+
+// Writes the last k bits of v from byte i on, which are at most two bytes, and zeros behind them.
+fn put_rest(buf: &mut [u8], i: usize, k: usize, v: usize)
+    requires { ⌜ (0 < k) × (k ≤ 16) × (8 * i + k ≤ 8 * length (now buf)) ⌝ }
+    ensures { λ _. ⌜ now (buf .exit) ≡ put (now (buf .entry)) (8 * i) (toBits k v) ⌝ }
+{
+    if k <= 8 {
+        put_start(buf, i, k, v);
+        return;
+    }
+    put_start(buf, i, 8, v >> (k - 8));
+    put_start(buf, i + 1, k - 8, v);
 }
 
 impl Cursor {
@@ -75,14 +91,18 @@ impl Cursor {
         requires { ⌜ (n ≤ 16) × (self .at + n ≤ 8 * length (now buf)) × (self .at + n < 2 ^ 64) ⌝ }
         ensures { λ r. ⌜ Wrote (now (buf .entry)) (now (buf .exit)) (self .at) (r .at) (toBits n v) ⌝ }
     {
-        let mut at = self.at;
-        let mut k = n;
-        while 0 < k {
-            let m = lesser(k, 8 - at % 8);
-            k -= m;
-            put_chunk(buf, at, m, v >> k);
-            at += m;
+        let at = self.at;
+        let room = 8 - at % 8;
+        if n == 0 {
+            return self;
         }
-        Cursor { at }
+        if n <= room {
+            put_chunk(buf, at, n, v);
+            return Cursor { at: at + n };
+        }
+        let k = n - room;
+        put_chunk(buf, at, room, v >> k);
+        put_rest(buf, at / 8 + 1, k, v);
+        Cursor { at: at + n }
     }
 }

@@ -1,24 +1,22 @@
 -- What the rows of a type's own annotations say of the definitions.
 use mathlib.Core.Bool.{Bool, true, false, _&&_, _||_}
-use mathlib.Core.List.{List, map}
+use mathlib.Core.List.{List}
 use mathlib.Core.Path.{_≡_}
 use Prim.Native.Nat.{ℕ, _<_}
 use lib.Dec.{eqb}
 use lib.ListN.{getD}
-use Rattle.lists.specs.Lists.{any, each}
 use Rattle.definitions.specs.Records.{Resource}
 use Rattle.definitions.specs.Records as records
 use Rattle.definitions.specs.Checks.{resourcesOf}
 use Rattle.definitions.specs.Map.{declarationOf}
 use Rattle.definitions.specs.Items.{associateOf, owned, given, hasWord}
 use Rattle.fields.specs.Tabulate.{tabulate}
-use Rattle.fields.specs.Fields.{optional, twoWords}
-use Rattle.records.specs.Annotations.{resourceOf, annotationOf}
+use Rattle.fields.specs.Fields.{optional}
 use Rattle.records.specs.declared.Annotation.{Annotation}
 use Rattle.types.specs.Types.{typeInfoOf}
 use Rattle.types.specs.declared.TypeInfo.{TypeInfo}
 use Rattle.rows.specs.declared.Row.{Row}
-use Rattle.rows.specs.Rows.{has, single}
+use Rattle.rows.specs.Rows.{has}
 use Rattle.above.specs.Above.{placeOfDom, hasDom}
 
 -- an Associate counts, and a NestAssociate where nested ones are asked for
@@ -41,28 +39,9 @@ listedTo a n = tabulate (listedAt a) n
 abbrev pub ofArrays : List ℕ → List ℕ → Annotation
 ofArrays words doms = record { kind = 0; count = 0; words = words; doms = doms }
 
-pub record RowOfWord (w : ℕ) (r : Row) : Type 0 where
-  pub small : w < 256
-  pub row : r ≡ single w
-
 pub record DomPlace (d r : ℕ) : Type 0 where
   pub small : r < 256
   pub place : r ≡ placeOfDom (optional d)
-
-pub record WithDom (out : Row) (d : ℕ) (here : Bool) (r : Row) : Type 0 where
-  pub bits : (k : ℕ) → has r k ≡ (has out k || (here && eqb k (placeOfDom (optional d))))
-
-pub record WordsListed (a : Annotation) (r : Row) : Type 0 where
-  pub bits : (k : ℕ) → has r k ≡ hasWord (listedTo a (a .count)) k
-
-pub record DomsListed (a : Annotation) (word : ℕ) (r : Row) : Type 0 where
-  pub bits : (k : ℕ) → has r k ≡ hasDom (listedTo a (a .count)) word k
-
-pub record WordsIn (a : Annotation) (nested : Bool) (r : Row) : Type 0 where
-  pub bits : (k : ℕ) → has r k ≡ hasWord (resourcesIf nested (annotationOf a)) k
-
-pub record DomsIn (a : Annotation) (word : ℕ) (r : Row) : Type 0 where
-  pub bits : (k : ℕ) → has r k ≡ hasDom (resourcesOf (annotationOf a)) word k
 
 -- what a type associates, nested or not; without nested ones 'each resource of each own Associate'
 abbrev pub givenBy : Bool → TypeInfo → List Resource

@@ -1,20 +1,19 @@
 -- A type at the edges of the bounds: it associates the word 199 with the dom 199 and the word 0 without a dom, and nests 0 with the dom 0. Its Alias gives nothing.
-use mathlib.Core.Bool.{true, false}
-use mathlib.Core.List.{List, [], _∷_, _++_, List·Memᴰ·not-nil}
+use mathlib.Core.Bool.{false}
+use mathlib.Core.List.{List, [], _∷_, List·Memᴰ·not-nil}
 use mathlib.Core.Path.{_≡_, refl, sym, ap, _∙_}
 use Prim.Native.Nat.{ℕ, zero, suc, _<_}
 use native.Mathlib.Omega.{arith}
 use lib.ListN.{replicate}
-use Rattle.lists.specs.Lists.{In, each}
 use Rattle.lists.specs.Tests.{cons-elim}
 use Rattle.definitions.specs.Records.{Resource}
 use Rattle.definitions.specs.Records as records
 use Rattle.definitions.specs.Map.{declarationOf}
 use Rattle.definitions.specs.Items.{owned, given, hasWord}
-use Rattle.line_laws.specs.Within.{WordsWithin, ResourceWithin, AnnotationWithin, TypeWithin}
+use Rattle.line_laws.specs.Within.{WordsWithin, AnnotationWithin, TypeWithin}
 use Rattle.fields.specs.Tabulate.{tabulate, places}
 use Rattle.fields.specs.Fields.{ofNames}
-use Rattle.records.specs.Annotations.{annotationAs, annotationOf, zeroAnnotation, ofAnnotations}
+use Rattle.records.specs.Annotations.{annotationAs, annotationOf, ofAnnotations}
 use Rattle.records.specs.Marks.{ofMarks}
 use Rattle.records.specs.declared.Annotation.{Annotation}
 use Rattle.types.specs.Types.{typeInfoOf}

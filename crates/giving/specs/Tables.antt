@@ -1,7 +1,7 @@
 -- A table whose slots have these rows is the table of the map.
 use mathlib.Core.Bool.{true}
 use mathlib.Core.List.{List}
-use mathlib.Core.Path.{_≡_, sym, ap, _∙_}
+use mathlib.Core.Path.{_≡_, ap, _∙_}
 use Prim.Native.Nat.{ℕ, _+_, _<_}
 use Rattle.definitions.specs.Records as records
 use Rattle.definitions.specs.Map.{TypeMap, declarationOf}

@@ -1,50 +1,72 @@
 -- Laws of the items that are counted and written.
-use mathlib.Core.Bool.{Bool, true, false, not}
-use mathlib.Core.List.{List, [], _∷_, _++_, append-nil, append-assoc, map-append}
+use mathlib.Core.Bool.{Bool, true, false, _&&_, not}
+use mathlib.Core.List.{List, [], _∷_, _++_, append-nil, map-append}
 use mathlib.Core.Path.{_≡_, refl, sym, ap, _∙_}
 use Prim.Native.Nat.{ℕ, zero, suc, _+_, _*_, _≤_, _<_}
 use native.Mathlib.Omega.{arith}
 use lib.ListN.{length, getD, take, length-append}
+use lib.Dec.{eqb}
 use lib.Seq
 use Rattle.lists.specs.Lists.{each, keep}
 use Rattle.definitions.specs.Records.{Name, Mark, Item, synthesized, extension}
-use Rattle.definitions.specs.Making.{createSyntheticResource, extensionLine, extensionParents, marksOf}
-use Rattle.definitions.specs.Packing.{itemBits}
+use Rattle.definitions.specs.Making.{extensionLine, extensionParents, marksOf, allVirtual}
+use Rattle.definitions.specs.Bits.{toBits}
+use Rattle.definitions.specs.Packing.{nameBits, parentBits, markBits, countedBits, itemBits}
 use Rattle.fields.specs.Tabulate.{tabulate, length-tabulate}
 use Rattle.making.specs.Making as making
-use Rattle.making.specs.Making.{itemOf, Bounded}
-use Rattle.making.specs.MakingLaws.{length-parentsOf, length-marksOf}
-use Rattle.making.specs.declared.Making.{Making}
+use Rattle.making.specs.MakingLaws.{length-parentsOf}
+use Rattle.making.specs.declared.Parents.{Parents}
 use Rattle.rows.specs.declared.Row.{Row}
 use Rattle.rows.specs.Rows.{single}
 use Rattle.table.specs.declared.Table.{Table}
 use Rattle.table.specs.Table.{nameAt, declarationAt, tableMap}
 use Rattle.synthetic.specs.Made.{Fits, created, firstsOf, classesOf}
+use Rattle.synthetic.specs.MadeLaws.{made}
 use Rattle.made.specs.declared.Made.{Made}
 use Rattle.made.specs.Made.{ownItems, itemsMade}
-use Rattle.packing.specs.PackingLaws.{each-append}
+use Rattle.facts.specs.Facts.{byteAt, tableIn}
+use Rattle.facts.specs.FactLaws.{virtual-in, trait-in}
+use Rattle.packing.specs.Head.{headBits}
+use Rattle.packing.specs.PackingLaws.{each-append, making-is, making-long, marks-most}
 use Rattle.item_bits.specs.Counts.{Counts, ownAt, inheritedItems}
 use Rattle.item_bits.specs.declared.Counted.{Counted}
 
--- ---- a making is within its arrays
+-- ---- one making
 
-parentsIn : Item → List Name
-parentsIn (synthesized n r v ps ms) = ps
-parentsIn (extension n v t r) = []
+module _ (t : Table) (T r : ℕ) (doms : Row) (ps : ℕ) where
+  -- all parents of the making
+  abbrev pub parentsMade : List Name
+  parentsMade = firstsOf t doms ps r ++ (t .resource ∷ []) ∷ extensionParents (tableMap t) (nameAt t T) r
 
-marksIn : Item → List Mark
-marksIn (synthesized n r v ps ms) = ms
-marksIn (extension n v t r) = []
+  -- its marks
+  abbrev pub marksMade : List Mark
+  marksMade = marksOf (tableMap t) (classesOf doms r)
 
-pub bounded : (t : Table) (T r : ℕ) (doms : Row) (ps : ℕ) (m : Making) → Fits t T r doms ps → itemOf m ≡ created t T r doms ps → Bounded m
-unfolding created createSyntheticResource declarationAt tableMap parentsIn marksIn
-bounded t T r doms ps m f e =
-    let p : making.parentsOf (m .parents) ≡ firstsOf t doms ps r ++ (t .resource ∷ []) ∷ extensionParents (tableMap t) (nameAt t T) r = ap parentsIn e in
-    let k : making.marksOf (m .marks) ≡ marksOf (tableMap t) (classesOf doms r) = ap marksIn e in
-    record {
-      parents = omega (arith, f .firsts, f .added, length-parentsOf (m .parents), simp length-append at (ap length p));
-      marks = omega (arith, f .marks, length-marksOf (m .marks), ap length k);
-    }
+  -- whether it is virtual
+  abbrev pub virtualMade : Bool
+  virtualMade = getD (t .virtuals) T false && allVirtual (tableMap t) (classesOf doms r)
+
+  parts : created t T r doms ps ≡ synthesized (nameAt t T) r virtualMade parentsMade marksMade
+  parts = sym (made t T r doms ps virtualMade parentsMade marksMade refl refl refl)
+
+  -- its bits, out of equal parts
+  pub created-as : (n : Name) (ps′ : List Name) (v : Bool) → n ≡ nameAt t T → ps′ ≡ parentsMade → v ≡ virtualMade →
+      itemBits (created t T r doms ps) ≡ headBits n r v ps′ ++ (toBits 9 (length marksMade) ++ each markBits marksMade)
+  created-as n ps′ v e f g = rw (e, f, g) (ap itemBits parts ∙ making-is (nameAt t T) r virtualMade parentsMade marksMade)
+
+  -- 'parents 5', of which there are at most 17
+  pub parents-few : Fits t T r doms ps → (p : Parents) → making.parentsOf p ≡ parentsMade → p .count ≤ 17
+  parents-few f p e = omega (arith, f .firsts, f .added, length-parentsOf p, simp length-append at (ap length e))
+
+  -- how many bits it has: h before its marks, then 9, and b of its marks
+  pub created-count : Fits t T r doms ps → (n : Name) (ps′ : List Name) (h b : ℕ) → n ≡ nameAt t T → ps′ ≡ parentsMade →
+      h ≡ 10 + length (nameBits n) + length (countedBits 5 parentBits ps′) → h ≤ 474 → b ≡ length (each markBits marksMade) →
+      (h + 9 + b ≡ length (itemBits (created t T r doms ps))) × (h + 9 + b ≤ 4515)
+  created-count f n ps′ h b e g p q m =
+      let w = ap (λ (x : Item). length (itemBits x)) parts ∙ making-long (nameAt t T) r virtualMade parentsMade marksMade in
+      let x = ap (λ (x : Name). length (nameBits x)) e in
+      let y = ap (λ (x : List Name). length (countedBits 5 parentBits x)) g in
+      (omega (arith, w, x, y, p, m), omega (arith, q, m, f .marks, marks-most marksMade))
 
 -- ---- the own makings, one after the other
 
@@ -64,9 +86,10 @@ own-count t T r x h = ap length (sym (own-all t T r x (x .count) h refl)) ∙ le
 
 -- ---- the parts
 
-pub line-is : (t : Table) (T r : ℕ) → extension (nameAt t T) (getD (t .virtuals) T false) (getD (t .traits) T false) r ≡ extensionLine (declarationAt t T) r
+pub line-in : (f : List ℕ) (T r : ℕ) (n : Name) → T < 65 → n ≡ nameAt (tableIn f) T →
+    extension n (eqb (byteAt f (20 * T + 3)) 1) (eqb (byteAt f (20 * T + 4)) 1) r ≡ extensionLine (declarationAt (tableIn f) T) r
 unfolding extensionLine declarationAt
-line-is t T r = refl
+line-in f T r n h e = rw (e, virtual-in f T h, trait-in f T h)
 
 keep-last : {A : Type 0} (b : Bool) (x y : A) → keep b x (y ∷ []) ≡ keep b x [] ++ (y ∷ [])
 keep-last true x y = refl

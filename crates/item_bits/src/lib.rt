@@ -1,23 +1,22 @@
-// The bits of what is made for a type and a word: counted first, then written. 01: 'items in any order, each led by one bit'.
+// The bits of what is made for a type and a word, out of the facts: counted first, then written. 01: 'items in any order, each led by one bit'.
 use bits::Cursor;
 use fields::Name;
 use made::Made;
 use making::Line;
-use making::Making;
 use rows::Row;
-use table::Table;
-ghost use mathlib.Core.List.{[], _∷_};
+ghost use mathlib.Core.Bool.{false, _&&_};
 ghost use mathlib.Core.Path.{_≡_};
 ghost use Prim.Native.Nat.{_+_, _≤_, _<_};
-ghost use lib.ListN.{length};
-ghost use Rattle.lists.specs.Lists.{each, keep};
+ghost use lib.ListN.{length, getD};
+ghost use Rattle.lists.specs.Lists.{each};
 ghost use Rattle.definitions.specs.Making.{extensionLine};
 ghost use Rattle.definitions.specs.Packing.{itemBits};
 ghost use Rattle.bits.specs.Writing.{Wrote};
-ghost use Rattle.making.specs.Making.{itemOf, lineOf, Bounded};
-ghost use Rattle.rows.specs.Rows.{single};
-ghost use Rattle.table.specs.Table.{declarationAt, Sound};
+ghost use Rattle.fields.specs.Fields.{nameOf};
+ghost use Rattle.making.specs.Making.{lineOf};
+ghost use Rattle.table.specs.Table.{nameAt, declarationAt, Sound};
 ghost use Rattle.synthetic.specs.Made.{Fits, created};
+ghost use Rattle.facts.specs.Facts.{tableIn};
 ghost use Rattle.made.specs.Made.{ownItems, itemsMade, MadeFits};
 ghost use Rattle.packing.specs.Room.{Room};
 ghost use Rattle.item_bits.specs.Counts.{Counts, inheritedItems};
@@ -28,36 +27,72 @@ pub struct Counted {
     pub bits: usize,
 }
 
-// A making, within what the packing asks.
-fn create(t: Table, place: usize, word: u8, doms: Row, parents: u64) -> Making
-    requires { ⌜ Sound t ⌝ }
-    requires { ⌜ Fits t place word doms parents ⌝ }
-    ensures { λ r. ⌜ (itemOf r ≡ created t place word doms parents) × Bounded r ⌝ }
+// The name of the type at a place.
+fn name_at(f: &[u8; 1944], place: usize) -> Name
+    requires { ⌜ place < 65 ⌝ }
+    ensures { λ r. ⌜ nameOf r ≡ nameAt (tableIn (now (f .entry))) place ⌝ }
 {
-    synthetic::create_synthetic_resource(t, place, word, doms, parents)
+    Name {
+        first: f[20 * place],
+        second: f[20 * place + 1],
+    }
 }
 
-// An own making has one class.
-fn create_own(t: Table, place: usize, word: u8, dom: u8) -> Making
-    requires { ⌜ Sound t ⌝ }
-    requires { ⌜ Fits t place word (single dom) 0 ⌝ }
-    ensures { λ r. ⌜ (itemOf r ≡ created t place word (single dom) 0) × Bounded r ⌝ }
+// 'Virtual: T and all its classes are.'
+fn both_virtual(f: &[u8; 1944], place: usize, all_virtual: bool) -> bool
+    requires { ⌜ place < 65 ⌝ }
+    ensures { λ r. ⌜ r ≡ (getD (tableIn (now (f .entry)) .virtuals) place false && «all_virtual») ⌝ }
 {
-    let doms = rows::alone(dom as usize);
-    create(t, place, word, doms, 0)
+    if f[20 * place + 3] == 1 {
+        return all_virtual;
+    }
+    false
+}
+
+// How many bits the making of a type and a word has. An own one has no parents that it comes from.
+fn making_bits(f: &[u8; 1944], place: usize, word: u8, doms: Row, parents: u64) -> usize
+    requires { ⌜ Sound (tableIn (now f)) ⌝ }
+    requires { ⌜ Fits (tableIn (now f)) place word doms parents ⌝ }
+    ensures { λ r. ⌜ (r ≡ length (itemBits (created (tableIn (now (f .entry))) place word doms parents))) × (r ≤ 4515) ⌝ }
+{
+    let name = name_at(f, place);
+    let all = made_parents::parents_of(f, name, doms, parents, word);
+    let g = class_marks::gather(f, doms, word);
+    packing::head_bits(name, all) + 9 + g.bits
+}
+
+// The bits of that making, written.
+fn write_making(
+    buf: &mut [u8],
+    c: Cursor,
+    f: &[u8; 1944],
+    place: usize,
+    word: u8,
+    doms: Row,
+    parents: u64,
+) -> Cursor
+    requires { ⌜ Sound (tableIn (now f)) ⌝ }
+    requires { ⌜ Fits (tableIn (now f)) place word doms parents ⌝ }
+    requires { ⌜ Room (now buf) (c .at) (length (itemBits (created (tableIn (now f)) place word doms parents))) ⌝ }
+    ensures { λ r. ⌜ Wrote (now (buf .entry)) (now (buf .exit)) (c .at) (r .at) (itemBits (created (tableIn (now (f .entry))) place word doms parents)) ⌝ }
+{
+    let name = name_at(f, place);
+    let all = made_parents::parents_of(f, name, doms, parents, word);
+    let g = class_marks::gather(f, doms, word);
+    let is_virtual = both_virtual(f, place, g.all_virtual);
+    let d = packing::write_head(buf, c, name, word, is_virtual, all);
+    let e = d.write(buf, 9, g.marks);
+    class_marks::write_classes(buf, e, f, doms, word, g.place)
 }
 
 // 'T and each r with a making have one extension line, its virtual and trait those of T.'
-fn line_at(t: Table, place: usize, word: u8) -> Line
+fn line_at(f: &[u8; 1944], place: usize, word: u8) -> Line
     requires { ⌜ place < 65 ⌝ }
-    ensures { λ r. ⌜ lineOf r ≡ extensionLine (declarationAt t place) word ⌝ }
+    ensures { λ r. ⌜ lineOf r ≡ extensionLine (declarationAt (tableIn (now (f .entry))) place) word ⌝ }
 {
-    let name = Name {
-        first: t.firsts[place],
-        second: t.seconds[place],
-    };
-    let is_virtual = t.virtuals[place];
-    let is_trait = t.traits[place];
+    let name = name_at(f, place);
+    let is_virtual = f[20 * place + 3] == 1;
+    let is_trait = f[20 * place + 4] == 1;
     Line {
         name,
         is_virtual,
@@ -66,48 +101,49 @@ fn line_at(t: Table, place: usize, word: u8) -> Line
     }
 }
 
-fn own_bits(t: Table, place: usize, word: u8, x: Made) -> usize
-    requires { ⌜ Sound t ⌝ }
-    requires { ⌜ MadeFits t place word x ⌝ }
-    ensures { λ r. ⌜ (r ≡ length (each itemBits (ownItems t place word x))) × (r ≤ 54180) × (length (ownItems t place word x) ≡ x .count) ⌝ }
+// How many bits the own makings have.
+fn own_bits(f: &[u8; 1944], place: usize, word: u8, x: Made) -> usize
+    requires { ⌜ Sound (tableIn (now f)) ⌝ }
+    requires { ⌜ MadeFits (tableIn (now f)) place word x ⌝ }
+    ensures { λ r. ⌜ (r ≡ length (each itemBits (ownItems (tableIn (now (f .entry))) place word x))) × (r ≤ 54180) × (length (ownItems (tableIn (now (f .entry))) place word x) ≡ x .count) ⌝ }
 {
     let own = x.own;
     let mut total: usize = 0;
     let mut i: usize = 0;
     while i < x.count {
-        let m = create_own(t, place, word, own[i]);
-        total += packing::making_bits(m);
+        let doms = rows::alone(own[i] as usize);
+        total += making_bits(f, place, word, doms, 0);
         i += 1;
     }
     total
 }
 
-fn inherited_bits(t: Table, place: usize, word: u8, x: Made) -> Counted
-    requires { ⌜ Sound t ⌝ }
-    requires { ⌜ MadeFits t place word x ⌝ }
-    ensures { λ r. ⌜ Counts 1 (inheritedItems t place word x) r ⌝ }
+// The inherited making, if there is one.
+fn inherited_bits(f: &[u8; 1944], place: usize, word: u8, x: Made) -> Counted
+    requires { ⌜ Sound (tableIn (now f)) ⌝ }
+    requires { ⌜ MadeFits (tableIn (now f)) place word x ⌝ }
+    ensures { λ r. ⌜ Counts 1 (inheritedItems (tableIn (now (f .entry))) place word x) r ⌝ }
 {
     if !x.inherited {
         return Counted { items: 0, bits: 0 };
     }
     let doms = x.doms;
-    let m = create(t, place, word, doms, x.parents);
     Counted {
         items: 1,
-        bits: packing::making_bits(m),
+        bits: making_bits(f, place, word, doms, x.parents),
     }
 }
 
 // The own makings, the inherited one and the extension line.
-pub fn made_bits(t: Table, place: usize, word: u8, x: Made) -> Counted
-    requires { ⌜ Sound t ⌝ }
-    requires { ⌜ MadeFits t place word x ⌝ }
+pub fn made_bits(f: &[u8; 1944], place: usize, word: u8, x: Made) -> Counted
+    requires { ⌜ Sound (tableIn (now f)) ⌝ }
+    requires { ⌜ MadeFits (tableIn (now f)) place word x ⌝ }
     requires { ⌜ place < 64 ⌝ }
-    ensures { λ r. ⌜ Counts 14 (itemsMade t place word x) r ⌝ }
+    ensures { λ r. ⌜ Counts 14 (itemsMade (tableIn (now (f .entry))) place word x) r ⌝ }
 {
-    let own = own_bits(t, place, word, x);
-    let above = inherited_bits(t, place, word, x);
-    let line = line_at(t, place, word);
+    let own = own_bits(f, place, word, x);
+    let above = inherited_bits(f, place, word, x);
+    let line = line_at(f, place, word);
     let last = packing::line_bits(line);
     Counted {
         items: x.count + above.items + 1,
@@ -115,46 +151,62 @@ pub fn made_bits(t: Table, place: usize, word: u8, x: Made) -> Counted
     }
 }
 
-fn write_own(buf: &mut [u8], c: Cursor, t: Table, place: usize, word: u8, x: Made) -> Cursor
-    requires { ⌜ Sound t ⌝ }
-    requires { ⌜ MadeFits t place word x ⌝ }
-    requires { ⌜ Room (now buf) (c .at) (length (each itemBits (ownItems t place word x))) ⌝ }
-    ensures { λ r. ⌜ Wrote (now (buf .entry)) (now (buf .exit)) (c .at) (r .at) (each itemBits (ownItems t place word x)) ⌝ }
+// The own makings, written.
+fn write_own(buf: &mut [u8], c: Cursor, f: &[u8; 1944], place: usize, word: u8, x: Made) -> Cursor
+    requires { ⌜ Sound (tableIn (now f)) ⌝ }
+    requires { ⌜ MadeFits (tableIn (now f)) place word x ⌝ }
+    requires { ⌜ Room (now buf) (c .at) (length (each itemBits (ownItems (tableIn (now f)) place word x))) ⌝ }
+    ensures { λ r. ⌜ Wrote (now (buf .entry)) (now (buf .exit)) (c .at) (r .at) (each itemBits (ownItems (tableIn (now (f .entry))) place word x)) ⌝ }
 {
     let own = x.own;
     let mut at = c;
     let mut i: usize = 0;
     while i < x.count {
-        let m = create_own(t, place, word, own[i]);
-        at = packing::write_making(buf, at, m);
+        let doms = rows::alone(own[i] as usize);
+        at = write_making(buf, at, f, place, word, doms, 0);
         i += 1;
     }
     at
 }
 
-fn write_inherited(buf: &mut [u8], c: Cursor, t: Table, place: usize, word: u8, x: Made) -> Cursor
-    requires { ⌜ Sound t ⌝ }
-    requires { ⌜ MadeFits t place word x ⌝ }
-    requires { ⌜ Room (now buf) (c .at) (length (each itemBits (inheritedItems t place word x))) ⌝ }
-    ensures { λ r. ⌜ Wrote (now (buf .entry)) (now (buf .exit)) (c .at) (r .at) (each itemBits (inheritedItems t place word x)) ⌝ }
+// The inherited making, written if there is one.
+fn write_inherited(
+    buf: &mut [u8],
+    c: Cursor,
+    f: &[u8; 1944],
+    place: usize,
+    word: u8,
+    x: Made,
+) -> Cursor
+    requires { ⌜ Sound (tableIn (now f)) ⌝ }
+    requires { ⌜ MadeFits (tableIn (now f)) place word x ⌝ }
+    requires { ⌜ Room (now buf) (c .at) (length (each itemBits (inheritedItems (tableIn (now f)) place word x))) ⌝ }
+    ensures { λ r. ⌜ Wrote (now (buf .entry)) (now (buf .exit)) (c .at) (r .at) (each itemBits (inheritedItems (tableIn (now (f .entry))) place word x)) ⌝ }
 {
     if !x.inherited {
         return c;
     }
     let doms = x.doms;
-    let m = create(t, place, word, doms, x.parents);
-    packing::write_making(buf, c, m)
+    write_making(buf, c, f, place, word, doms, x.parents)
 }
 
-pub fn write_made(buf: &mut [u8], c: Cursor, t: Table, place: usize, word: u8, x: Made) -> Cursor
-    requires { ⌜ Sound t ⌝ }
-    requires { ⌜ MadeFits t place word x ⌝ }
+// All of them, written.
+pub fn write_made(
+    buf: &mut [u8],
+    c: Cursor,
+    f: &[u8; 1944],
+    place: usize,
+    word: u8,
+    x: Made,
+) -> Cursor
+    requires { ⌜ Sound (tableIn (now f)) ⌝ }
+    requires { ⌜ MadeFits (tableIn (now f)) place word x ⌝ }
     requires { ⌜ place < 64 ⌝ }
-    requires { ⌜ Room (now buf) (c .at) (length (each itemBits (itemsMade t place word x))) ⌝ }
-    ensures { λ r. ⌜ Wrote (now (buf .entry)) (now (buf .exit)) (c .at) (r .at) (each itemBits (itemsMade t place word x)) ⌝ }
+    requires { ⌜ Room (now buf) (c .at) (length (each itemBits (itemsMade (tableIn (now f)) place word x))) ⌝ }
+    ensures { λ r. ⌜ Wrote (now (buf .entry)) (now (buf .exit)) (c .at) (r .at) (each itemBits (itemsMade (tableIn (now (f .entry))) place word x)) ⌝ }
 {
-    let d = write_own(buf, c, t, place, word, x);
-    let e = write_inherited(buf, d, t, place, word, x);
-    let line = line_at(t, place, word);
+    let d = write_own(buf, c, f, place, word, x);
+    let e = write_inherited(buf, d, f, place, word, x);
+    let line = line_at(f, place, word);
     packing::write_line(buf, e, line)
 }

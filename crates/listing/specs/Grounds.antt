@@ -1,5 +1,5 @@
 -- The tables that the items of all types are made from, and what is written from them.
-use mathlib.Core.Bool.{Bool}
+use mathlib.Core.Bool.{Bool, true, false}
 use mathlib.Core.List.{List, _++_}
 use mathlib.Core.Path.{_≡_}
 use Prim.Native.Nat.{ℕ, _*_, _≤_, _<_}
@@ -25,6 +25,10 @@ use Rattle.packing.specs.Order.{orderNames, Listing}
 use Rattle.packing.specs.declared.Listed.{Listed}
 use Rattle.item_bits.specs.Counts.{Counts}
 use Rattle.item_bits.specs.declared.Counted.{Counted}
+use Rattle.line_laws.specs.Statements.{lineMap, anyRefused}
+use Rattle.classes.specs.Classes.{Noted}
+use Rattle.plain.specs.Testing as quick
+use Rattle.listing.specs.declared.Tried.{Tried}
 
 -- the items of a sheet's map
 abbrev pub allItems : Sheet → List Item
@@ -76,3 +80,14 @@ pub record WritesAll (ts : Types) (p : Parents) (o : Order) (t : Table) (table p
 
 pub record ListsAll (ts : Types) (p : Parents) (o : Order) (t : Table) (table passed rows : List ℕ) (entry exit : List ℕ) (r : Listed) : Type 0 where
   pub lists : (s : Sheet) (es : Extensions) → Ground s ts es p t table passed rows → Listing entry exit (allBits s p o) r
+
+-- true is said only where no type is refused, or where that was known
+pub record Accepts (known : Bool) (ts : Types) (classes table rows : List ℕ) (r : Bool) : Type 0 where
+  pub trusts : known ≡ true → r ≡ true
+  pub tests : known ≡ false → r ≡ true → (s : Sheet) (es : Extensions) (p : Parents) → quick.Ground s ts es p classes table rows → anyRefused (lineMap s) ≡ false
+
+pub record TriesAll (known : Bool) (ts : Types) (p : Parents) (o : Order) (t : Table) (classes table passed rows : List ℕ) (entry exit : List ℕ) (r : Tried) : Type 0 where
+  pub lists : r .decided ≡ true → ListsAll ts p o t table passed rows entry exit (r .listed)
+  pub tests : known ≡ false → r .decided ≡ true → (s : Sheet) (es : Extensions) → Ground s ts es p t table passed rows → Noted (typeMapOf s .types) classes → anyRefused (lineMap s) ≡ false
+  pub untouched : r .decided ≡ false → exit ≡ entry
+  pub trusts : known ≡ true → r .decided ≡ true

@@ -2,10 +2,10 @@
 use mathlib.Core.Bool.{Bool, true, false}
 use mathlib.Core.List.{List, _++_}
 use mathlib.Core.Path.{_≡_, refl, sym, ap, _∙_, subst}
-use Prim.Native.Nat.{ℕ, _+_, _*_, _/_, _<_, _≤_}
+use Prim.Native.Nat.{ℕ, zero, suc, _+_, _*_, _/_, _<_, _≤_}
 use native.Mathlib.Omega.{arith}
 use borrow.Author.Tests.{lt-ltb, le-ltb}
-use lib.ListN.{length, length-append, replicate, length-replicate}
+use lib.ListN.{length, getD, length-append, replicate, length-replicate}
 use Rattle.lists.specs.Lists.{each}
 use Rattle.definitions.specs.Records.{Name, Sheet}
 use Rattle.definitions.specs.Bits.{toBits, size}
@@ -14,6 +14,7 @@ use Rattle.definitions.specs.Packing.{countedBits, itemBits, orderBits, schedul
 use Rattle.definitions.specs.Answer.{schedule, scheduleOf}
 use Rattle.bits.specs.NumberLaws.{length-toBits}
 use Rattle.bits.specs.Writing.{Wrote}
+use Rattle.types.specs.Types.{ofTypes}
 use Rattle.types.specs.declared.Types.{Types}
 use Rattle.types.specs.declared.Extensions.{Extensions}
 use Rattle.ordering.specs.Organized.{Organized}
@@ -25,12 +26,17 @@ use Rattle.above.specs.Above as over
 use Rattle.associations.specs.Associations.{TypesHeld, FillsTable, FillsPassed}
 use Rattle.held_laws.specs.HeldLaws.{count-parents, count-most}
 use Rattle.held_laws.specs.Limits.{held-extensions, type-within}
+use Rattle.classes.specs.Classes.{Noted}
+use Rattle.plain.specs.HeldMaps.{noted-held}
+use Rattle.laying.specs.Laying.{Unmarked}
 use Rattle.table.specs.declared.Table.{Table}
 use Rattle.lookups.specs.Listable.{Tabled}
 use Rattle.packing.specs.Order.{orderNames, Listing}
 use Rattle.packing.specs.PackingLaws.{wrote-overwrite}
 use Rattle.packing.specs.Room.{Room}
-use Rattle.listing.specs.Grounds.{allItems, allBits, Ground}
+use Rattle.listing.specs.declared.Tried.{Tried}
+use Rattle.listing.specs.Grounds.{allItems, allBits, Ground, TriesAll}
+use Rattle.listing.specs.Schedules.{TriesSchedule}
 use Rattle.listing.specs.NameLaws.{names-are}
 
 pub schedule-is : (s : Sheet) (ts : Types) (es : Extensions) (p : Parents) → HeldMap s ts es p → (o : Order) → Organized p o
@@ -85,6 +91,21 @@ ground-of s ts es p h resource e t d a table b passed rows f g k =
       above = k;
     }
 
+-- what is tried over the tables is tried for the map
+pub tries-schedule : (known : Bool) (ts : Types) (es : Extensions) (resource : ℕ) (p : Parents) (o : Order) → Organized p o → (t : Table) (classes table passed rows entry exit : List ℕ) (r : Tried)
+    → ((s : Sheet) → HeldMap s ts es p → resource ≡ typeMapOf s .resource → Ground s ts es p t table passed rows) → Noted (ofTypes ts) classes
+    → TriesAll known ts p o t classes table passed rows entry exit r → TriesSchedule known ts es resource p entry exit r
+tries-schedule known ts es resource p o g t classes table passed rows entry exit r on n q =
+    record {
+      lists = λ d. record {
+        lists = λ s h e.
+            subst (λ (bs : List Bool). Listing entry exit bs (r .listed)) (schedule-is s ts es p h o g) (q .lists d .lists s es (on s h e));
+      };
+      tests = λ k d s h e. q .tests k d s es (on s h e) (noted-held s ts es p classes h n);
+      untouched = q .untouched;
+      trusts = q .trusts;
+    }
+
 pub types-held : (s : Sheet) (ts : Types) (es : Extensions) (p : Parents) → HeldMap s ts es p → TypesHeld ts
 types-held s ts es p h = record { count = count-most s ts es p h; type = type-within s ts es p h }
 
@@ -108,3 +129,13 @@ as-long n a b e h = subst (λ (k : ℕ). n ≤ k) (sym e) h
 
 pub as-small : (n : ℕ) (a b : List ℕ) → length b ≡ length a → length a < n → length b < n
 as-small n a b e h = subst (λ (k : ℕ). k < n) (sym e) h
+
+-- ---- tables of zeros
+
+zero-at : (n i : ℕ) → getD {A = ℕ} (replicate n 0) i 0 ≡ 0
+zero-at zero i = refl
+zero-at (suc n) zero = refl
+zero-at (suc n) (suc i) = zero-at n i
+
+pub unmarked : Unmarked (replicate 1600 0)
+unmarked = record { long = length-replicate {A = ℕ} 1600 0; zeros = zero-at 1600 }

@@ -15,7 +15,6 @@ use Rattle.definitions.specs.Packing.{itemBits}
 use Rattle.bits.specs.Writing.{Wrote}
 use Rattle.bits.specs.WriteLaws.{wrote-none, wrote-then}
 use Rattle.fields.specs.Tabulate.{tabulate}
-use Rattle.line_laws.specs.Within.{TypeWithin}
 use Rattle.types.specs.Types.{typeInfoOf}
 use Rattle.types.specs.declared.Types.{Types}
 use Rattle.types.specs.declared.Extensions.{Extensions}
@@ -24,7 +23,12 @@ use Rattle.ordering.specs.declared.Parents.{Parents}
 use Rattle.ancestry.specs.Rows.{RowOf}
 use Rattle.associations.specs.Associations.{itemAt}
 use Rattle.held_laws.specs.HeldLaws.{count-parents, type-at, parents-below}
-use Rattle.held_laws.specs.Limits.{type-within, type-fits}
+use Rattle.held_laws.specs.Limits.{type-fits}
+use Rattle.above.specs.Tables.{ListedRoom}
+use Rattle.above.specs.Steps.{listed-room}
+use Rattle.own_associates.specs.Owning.{AllFit}
+use Rattle.own_classes.specs.OwnClasses.{OwnedOf}
+use Rattle.own_classes.specs.declared.Owned.{Owned}
 use Rattle.table.specs.declared.Table.{Table}
 use Rattle.synthetic.specs.MadeLaws.{each-append, each-each}
 use Rattle.makings.specs.Makings.{Held}
@@ -34,6 +38,7 @@ use Rattle.item_bits.specs.Counts.{Counts}
 use Rattle.item_bits.specs.declared.Counted.{Counted}
 use Rattle.type_items.specs.declared.Site.{Site}
 use Rattle.type_items.specs.Scenes.{typeItems, SiteOf, Ready, Scene, Staged, CountsType, RoomForType, WritesType}
+use Rattle.type_items.specs.Sites.{scene-of, ready-of}
 use Rattle.type_items.specs.ItemLaws.{counts-start, counts-more}
 use Rattle.listing.specs.Grounds.{allItems, Ground, Grounded, CountsAll, RoomForTypes, WritesTypes}
 
@@ -69,64 +74,54 @@ module _ (ts : Types) (p : Parents) (t : Table) (table passed rows : List ℕ) w
   abbrev On : Sheet → Extensions → Type 0
   On s es = Ground s ts es p t table passed rows
 
-  -- the site of the type at a
-  abbrev At : ℕ → Site → Type 0
-  At a x = SiteOf (itemAt ts a) table (getD rows a 0) (p .count) a x
+  -- the own resources of the type at a
+  abbrev Owns : ℕ → Owned → Type 0
+  Owns a w = OwnedOf (declarationOf (typeInfoOf (itemAt ts a))) (w .count) (w .words) (w .doms)
 
-  abbrev siteAt : ℕ → Site → Site
-  siteAt a x = record { place = a; row = getD rows a 0; words = x .words; above = x .above }
+  -- its site
+  abbrev At : ℕ → Owned → Site → Type 0
+  At a w x = SiteOf (w .count) (w .words) (p .counts) (p .places) table (getD rows a 0) (p .count) a x
 
-  site-is : (a : ℕ) (x : Site) → At a x → siteAt a x ≡ x
-  site-is a x e = ap₂ (λ (i r : ℕ). record { place = i; row = r; words = x .words; above = x .above }) (sym (e .at)) (sym (e .over))
-
-  scene-here : {s : Sheet} {es : Extensions} → On s es → (a : ℕ) → a < p .count → (x : Site) → At a x
-      → Scene s ts es (itemAt ts a) p t table passed (siteAt a x)
-  scene-here {s} {es} o a h x e =
+  pub scene-at : {s : Sheet} {es : Extensions} → On s es → (a : ℕ) → a < p .count → (w : Owned) → Owns a w → (x : Site) → At a w x
+      → Scene s ts es p (w .count) (w .words) (w .doms) t table passed x
+  scene-at {s} {es} o a h w g x e =
       let k : a < ts .count = omega (arith, count-parents s ts es p (o .held)) in
-      let y = type-at s ts es p (o .held) a k in
       let d : Held s ts es p table (getD rows a 0) a = record { map = o .held; gives = o .gives; over = o .above .right a h } in
-      record {
-        tables = record { held = d; passes = o .passes };
-        lookups = o .lookups;
-        type = y;
-        words = e .words .words s ts es p a d refl h y;
-        inherited = e .inherited .words s ts es p a d refl;
-      }
+      scene-of s ts es p (w .count) (w .words) (w .doms) t table passed (getD rows a 0) a x e (record { held = d; passes = o .passes }) h
+      (subst (λ (T : records.TypeInfo). OwnedOf (declarationOf T) (w .count) (w .words) (w .doms)) (type-at s ts es p (o .held) a k) g) (o .lookups)
 
-  pub scene-at : {s : Sheet} {es : Extensions} → On s es → (a : ℕ) → a < p .count → (x : Site) → At a x → Scene s ts es (itemAt ts a) p t table passed x
-  scene-at {s} {es} o a h x e = subst (Scene s ts es (itemAt ts a) p t table passed) (site-is a x e) (scene-here o a h x e)
+  ready-at : Grounded ts p t table passed rows → (a : ℕ) → a < p .count → (w : Owned) → Owns a w → (x : Site) → At a w x
+      → Ready (w .count) (w .words) (w .doms) table passed x
+  ready-at g a h w q x e =
+      let s = g .sheet in
+      let es = g .extensions in
+      let o = g .ground in
+      let k : a < ts .count = omega (arith, count-parents s ts es p (o .held)) in
+      let d : Held s ts es p table (getD rows a 0) a = record { map = o .held; gives = o .gives; over = o .above .right a h } in
+      ready-of s ts es p (w .count) (w .words) (w .doms) t table passed (getD rows a 0) a x e (record { held = d; passes = o .passes }) h
+      (subst (λ (T : records.TypeInfo). OwnedOf (declarationOf T) (w .count) (w .words) (w .doms)) (type-at s ts es p (o .held) a k) q)
+      (valid p (typeMapOf s) (o .held .reads)) (parents-below s ts es p (o .held) a h) (g .tableLong, g .tableSmall) (g .passedLong, g .passedSmall)
 
-  ready-at : Grounded ts p t table passed rows → (a : ℕ) → a < p .count → (x : Site) → At a x → Ready (itemAt ts a) p table passed x
-  ready-at g a h x e =
+  pub staged-at : Grounded ts p t table passed rows → (a : ℕ) → a < p .count → (w : Owned) → Owns a w → (x : Site) → At a w x
+      → Staged (w .count) (w .words) (w .doms) t table passed x
+  staged-at g a h w q x e =
+      record { ready = ready-at g a h w q x e; sheet = g .sheet; types = ts; extensions = g .extensions; parents = p; scene = scene-at (g .ground) a h w q x e }
+
+  -- the arrays have room for the parents of the type
+  pub room-here : Grounded ts p t table passed rows → (a : ℕ) → a < p .count → ListedRoom (p .counts) (p .places) a
+  room-here g a h =
+      let d = g .ground .held in
+      listed-room p a (valid p (typeMapOf (g .sheet)) (d .reads)) h (parents-below (g .sheet) ts (g .extensions) p d a h)
+
+  pub fit-here : Grounded ts p t table passed rows → (a : ℕ) → a < p .count → AllFit (itemAt ts a)
+  fit-here g a h =
       let s = g .sheet in
       let es = g .extensions in
       let d = g .ground .held in
-      let k : a < ts .count = omega (arith, count-parents s ts es p d) in
-      let r : Ready (itemAt ts a) p table passed (siteAt a x) = record {
-        within = type-within s ts es p d a k;
-        fit = type-fits s ts es p d a k;
-        valid = valid p (typeMapOf s) (d .reads);
-        place = h;
-        parents = parents-below s ts es p d a h;
-        tableLong = g .tableLong;
-        tableSmall = g .tableSmall;
-        passedLong = g .passedLong;
-        passedSmall = g .passedSmall;
-      } in
-      subst (Ready (itemAt ts a) p table passed) (site-is a x e) r
-
-  pub staged-at : Grounded ts p t table passed rows → (a : ℕ) → a < p .count → (x : Site) → At a x → Staged (itemAt ts a) p t table passed x
-  staged-at g a h x e =
-      record { ready = ready-at g a h x e; sheet = g .sheet; types = ts; extensions = g .extensions; scene = scene-at (g .ground) a h x e }
+      type-fits s ts es p d a (omega (arith, count-parents s ts es p d))
 
   pub few-types : Grounded ts p t table passed rows → p .count ≤ 64
   few-types g = g .ground .held .reads .most
-
-  pub within-here : Grounded ts p t table passed rows → (a : ℕ) → a < p .count → TypeWithin 200 (typeInfoOf (itemAt ts a))
-  within-here g a h =
-      let s = g .sheet in
-      let es = g .extensions in
-      type-within s ts es p (g .ground .held) a (omega (arith, count-parents s ts es p (g .ground .held)))
 
   -- ---- the loops
 
@@ -138,14 +133,14 @@ module _ (ts : Types) (p : Parents) (t : Table) (table passed rows : List ℕ) w
   counting-start = record { counts = λ s es o. counts-start (typeItems s) (λ (i : ℕ). i) 2800 }
 
   -- what a type's count says of the type at a
-  pub count-at : {s : Sheet} {es : Extensions} → On s es → (a : ℕ) → a < p .count → (x : Site) → At a x → (b : Counted) → CountsType (itemAt ts a) p t table passed x b
-      → Counts 2800 (typeItems s a) b
-  count-at {s} {es} o a h x e b c = subst (λ (i : ℕ). Counts 2800 (typeItems s i) b) (e .at) (c .counts s ts es (scene-at o a h x e))
+  pub count-at : {s : Sheet} {es : Extensions} → On s es → (a : ℕ) → a < p .count → (w : Owned) → Owns a w → (x : Site) → At a w x → (b : Counted)
+      → CountsType (w .count) (w .words) (w .doms) t table passed x b → Counts 2800 (typeItems s a) b
+  count-at {s} {es} o a h w q x e b c = subst (λ (i : ℕ). Counts 2800 (typeItems s i) b) (e .at) (c .counts s ts es p (scene-at o a h w q x e))
 
-  pub counting-more : (a : ℕ) → a < p .count → (x : Site) → At a x → (b c : Counted) → Counting a b → CountsType (itemAt ts a) p t table passed x c
-      → Counting (a + 1) (record { items = b .items + c .items; bits = b .bits + c .bits })
-  counting-more a h x e b c d f =
-      record { counts = λ s es o. counts-more (typeItems s) (λ (i : ℕ). i) 2800 a b c (d .counts s es o) (count-at o a h x e c f) }
+  pub counting-more : (a : ℕ) → a < p .count → (w : Owned) → Owns a w → (x : Site) → At a w x → (b c : Counted) → Counting a b
+      → CountsType (w .count) (w .words) (w .doms) t table passed x c → Counting (a + 1) (record { items = b .items + c .items; bits = b .bits + c .bits })
+  counting-more a h w q x e b c d f =
+      record { counts = λ s es o. counts-more (typeItems s) (λ (i : ℕ). i) 2800 a b c (d .counts s es o) (count-at o a h w q x e c f) }
 
   pub counting-end : (a : ℕ) (r : Counted) → a ≡ p .count → a ≤ 64 → Counting a r → CountsAll ts p t table passed rows r
   counting-end a r e l c =
@@ -174,26 +169,27 @@ module _ (ts : Types) (p : Parents) (t : Table) (table passed rows : List ℕ) w
   pub writing-start : (b : List ℕ) (q : ℕ) → Writing 0 b b q q
   writing-start b q = record { wrote = λ s es o. rw (each-none (typeBits s) (λ (i : ℕ). i)) (wrote-none b q) }
 
-  pub writing-more : (a : ℕ) → a < p .count → (x : Site) → At a x → (b c d : List ℕ) (q r u : ℕ) → Writing a b c q r
-      → WritesType (itemAt ts a) p t table passed x c d r u → Writing (a + 1) b d q u
-  writing-more a h x e b c d q r u f g =
+  pub writing-more : (a : ℕ) → a < p .count → (w : Owned) → Owns a w → (x : Site) → At a w x → (b c d : List ℕ) (q r u : ℕ) → Writing a b c q r
+      → WritesType (w .count) (w .words) (w .doms) t table passed x c d r u → Writing (a + 1) b d q u
+  writing-more a h w y x e b c d q r u f g =
       record {
         wrote = λ s es o.
             rw (each-more (typeBits s) (λ (i : ℕ). i) a)
-            (wrote-then (f .wrote s es o) (subst (λ (i : ℕ). Wrote c d r u (typeBits s i)) (e .at) (g .wrote s ts es (scene-at o a h x e))));
+            (wrote-then (f .wrote s es o) (subst (λ (i : ℕ). Wrote c d r u (typeBits s i)) (e .at) (g .wrote s ts es p (scene-at o a h w y x e))));
       }
 
   pub writing-end : (a : ℕ) (b c : List ℕ) (q r : ℕ) → a ≡ p .count → Writing a b c q r → WritesTypes ts p t table passed rows b c q r
   writing-end a b c q r e d = record { wrote = λ s es o. rw (← bits-all o a e) (d .wrote s es o) }
 
   -- the next type finds room
-  pub type-room : (b c : List ℕ) (q r : ℕ) → RoomForTypes ts p t table passed rows b q → (a : ℕ) → a < p .count → (x : Site) → At a x → Writing a b c q r
-      → RoomForType (itemAt ts a) p t table passed x c r
-  type-room b c q r m a h x e d =
+  pub type-room : (b c : List ℕ) (q r : ℕ) → RoomForTypes ts p t table passed rows b q → (a : ℕ) → a < p .count → (w : Owned) → Owns a w → (x : Site) → At a w x
+      → Writing a b c q r → RoomForType (w .count) (w .words) (w .doms) t table passed x c r
+  unfolding staged-at
+  type-room b c q r m a h w y x e d =
       let g = m .grounded in
       let s = g .sheet in
       record {
-        staged = record { ready = ready-at g a h x e; sheet = s; types = ts; extensions = g .extensions; scene = scene-at (g .ground) a h x e };
+        staged = staged-at g a h w y x e;
         room =
             subst (λ (i : ℕ). Room c r (length (typeBits s i))) (sym (e .at))
             (room-next (typeBits s) (λ (i : ℕ). i) a (p .count) h (d .wrote s (g .extensions) (g .ground)) (rw (bits-all (g .ground) (p .count) refl) (m .room)));

@@ -4,28 +4,36 @@ use item_bits::Counted;
 use ordering::Order;
 use ordering::Parents;
 use packing::Listed;
-use table::Table;
 use types::Extensions;
 use types::Types;
-ghost use mathlib.Core.Bool.{true};
+ghost use mathlib.Core.Bool.{true, false};
 ghost use mathlib.Core.Path.{_≡_};
 ghost use Prim.Native.Nat.{_≤_, _<_, _*_};
 ghost use lib.ListN.{length};
 ghost use Rattle.ordering.specs.Organized.{Organized};
-ghost use Rattle.listing.specs.Grounds.{Grounded, CountsAll, RoomForTypes, WritesTypes, RoomForAll, WritesAll, ListsAll};
-ghost use Rattle.listing.specs.Schedules.{Schedulable, ListsSchedule};
+ghost use Rattle.listing.specs.Grounds.{Grounded, CountsAll, RoomForTypes, WritesTypes, RoomForAll, WritesAll, ListsAll, Accepts, TriesAll};
+ghost use Rattle.associations.specs.Associations.{Blanks};
+ghost use Rattle.facts.specs.Facts.{tableIn};
+ghost use Rattle.plain.specs.Testing.{TypesFit};
+ghost use Rattle.listing.specs.Schedules.{Schedulable, TriesSchedule};
+
+// What became of a schedule. It is not decided where the quick test can't tell that no type is refused; then nothing was written.
+pub struct Tried {
+    pub decided: bool,
+    pub listed: Listed,
+}
 
 // 'types in name order'
 fn types_bits(
     types: Types,
     p: Parents,
-    t: Table,
+    facts: &[u8; 1944],
     table: &[u64],
     passed: &[u64],
     rows: [u64; 64],
 ) -> Counted
-    requires { ⌜ Grounded types p t (now table) (now passed) rows ⌝ }
-    ensures { λ r. ⌜ CountsAll types p t (now (table .entry)) (now (passed .entry)) rows r ⌝ }
+    requires { ⌜ Grounded types p (tableIn (now facts)) (now table) (now passed) rows ⌝ }
+    ensures { λ r. ⌜ CountsAll types p (tableIn (now (facts .entry))) (now (table .entry)) (now (passed .entry)) rows r ⌝ }
 {
     let count = p.count;
     let mut items: usize = 0;
@@ -33,8 +41,19 @@ fn types_bits(
     let mut a: usize = 0;
     while a < count {
         let info = types.items[a];
-        let site = type_items::site_of(info, table, rows[a], count, a);
-        let n = type_items::type_bits(info, p, t, table, passed, site);
+        let own = own_classes::owned_of(info);
+        let k = own.count;
+        let site = type_items::site_of(
+            k,
+            &own.words,
+            &p.counts,
+            &p.places,
+            table,
+            rows[a],
+            count,
+            a,
+        );
+        let n = type_items::type_bits(k, &own.words, &own.doms, facts, table, passed, site);
         items += n.items;
         bits += n.bits;
         a += 1;
@@ -47,21 +66,42 @@ fn write_types(
     c: Cursor,
     types: Types,
     p: Parents,
-    t: Table,
+    facts: &[u8; 1944],
     table: &[u64],
     passed: &[u64],
     rows: [u64; 64],
 ) -> Cursor
-    requires { ⌜ RoomForTypes types p t (now table) (now passed) rows (now buf) (c .at) ⌝ }
-    ensures { λ r. ⌜ WritesTypes types p t (now (table .entry)) (now (passed .entry)) rows (now (buf .entry)) (now (buf .exit)) (c .at) (r .at) ⌝ }
+    requires { ⌜ RoomForTypes types p (tableIn (now facts)) (now table) (now passed) rows (now buf) (c .at) ⌝ }
+    ensures { λ r. ⌜ WritesTypes types p (tableIn (now (facts .entry))) (now (table .entry)) (now (passed .entry)) rows (now (buf .entry)) (now (buf .exit)) (c .at) (r .at) ⌝ }
 {
     let count = p.count;
     let mut at = c;
     let mut a: usize = 0;
     while a < count {
         let info = types.items[a];
-        let site = type_items::site_of(info, table, rows[a], count, a);
-        at = type_items::write_type(buf, at, info, p, t, table, passed, site);
+        let own = own_classes::owned_of(info);
+        let k = own.count;
+        let site = type_items::site_of(
+            k,
+            &own.words,
+            &p.counts,
+            &p.places,
+            table,
+            rows[a],
+            count,
+            a,
+        );
+        at = type_items::write_type(
+            buf,
+            at,
+            k,
+            &own.words,
+            &own.doms,
+            facts,
+            table,
+            passed,
+            site,
+        );
         a += 1;
     }
     at
@@ -73,21 +113,21 @@ fn write_all(
     types: Types,
     p: Parents,
     o: Order,
-    t: Table,
+    facts: &[u8; 1944],
     table: &[u64],
     passed: &[u64],
     rows: [u64; 64],
     items: usize,
 ) -> Cursor
-    requires { ⌜ RoomForAll types p o t (now table) (now passed) rows items (now buf) ⌝ }
-    ensures { λ r. ⌜ WritesAll types p o t (now (table .entry)) (now (passed .entry)) rows items (now (buf .entry)) (now (buf .exit)) (r .at) ⌝ }
+    requires { ⌜ RoomForAll types p o (tableIn (now facts)) (now table) (now passed) rows items (now buf) ⌝ }
+    ensures { λ r. ⌜ WritesAll types p o (tableIn (now (facts .entry))) (now (table .entry)) (now (passed .entry)) rows items (now (buf .entry)) (now (buf .exit)) (r .at) ⌝ }
 {
     let firsts = p.firsts;
     let seconds = p.seconds;
     let places = o.items;
     let c = packing::write_order_bits(buf, Cursor { at: 0 }, firsts, seconds, places, o.count);
     let d = c.write(buf, 16, items);
-    write_types(buf, d, types, p, t, table, passed, rows)
+    write_types(buf, d, types, p, facts, table, passed, rows)
 }
 
 // '10 answers the needed size, acceptance the size written'. Nothing is touched where the listing is too short.
@@ -96,16 +136,16 @@ fn list_all(
     types: Types,
     p: Parents,
     o: Order,
-    t: Table,
+    facts: &[u8; 1944],
     table: &[u64],
     passed: &[u64],
     rows: [u64; 64],
 ) -> Listed
-    requires { ⌜ Grounded types p t (now table) (now passed) rows ⌝ }
+    requires { ⌜ Grounded types p (tableIn (now facts)) (now table) (now passed) rows ⌝ }
     requires { ⌜ o .count ≤ 64 ⌝ }
-    ensures { λ r. ⌜ ListsAll types p o t (now (table .entry)) (now (passed .entry)) rows (now (listing .entry)) (now (listing .exit)) r ⌝ }
+    ensures { λ r. ⌜ ListsAll types p o (tableIn (now (facts .entry))) (now (table .entry)) (now (passed .entry)) rows (now (listing .entry)) (now (listing .exit)) r ⌝ }
 {
-    let n = types_bits(types, p, t, table, passed, rows);
+    let n = types_bits(types, p, facts, table, passed, rows);
     let firsts = p.firsts;
     let seconds = p.seconds;
     let places = o.items;
@@ -114,108 +154,211 @@ fn list_all(
     if listing.len() < size {
         return Listed { short: true, size };
     }
-    write_all(listing, types, p, o, t, table, passed, rows, n.items);
+    write_all(listing, types, p, o, facts, table, passed, rows, n.items);
     Listed { short: false, size }
+}
+
+// Whether it is known that no type is refused: from elsewhere, or by the quick test.
+fn is_accepted(
+    known: bool,
+    types: Types,
+    classes: &[u64; 1600],
+    table: &[u64],
+    rows: [u64; 64],
+) -> bool
+    requires { ⌜ TypesFit types ⌝ }
+    requires { ⌜ (804 * types .count ≤ length (now table)) × (length (now table) < 1000000) ⌝ }
+    ensures { λ r. ⌜ Accepts known types (now (classes .entry)) (now (table .entry)) rows r ⌝ }
+{
+    if known {
+        return true;
+    }
+    plain::types_plain(types, classes, table, rows)
+}
+
+// Nothing is decided.
+fn undecided() -> Tried
+    ensures { λ r. ⌜ r .decided ≡ false ⌝ }
+{
+    Tried {
+        decided: false,
+        listed: Listed {
+            short: false,
+            size: 0,
+        },
+    }
+}
+
+// The schedule, if no type is refused.
+fn try_all(
+    listing: &mut [u8],
+    known: bool,
+    classes: &[u64; 1600],
+    types: Types,
+    p: Parents,
+    o: Order,
+    facts: &[u8; 1944],
+    table: &[u64],
+    passed: &[u64],
+    rows: [u64; 64],
+) -> Tried
+    requires { ⌜ Grounded types p (tableIn (now facts)) (now table) (now passed) rows ⌝ }
+    requires { ⌜ o .count ≤ 64 ⌝ }
+    ensures { λ r. ⌜ TriesAll known types p o (tableIn (now (facts .entry))) (now (classes .entry)) (now (table .entry)) (now (passed .entry)) rows (now (listing .entry)) (now (listing .exit)) r ⌝ }
+{
+    if !is_accepted(known, types, classes, table, rows) {
+        return undecided();
+    }
+    let listed = list_all(listing, types, p, o, facts, table, passed, rows);
+    Tried {
+        decided: true,
+        listed,
+    }
 }
 
 // The schedule, with what each type associates in the table, 804 numbers a type, and what it is passed in the other.
 fn list_with(
     listing: &mut [u8],
     table: &mut [u64],
+    known: bool,
     types: Types,
     extensions: Extensions,
     resource: u8,
     p: Parents,
     o: Order,
-) -> Listed
+) -> Tried
     requires { ⌜ Schedulable types extensions resource p ⌝ }
     requires { ⌜ Organized p o ⌝ }
-    requires { ⌜ (o .found ≡ true) × (804 * p .count ≤ length (now table)) × (length (now table) < 1000000) ⌝ }
-    ensures { λ r. ⌜ ListsSchedule types extensions resource p (now (listing .entry)) (now (listing .exit)) r ⌝ }
+    requires { ⌜ (o .found ≡ true) × Blanks (now table) (types .count) × (804 * p .count ≤ length (now table)) × (length (now table) < 1000000) ⌝ }
+    ensures { λ r. ⌜ TriesSchedule known types extensions resource p (now (listing .entry)) (now (listing .exit)) r ⌝ }
 {
     let mut passed = [0u64; 256];
-    let t = lookups::table_of(types, extensions, resource);
+    let mut facts = [0u8; 1944];
+    let mut classes = [0u64; 1600];
     let above = ancestry::find_ancestors(p, o);
     let rows = above.rows;
-    associations::fill_table(table, types);
+    facts::lay_head(&mut facts, types.count, extensions, resource);
+    laying::lay_types(table, &mut facts, &mut classes, types);
     associations::fill_passed(&mut passed, table, rows, p.count);
-    list_all(listing, types, p, o, t, table, &passed, rows)
+    try_all(
+        listing,
+        known,
+        &classes,
+        types,
+        p,
+        o,
+        &facts,
+        table,
+        &passed,
+        rows,
+    )
 }
 
 // The table is all set to 0 first: a small one for few types. Here for 8.
 fn list_few(
     listing: &mut [u8],
+    known: bool,
     types: Types,
     extensions: Extensions,
     resource: u8,
     p: Parents,
     o: Order,
-) -> Listed
+) -> Tried
     requires { ⌜ Schedulable types extensions resource p ⌝ }
     requires { ⌜ Organized p o ⌝ }
     requires { ⌜ (o .found ≡ true) × (p .count ≤ 8) ⌝ }
-    ensures { λ r. ⌜ ListsSchedule types extensions resource p (now (listing .entry)) (now (listing .exit)) r ⌝ }
+    ensures { λ r. ⌜ TriesSchedule known types extensions resource p (now (listing .entry)) (now (listing .exit)) r ⌝ }
 {
     let mut table = [0u64; 6432];
-    list_with(listing, &mut table, types, extensions, resource, p, o)
+    list_with(
+        listing,
+        &mut table,
+        known,
+        types,
+        extensions,
+        resource,
+        p,
+        o,
+    )
 }
 
 // For 24 types.
 fn list_some(
     listing: &mut [u8],
+    known: bool,
     types: Types,
     extensions: Extensions,
     resource: u8,
     p: Parents,
     o: Order,
-) -> Listed
+) -> Tried
     requires { ⌜ Schedulable types extensions resource p ⌝ }
     requires { ⌜ Organized p o ⌝ }
     requires { ⌜ (o .found ≡ true) × (p .count ≤ 24) ⌝ }
-    ensures { λ r. ⌜ ListsSchedule types extensions resource p (now (listing .entry)) (now (listing .exit)) r ⌝ }
+    ensures { λ r. ⌜ TriesSchedule known types extensions resource p (now (listing .entry)) (now (listing .exit)) r ⌝ }
 {
     let mut table = [0u64; 19296];
-    list_with(listing, &mut table, types, extensions, resource, p, o)
+    list_with(
+        listing,
+        &mut table,
+        known,
+        types,
+        extensions,
+        resource,
+        p,
+        o,
+    )
 }
 
 // For all 64.
 fn list_most(
     listing: &mut [u8],
+    known: bool,
     types: Types,
     extensions: Extensions,
     resource: u8,
     p: Parents,
     o: Order,
-) -> Listed
+) -> Tried
     requires { ⌜ Schedulable types extensions resource p ⌝ }
     requires { ⌜ Organized p o ⌝ }
     requires { ⌜ (o .found ≡ true) × (p .count ≤ 64) ⌝ }
-    ensures { λ r. ⌜ ListsSchedule types extensions resource p (now (listing .entry)) (now (listing .exit)) r ⌝ }
+    ensures { λ r. ⌜ TriesSchedule known types extensions resource p (now (listing .entry)) (now (listing .exit)) r ⌝ }
 {
     let mut table = [0u64; 51456];
-    list_with(listing, &mut table, types, extensions, resource, p, o)
+    list_with(
+        listing,
+        &mut table,
+        known,
+        types,
+        extensions,
+        resource,
+        p,
+        o,
+    )
 }
 
 // The schedule of the types, which are in name order, and the extensions. `resource` is the number of that word, `p` has the parents of the types, and `o` is their
 // order.
 pub fn write_schedule(
     listing: &mut [u8],
+    known: bool,
     types: Types,
     extensions: Extensions,
     resource: u8,
     p: Parents,
     o: Order,
-) -> Listed
+) -> Tried
     requires { ⌜ Schedulable types extensions resource p ⌝ }
     requires { ⌜ Organized p o ⌝ }
     requires { ⌜ o .found ≡ true ⌝ }
-    ensures { λ r. ⌜ ListsSchedule types extensions resource p (now (listing .entry)) (now (listing .exit)) r ⌝ }
+    ensures { λ r. ⌜ TriesSchedule known types extensions resource p (now (listing .entry)) (now (listing .exit)) r ⌝ }
 {
     if p.count <= 8 {
-        return list_few(listing, types, extensions, resource, p, o);
+        return list_few(listing, known, types, extensions, resource, p, o);
     }
     if p.count <= 24 {
-        return list_some(listing, types, extensions, resource, p, o);
+        return list_some(listing, known, types, extensions, resource, p, o);
     }
-    list_most(listing, types, extensions, resource, p, o)
+    list_most(listing, known, types, extensions, resource, p, o)
 }

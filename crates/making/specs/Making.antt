@@ -1,8 +1,7 @@
 -- What the values of the code mean, as the definitions' lines.
 use mathlib.Core.Bool.{cond}
 use mathlib.Core.List.{List, _∷_, _++_}
-use mathlib.Core.Path.{_≡_}
-use Prim.Native.Nat.{ℕ, _≤_}
+use Prim.Native.Nat.{ℕ}
 use lib.Dec.{eqb}
 use lib.ListN.{getD}
 use Rattle.definitions.specs.Records.{makelistMark, deriveMark, Item, synthesized, extension}
@@ -22,10 +21,6 @@ threeWords a b c = a ∷ (optional b ++ optional c)
 
 abbrev pub parentOf : Parent → List ℕ
 parentOf p = threeWords (p .first) (p .second) (p .third)
-
--- no third word without a second, so that a name has one form
-pub record Tight (p : Parent) : Type 0 where
-  pub tight : p .second ≡ 255 → p .third ≡ 255
 
 abbrev pub parentAt : Parents → ℕ → List ℕ
 parentAt t i = threeWords (getD (t .firsts) i 0) (getD (t .seconds) i 0) (getD (t .thirds) i 0)
@@ -51,8 +46,3 @@ itemOf m = synthesized (nameOf (m .name)) (m .word) (m .«is_virtual») (parents
 
 abbrev pub lineOf : Line → Item
 lineOf l = extension (nameOf (l .name)) (l .«is_virtual») (l .«is_trait») (l .word)
-
--- the counts are within the arrays
-pub record Bounded (m : Making) : Type 0 where
-  pub parents : m .parents .count ≤ 17
-  pub marks : m .marks .count ≤ 448

@@ -2,12 +2,9 @@
 use fields::Name;
 ghost use mathlib.Core.List.{[], _∷_, _++_};
 ghost use mathlib.Core.Path.{_≡_};
-ghost use Prim.Native.Nat.{_+_, _≤_, _<_};
-ghost use Rattle.lists.specs.Lists.{sameList};
-ghost use Rattle.definitions.specs.Making.{sameMark};
-ghost use Rattle.definitions.specs.Orders.{sameName};
+ghost use Prim.Native.Nat.{_+_, _<_};
 ghost use Rattle.fields.specs.Fields.{nameOf};
-ghost use Rattle.making.specs.Making.{parentOf, parentsOf, markOf, marksOf, Tight};
+ghost use Rattle.making.specs.Making.{parentOf, parentsOf, markOf, marksOf};
 
 // 01: 'parents 5, each a word count 2 (1 to 3) and its words'. The second and the third word are 255 where there is none: the count follows from them.
 pub struct Parent {
@@ -77,47 +74,6 @@ pub fn resource_of(n: Name, word: u8) -> Parent
     }
 }
 
-// The same name, its last word second if it has two. P.r of a P of one word leaves the second place empty.
-fn tightened(p: Parent) -> Parent
-    ensures { λ r. ⌜ (parentOf r ≡ parentOf p) × Tight r ⌝ }
-{
-    if p.second == 255 {
-        return Parent {
-            first: p.first,
-            second: p.third,
-            third: 255,
-        };
-    }
-    p
-}
-
-// Whether two parents are one name. 01: 'two lines are the same when every field is, parents and marks in their order'.
-pub fn same_parent(a: Parent, b: Parent) -> bool
-    ensures { λ r. ⌜ r ≡ sameName (parentOf a) (parentOf b) ⌝ }
-{
-    let p = tightened(a);
-    let q = tightened(b);
-    if p.first != q.first {
-        return false;
-    }
-    if p.second != q.second {
-        return false;
-    }
-    p.third == q.third
-}
-
-pub fn same_mark(a: Mark, b: Mark) -> bool
-    ensures { λ r. ⌜ r ≡ sameMark (markOf a) (markOf b) ⌝ }
-{
-    if a.derive != 1 {
-        return b.derive != 1;
-    }
-    if b.derive != 1 {
-        return false;
-    }
-    a.tag == b.tag
-}
-
 pub fn no_parents() -> Parents
     ensures { λ r. ⌜ (parentsOf r ≡ []) × (r .count ≡ 0) ⌝ }
 {
@@ -164,60 +120,4 @@ pub fn with_mark(t: Marks, m: Mark) -> Marks
     r.tags[i] = m.tag;
     r.count = i + 1;
     r
-}
-
-// Whether two lists of parents are the same.
-pub fn same_parents(s: Parents, t: Parents) -> bool
-    requires { ⌜ s .count ≤ 17 ⌝ }
-    requires { ⌜ t .count ≤ 17 ⌝ }
-    ensures { λ r. ⌜ r ≡ sameList sameName (parentsOf s) (parentsOf t) ⌝ }
-{
-    if s.count != t.count {
-        return false;
-    }
-    let mut i = 0;
-    while i < s.count {
-        let p = Parent {
-            first: s.firsts[i],
-            second: s.seconds[i],
-            third: s.thirds[i],
-        };
-        let q = Parent {
-            first: t.firsts[i],
-            second: t.seconds[i],
-            third: t.thirds[i],
-        };
-        if !same_parent(p, q) {
-            return false;
-        }
-        i += 1;
-    }
-    true
-}
-
-// Whether two lists of marks are the same.
-pub fn same_marks(s: Marks, t: Marks) -> bool
-    requires { ⌜ s .count ≤ 448 ⌝ }
-    requires { ⌜ t .count ≤ 448 ⌝ }
-    ensures { λ r. ⌜ r ≡ sameList sameMark (marksOf s) (marksOf t) ⌝ }
-{
-    if s.count != t.count {
-        return false;
-    }
-    let mut i = 0;
-    while i < s.count {
-        let p = Mark {
-            derive: s.derives[i],
-            tag: s.tags[i],
-        };
-        let q = Mark {
-            derive: t.derives[i],
-            tag: t.tags[i],
-        };
-        if !same_mark(p, q) {
-            return false;
-        }
-        i += 1;
-    }
-    true
 }

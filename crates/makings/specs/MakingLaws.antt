@@ -1,24 +1,22 @@
 -- All that is made for a type and a word.
-use mathlib.Core.Bool.{Bool, true, false}
+use mathlib.Core.Bool.{Bool, true, false, _||_}
 use mathlib.Core.List.{List, [], _∷_, _++_, map}
 use mathlib.Core.Path.{_≡_, refl, sym, ap, ap₂, _∙_, subst}
 use Prim.Native.Nat.{ℕ, zero, suc, _+_, _<_}
 use native.Mathlib.Omega.{arith}
 use lib.ListN.{length, getD, take}
-use Rattle.lists.specs.Lists.{keep, filter, each}
-use Rattle.lists.specs.Tests.{by}
-use Rattle.definitions.specs.Records.{Sheet, Item}
-use Rattle.definitions.specs.Records as records
+use Rattle.lists.specs.Lists.{keep, filter}
+use Rattle.definitions.specs.Records.{Resource, Sheet, Item}
 use Rattle.definitions.specs.Orders.{dotted}
-use Rattle.definitions.specs.Map.{Map, typeMapOf, declarationOf, mapOf}
-use Rattle.definitions.specs.Items.{owned, hasWord, associateWord, ownResource, ownClasses, domsAbove, parentsAbove, inheritedResource, itemsAt}
+use Rattle.definitions.specs.Map.{Map, typeMapOf, mapOf}
+use Rattle.definitions.specs.Items.{hasWord, associateWord, ownResource, ownClasses, domsAbove, parentsAbove, inheritedResource, itemsAt}
 use Rattle.line_laws.specs.Counts.{counts-are}
-use Rattle.types.specs.Types.{typeInfoOf}
-use Rattle.types.specs.declared.TypeInfo.{TypeInfo}
 use Rattle.types.specs.declared.Types.{Types}
 use Rattle.types.specs.declared.Extensions.{Extensions}
 use Rattle.rows.specs.declared.Row.{Row}
-use Rattle.rows.specs.Rows.{has, hasBit, single}
+use Rattle.fields.specs.Tabulate.{tabulate, tabulate-more}
+use Rattle.rows.specs.Rows.{has, hasBit, single, either, empty}
+use Rattle.rows.specs.RowLaws.{has-either, has-single}
 use Rattle.rows.specs.Lists.{below, map-map}
 use Rattle.annotations.specs.Reading.{domAt, domsOf}
 use Rattle.ordering.specs.Lists as ordering
@@ -26,8 +24,11 @@ use Rattle.ordering.specs.Reading.{typeAt}
 use Rattle.ordering.specs.declared.Parents.{Parents}
 use Rattle.ancestry.specs.Rows.{declarationAt}
 use Rattle.above.specs.Tables.{United, Passing, WithMaking}
-use Rattle.above.specs.Above.{Passes, parents-passing, inherited-are, doms-are, words-are}
-use Rattle.giving.specs.Giving.{WordsGiven}
+use Rattle.above.specs.Above.{Passes, passing-direct, parents-passing, inherited-are, doms-are, words-are}
+use Rattle.above.specs.Steps.{has-empty, making-is}
+use Rattle.giving.specs.GivingLaws.{more-words}
+use Rattle.own_classes.specs.OwnClasses.{ownedAt, ownedTo, OwnClassesOf}
+use Rattle.own_classes.specs.declared.OwnClasses.{OwnClasses}
 use Rattle.table.specs.declared.Table.{Table}
 use Rattle.synthetic.specs.Made.{Fits, created}
 use Rattle.lookups.specs.TableOf.{TableOf}
@@ -37,7 +38,7 @@ use Rattle.held_laws.specs.HeldLaws.{count-parents, type-in}
 use Rattle.held_laws.specs.Given.{above-bounded, made-bounded}
 use Rattle.made.specs.Made.{ownItems, itemsMade, MadeAt}
 use Rattle.made.specs.declared.Made.{Made}
-use Rattle.makings.specs.Makings.{ancestorsAt, OwnDoms, Held, WithInherited, Makes, WordsAbove, WordsFor}
+use Rattle.makings.specs.Makings.{ancestorsAt, OwnDoms, Held, RowOfWord, OwnWords, WithInherited, Makes, WordsAbove, WordsFor}
 use Rattle.makings.specs.Created.{own-is, inherited-firsts, inherited-is, some-parent}
 
 -- ---- lists
@@ -127,33 +128,50 @@ module _ (s : Sheet) (ts : Types) (es : Extensions) (p : Parents) (table : List 
 pub above-are : (table : List ℕ) (row count : ℕ) (r : Row) → United table 0 row count r → WordsAbove table row count r
 above-are table row count r u =
     record {
+      united = u;
       words = λ s ts es p t h e w.
           inherited-are p (typeMapOf s) (h .map .reads) table (h .gives) t row (h .over) r (subst (λ (n : ℕ). United table 0 row n r) (sym e) u) w;
     }
 
-pub words-are-made : (info : TypeInfo) (table : List ℕ) (row count : ℕ) (own r : Row) → WordsGiven info false own → WithMaking table own row count r
-    → WordsFor info table row count r
-words-are-made info table row count own r g u =
+pub own-words-none : (words : List ℕ) → OwnWords 0 words empty
+unfolding tabulate
+own-words-none words = record { bits = λ doms k. has-empty k }
+
+pub own-words-more : (n : ℕ) (words : List ℕ) (out one r : Row) → OwnWords n words out → RowOfWord (getD words n 0) one → r ≡ either out one → OwnWords (n + 1) words r
+own-words-more n words out one r o e f =
     record {
-      words = λ s ts es p t h e l q.
+      bits = λ doms k.
+          ap (λ (x : Row). has x k) (f ∙ ap (either out) (e .row))
+          ∙ has-either out (single (getD words n 0)) k
+          ∙ ap₂ (λ (a b : Bool). a || b) (o .bits doms k) (has-single (getD words n 0) k (e .small))
+          ∙ sym (ap (λ (us : List Resource). hasWord us k) (tabulate-more (ownedAt words doms) n) ∙ more-words (ownedTo words doms n) (ownedAt words doms n) k);
+    }
+
+pub words-are-made : (n : ℕ) (words : List ℕ) (above own r : Row) → OwnWords n words own → r ≡ either own above → WordsFor n words above r
+words-are-made n words above own r o f =
+    record {
+      made = λ table row count a s ts es p t h e l doms q.
           words-are p (typeMapOf s) (h .map .reads) table (h .gives) t row (h .over) own r
-          (λ w. g .bits w ∙ ap (λ (T : records.TypeInfo). hasWord (owned (declarationOf T)) w) q)
-          (subst (λ (n : ℕ). WithMaking table own row n r) (sym e) u)
+          (λ w. o .bits doms w ∙ ap (λ (us : List Resource). hasWord us w) q)
+          (subst (λ (k : ℕ). WithMaking table own row k r) (sym e) (making-is table own row count above r (a .united) f))
           (made-bounded s ts es p (h .map) t (omega (arith, count-parents s ts es p (h .map))));
     }
 
 -- ---- what is made
 
--- own makings of the type as it was read, and the inherited one
-pub makes-is : (info : TypeInfo) (p : Parents) (table passed : List ℕ) (row t word : ℕ) (inherited : Bool) (count : ℕ) (own : List ℕ) (x : Made) → t < p .count → word < 200
-    → OwnDoms (declarationOf (typeInfoOf info)) word count own → WithInherited count own p table passed row t word inherited x
-    → Makes info p table passed row t word inherited x
-makes-is info p table passed row t word inherited count own x l w o i =
+-- own makings of the type, and the inherited one
+pub makes-is : (n : ℕ) (words doms table passed : List ℕ) (row parents types word : ℕ) (inherited : Bool) (k : OwnClasses) (x : Made) → word < 200
+    → OwnClassesOf n words doms word k → WithInherited (k .count) (k .own) table passed row parents types word inherited x
+    → Makes n words doms table passed row parents types word inherited x
+makes-is n words doms table passed row parents types word inherited k x w o i =
     record {
-      made = λ s ts es h q e tb b.
-          let d : OwnDoms (declarationAt (typeMapOf s) t) word (x .count) (x .own) =
-          subst (λ (k : List ℕ). OwnDoms (declarationAt (typeMapOf s) t) word (x .count) k) (sym (i .owns))
-          (subst (λ (n : ℕ). OwnDoms (declarationAt (typeMapOf s) t) word n own) (sym (i .counted))
-          (subst (λ (T : records.TypeInfo). OwnDoms (declarationOf T) word count own) q o)) in
-          made-is s ts es p table row t word (h .held) l passed (h .passes) tb b w x d (i .asked ∙ e) (λ a. i .doms (sym (i .asked) ∙ a)) (λ a. i .parents (sym (i .asked) ∙ a));
+      made = λ s ts es p t h c l g q e tb b.
+          let D = declarationAt (typeMapOf s) t in
+          let d : OwnDoms D word (x .count) (x .own) =
+          subst (λ (y : List ℕ). OwnDoms D word (x .count) y) (sym (i .owns))
+          (subst (λ (m : ℕ). OwnDoms D word m (k .own)) (sym (i .counted))
+          (record { few = o .few; small = o .below; classes = o .classes D q })) in
+          made-is s ts es p table row t word (h .held) (omega (arith, c)) passed (h .passes) tb b w x d (i .asked ∙ e)
+          (λ a. subst (λ (m : ℕ). United table (word + 1) row m (x .doms)) (sym c) (i .doms (sym (i .asked) ∙ a)))
+          (λ a. passing-direct p (typeMapOf s) (h .held .map .reads) passed t word parents (x .parents) g (i .passing (sym (i .asked) ∙ a)));
     }

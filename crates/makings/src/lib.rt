@@ -1,17 +1,11 @@
 // What is made for each type and word: the own makings, and the inherited one.
 use made::Made;
-use ordering::Parents;
 use rows::Row;
-use types::TypeInfo;
-ghost use mathlib.Core.Path.{_≡_};
 ghost use Prim.Native.Nat.{_<_, _≤_, _+_, _*_};
 ghost use lib.ListN.{length};
-ghost use Rattle.line_laws.specs.Within.{TypeWithin};
-ghost use Rattle.types.specs.Types.{typeInfoOf};
-ghost use Rattle.own_associates.specs.Owning.{AllFit};
-ghost use Rattle.ordering.specs.Reading.{Valid};
-ghost use Rattle.ancestry.specs.Rows.{ParentsBelow};
-ghost use Rattle.makings.specs.Makings.{WordsAbove, WordsFor, WithInherited, Makes};
+ghost use Rattle.above.specs.Tables.{TypesBelow};
+ghost use Rattle.own_classes.specs.OwnClasses.{OwnSound};
+ghost use Rattle.makings.specs.Makings.{RowOfWord, OwnWords, WordsAbove, WordsFor, WithInherited, Makes};
 
 // The words that a proper ancestor gives: `row` has the ancestors.
 // 'each word r associated, nested or not, by a proper ancestor'
@@ -22,45 +16,66 @@ pub fn words_above(table: &[u64], row: u64, count: usize) -> Row
     above::united(table, 0, row, count)
 }
 
-// The words with a making: those of the own Associates, and those that a proper ancestor gives.
-// 'T and each r with a making have one extension line'
-pub fn words_of(info: TypeInfo, table: &[u64], row: u64, count: usize) -> Row
-    requires { ⌜ TypeWithin 200 (typeInfoOf info) ⌝ }
-    requires { ⌜ (count ≤ 64) × (804 * count ≤ length (now table)) × (length (now table) < 1000000) ⌝ }
-    ensures { λ r. ⌜ WordsFor info (now (table .entry)) row count r ⌝ }
+// The row of one word.
+fn row_of(w: u8) -> Row
+    ensures { λ r. ⌜ RowOfWord w r ⌝ }
 {
-    let own = giving::words_given(info, false);
-    above::words_made(table, own, row, count)
+    let k = w as usize;
+    rows::alone(k)
+}
+
+// The first n words as a row.
+fn own_words(n: usize, words: &[u8; 180]) -> Row
+    requires { ⌜ n ≤ 180 ⌝ }
+    ensures { λ r. ⌜ OwnWords n (now (words .entry)) r ⌝ }
+{
+    let mut out = rows::empty_row();
+    let mut i: usize = 0;
+    while i < n {
+        let one = row_of(words[i]);
+        out = rows::in_either(out, one);
+        i += 1;
+    }
+    out
+}
+
+// The words with a making: those of the own Associates, the first n, and those that a proper ancestor gives.
+// 'T and each r with a making have one extension line'
+pub fn words_of(n: usize, words: &[u8; 180], above: Row) -> Row
+    requires { ⌜ n ≤ 180 ⌝ }
+    ensures { λ r. ⌜ WordsFor n (now (words .entry)) above r ⌝ }
+{
+    let own = own_words(n, words);
+    rows::in_either(own, above)
 }
 
 // Own makings, and behind them the inherited one, if the word is inherited.
 fn with_inherited(
     count: usize,
     own: [u8; 12],
-    p: Parents,
     table: &[u64],
     passed: &[u64],
     row: u64,
-    t: usize,
+    parents: u64,
+    types: usize,
     word: usize,
     inherited: bool,
 ) -> Made
-    requires { ⌜ Valid p ⌝ }
-    requires { ⌜ (t < p .count) × ParentsBelow p t × (word < 200) ⌝ }
-    requires { ⌜ (804 * p .count ≤ length (now table)) × (length (now table) < 1000000) ⌝ }
-    requires { ⌜ (4 * p .count ≤ length (now passed)) × (length (now passed) < 1000000) ⌝ }
-    ensures { λ r. ⌜ WithInherited count own p (now (table .entry)) (now (passed .entry)) row t word inherited r ⌝ }
+    requires { ⌜ TypesBelow parents types ⌝ }
+    requires { ⌜ (types ≤ 64) × (word < 200) ⌝ }
+    requires { ⌜ (804 * types ≤ length (now table)) × (length (now table) < 1000000) ⌝ }
+    requires { ⌜ (4 * types ≤ length (now passed)) × (length (now passed) < 1000000) ⌝ }
+    ensures { λ r. ⌜ WithInherited count own (now (table .entry)) (now (passed .entry)) row parents types word inherited r ⌝ }
 {
     if inherited {
-        let n = p.count;
-        let doms = above::united(table, word + 1, row, n);
-        let parents = above::parents_passing(p, passed, t, word);
+        let doms = above::united(table, word + 1, row, types);
+        let passing = above::parents_passing(parents, passed, types, word);
         return Made {
             count: count,
             own: own,
             inherited: true,
             doms: doms,
-            parents: parents,
+            parents: passing,
         };
     }
     let none = rows::empty_row();
@@ -73,36 +88,37 @@ fn with_inherited(
     }
 }
 
-// What is made for the type at t and the word. `inherited` says whether a proper ancestor gives the word, and `row` has the ancestors.
-pub fn made_at(
-    info: TypeInfo,
-    p: Parents,
+// What is made for a type and the word. The first n words and doms are those of its own Associates, `row` has its ancestors and `parents` its direct
+// parents. `inherited` says whether a proper ancestor gives the word.
+pub fn made_at<'a>(
+    n: usize,
+    words: &'a [u8; 180],
+    doms: &'a [u8; 180],
     table: &[u64],
     passed: &[u64],
     row: u64,
-    t: usize,
+    parents: u64,
+    types: usize,
     word: usize,
     inherited: bool,
 ) -> Made
-    requires { ⌜ TypeWithin 200 (typeInfoOf info) ⌝ }
-    requires { ⌜ AllFit info ⌝ }
-    requires { ⌜ Valid p ⌝ }
-    requires { ⌜ (t < p .count) × ParentsBelow p t × (word < 200) ⌝ }
-    requires { ⌜ (804 * p .count ≤ length (now table)) × (length (now table) < 1000000) ⌝ }
-    requires { ⌜ (4 * p .count ≤ length (now passed)) × (length (now passed) < 1000000) ⌝ }
-    ensures { λ r. ⌜ Makes info p (now (table .entry)) (now (passed .entry)) row t word inherited r ⌝ }
+    requires { ⌜ OwnSound n (now words) (now doms) ⌝ }
+    requires { ⌜ TypesBelow parents types ⌝ }
+    requires { ⌜ (types ≤ 64) × (word < 200) ⌝ }
+    requires { ⌜ (804 * types ≤ length (now table)) × (length (now table) < 1000000) ⌝ }
+    requires { ⌜ (4 * types ≤ length (now passed)) × (length (now passed) < 1000000) ⌝ }
+    ensures { λ r. ⌜ Makes n (now (words .entry)) (now (doms .entry)) (now (table .entry)) (now (passed .entry)) row parents types word inherited r ⌝ }
 {
-    let w = word as u8;
-    let classes = own_classes::own_classes(info, w);
+    let classes = own_classes::own_classes(n, words, doms, word as u8);
     let own = classes.own;
     with_inherited(
         classes.count,
         own,
-        p,
         table,
         passed,
         row,
-        t,
+        parents,
+        types,
         word,
         inherited,
     )

@@ -1,29 +1,31 @@
 -- A type at the edges of the bounds: three Associates have the word 0, twice with the dom 199 and once without; a NestAssociate has it too, and gives no own class.
-use mathlib.Core.Bool.{false}
-use mathlib.Core.List.{List, [], _∷_, List·Memᴰ·not-nil}
+use mathlib.Core.Bool.{Bool, false}
+use mathlib.Core.List.{List, [], _∷_, map, List·Memᴰ·not-nil}
 use mathlib.Core.Logic.{inl, inr}
-use mathlib.Core.Path.{refl}
-use Prim.Native.Nat.{ℕ, zero, suc, _<_}
+use mathlib.Core.Path.{_≡_, refl, ap, _∙_}
+use Prim.Native.Nat.{ℕ, zero, suc, _≤_, _<_}
 use native.Mathlib.Omega.{arith}
-use lib.ListN.{replicate, getD}
-use Rattle.lists.specs.Lists.{In, insert, sort}
-use Rattle.lists.specs.Tests.{cons-elim}
+use lib.Dec.{eqb}
+use lib.ListN.{replicate, length, getD, take, drop, length-map}
+use Rattle.lists.specs.Lists.{In, filter, insert, sort}
+use Rattle.lists.specs.Tests.{by, cons-elim}
 use Rattle.definitions.specs.Records.{Resource}
 use Rattle.definitions.specs.Records as records
 use Rattle.definitions.specs.Orders.{nameBefore}
 use Rattle.definitions.specs.Map.{declarationOf}
-use Rattle.definitions.specs.Items.{owned, ownClasses}
+use Rattle.definitions.specs.Items.{owned, ofWord, ownClasses}
 use Rattle.line_laws.specs.Within.{WordsWithin, ResourceWithin, AnnotationWithin, TypeWithin}
-use Rattle.fields.specs.Tabulate.{tabulate, places}
+use Rattle.fields.specs.Tabulate.{tabulate, places, length-tabulate}
 use Rattle.fields.specs.Fields.{ofNames}
 use Rattle.records.specs.Annotations.{annotationAs, annotationOf, zeroAnnotation, ofAnnotations}
 use Rattle.records.specs.Marks.{ofMarks}
 use Rattle.records.specs.declared.Annotation.{Annotation}
 use Rattle.types.specs.Types.{typeInfoOf}
 use Rattle.types.specs.declared.TypeInfo.{TypeInfo}
+use Rattle.naming.specs.Naming.{numbers}
 use Rattle.own_associates.specs.Associates.{DomFits, AssociateRead}
 use Rattle.own_associates.specs.Owning.{IsOne, Fit, AllFit}
-use Rattle.own_classes.specs.OwnClasses.{OwnClassesOf}
+use Rattle.own_classes.specs.OwnClasses.{ownedTo, OwnedOf, classOf, classAt, OwnClassesOf}
 use Rattle.own_classes.specs.declared.OwnClasses.{OwnClasses}
 
 -- the words 0 and w, the first with the dom d
@@ -109,14 +111,66 @@ sample-within = record {
   mark = λ k i. absurd (List·Memᴰ·not-nil i);
 }
 
--- ---- its own classes of the word 0: none, then twice the dom 199
+-- ---- its own resources, and its own classes of the word 0: none, then twice the dom 199
+
+abbrev theWords : List ℕ
+theWords = 0 ∷ 199 ∷ 0 ∷ 2 ∷ 0 ∷ 3 ∷ replicate 174 0
+
+abbrev theDoms : List ℕ
+theDoms = 200 ∷ 0 ∷ 0 ∷ 0 ∷ 200 ∷ 0 ∷ replicate 174 0
+
+sample-resources : ownedTo theWords theDoms 6 ≡ owned (declarationOf (typeInfoOf sample))
+unfolding owned declarationOf typeInfoOf ofAnnotations places tabulate annotationOf annotationAs ofNames
+sample-resources = refl
+
+filter-most : {A : Type 0} (f : A → Bool) (l : List A) → length (filter f l) ≤ length l
+filter-most f [] = omega arith
+filter-most f (x ∷ l) = by (f x) (λ e. rw e (omega (arith, filter-most f l))) (λ e. rw e (omega (arith, filter-most f l)))
+
+drop-most : {A : Type 0} (l : List A) (i : ℕ) → length (drop i l) ≤ length l
+drop-most [] zero = omega arith
+drop-most [] (suc i) = omega arith
+drop-most (x ∷ l) zero = omega arith
+drop-most (x ∷ l) (suc i) = omega (arith, drop-most l i)
+
+pub sample-owned : OwnedOf (declarationOf (typeInfoOf sample)) 6 theWords theDoms
+sample-owned =
+    record {
+      sound = record {
+        most = omega arith;
+        small = small;
+        few = λ word i.
+            let f : ℕ → Bool = λ j. eqb (getD theWords j 0) word in
+            omega (
+              arith,
+              length-map (filter f (drop i (numbers 6))) (λ j. getD theDoms j 0),
+              filter-most f (drop i (numbers 6)),
+              drop-most (numbers 6) i,
+              length-tabulate (λ (j : ℕ). j) 6,
+            );
+      };
+      resources = sample-resources;
+    }
+  where
+    small : (i : ℕ) → i < 6 → getD theDoms i 0 < 201
+    small zero h = omega arith
+    small (suc zero) h = omega arith
+    small (suc (suc zero)) h = omega arith
+    small (suc (suc (suc zero))) h = omega arith
+    small (suc (suc (suc (suc zero)))) h = omega arith
+    small (suc (suc (suc (suc (suc zero))))) h = omega arith
+    small (suc (suc (suc (suc (suc (suc i)))))) h = absurd (omega arith)
 
 abbrev answer : OwnClasses
 answer = record { count = 3; own = 0 ∷ 200 ∷ 200 ∷ replicate 9 0 }
 
-pub sample-classes : OwnClassesOf sample 0 answer
-unfolding ownClasses owned declarationOf typeInfoOf ofAnnotations places tabulate annotationOf annotationAs ofNames sort insert nameBefore
-sample-classes = record { few = omega arith; below = small; classes = refl }
+the-classes : map (classAt 0) (take 3 (answer .own)) ≡ sort nameBefore (map (classOf 0) (ofWord 0 (ownedTo theWords theDoms 6)))
+unfolding tabulate sort insert nameBefore
+the-classes = refl
+
+pub sample-classes : OwnClassesOf 6 theWords theDoms 0 answer
+unfolding ownClasses
+sample-classes = record { few = omega arith; below = small; classes = λ D e. the-classes ∙ ap (λ (us : List Resource). sort nameBefore (map (classOf 0) (ofWord 0 us))) e }
   where
     small : (i : ℕ) → i < 3 → getD (answer .own) i 0 < 201
     small zero h = omega arith

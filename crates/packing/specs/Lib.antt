@@ -1,3 +1,4 @@
 pub mod Room
+pub mod Head
 pub mod Order
 pub mod PackingLaws

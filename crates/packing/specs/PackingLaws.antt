@@ -1,8 +1,8 @@
 -- Laws of the schedule's bits, as the code writes them.
 use mathlib.Core.Bool.{Bool, true, false}
 use mathlib.Core.List.{List, [], _∷_, _++_, append-assoc, append-nil, map-append}
-use mathlib.Core.Path.{_≡_, refl, ap, _∙_}
-use Prim.Native.Nat.{ℕ, zero, suc, _+_, _*_, _^_, _≤_, _<_}
+use mathlib.Core.Path.{_≡_, refl, sym, ap, _∙_}
+use Prim.Native.Nat.{ℕ, zero, suc, _+_, _*_, _/_, _^_, _≤_, _<_}
 use native.Mathlib.Decide.{decLt}
 use native.Mathlib.Omega.{arith}
 use borrow.Author.Tests.{eq-eqb, ne-eqb}
@@ -11,18 +11,18 @@ use lib.Seq
 use Rattle.lists.specs.Lists.{each}
 use Rattle.definitions.specs.Answer.{overwrite}
 use Rattle.definitions.specs.Bits.{toBits, odd, bit, size, pack}
+use Rattle.definitions.specs.Records.{Name, Mark, makelistMark, deriveMark, synthesized}
 use Rattle.definitions.specs.Packing.{countedBits, nameBits, parentBits, markBits, itemBits, orderBits}
-use Rattle.bits.specs.NumberLaws.{length-toBits, length-packTo}
+use Rattle.bits.specs.NumberLaws.{length-toBits, length-packTo, toBits-split, toBits-low}
 use Rattle.bits.specs.Writing.{Wrote}
 use Rattle.bits.specs.WriteLaws.{length-put, put-pack}
 use Rattle.fields.specs.Fields.{optional, twoWords, nameOf}
 use Rattle.fields.specs.Tabulate.{tabulate, tabulate-more, length-tabulate}
-use Rattle.making.specs.Making.{threeWords, parentAt, parentsOf, markAs, markAt, marksOf, itemOf, lineOf}
-use Rattle.making.specs.MakingLaws.{length-parentsOf, length-marksOf}
+use Rattle.making.specs.Making.{threeWords, parentAt, parentsOf, markAs, lineOf}
+use Rattle.making.specs.MakingLaws.{length-parentsOf}
 use Rattle.making.specs.declared.Parents.{Parents}
-use Rattle.making.specs.declared.Marks.{Marks}
-use Rattle.making.specs.declared.Making.{Making}
 use Rattle.making.specs.declared.Line.{Line}
+use Rattle.packing.specs.Head.{headBits}
 use Rattle.packing.specs.Order.{nameAt, nameIn, orderNames}
 use Rattle.packing.specs.Room.{Room}
 
@@ -39,6 +39,29 @@ wrote-flag v w = rw (flag-bits v) at w
 pub wrote-long : {a b : List ℕ} {p q : ℕ} {bs : List Bool} → Wrote a b p q bs → length b ≡ length a
 wrote-long {a} {b} {p} {q} {bs} w = ap length (w .holds) ∙ length-put a p bs
 
+-- ---- two fields as one
+
+-- a field of 8 bits and a flag that is 0
+pub unflagged : (a : ℕ) → toBits 9 (2 * a) ≡ toBits 8 a ++ toBits 1 0
+unflagged a =
+    let h : 2 * a / 2 ^ 1 ≡ a = omega arith in
+    let l : 2 * a ≡ a * 2 ^ 1 + 0 = omega arith in
+    toBits-split 8 1 (2 * a) ∙ ap (λ (x : ℕ). toBits 8 x ++ toBits 1 (2 * a)) h ∙ ap (λ b. toBits 8 a ++ b) (ap (toBits 1) l ∙ toBits-low 1 a 0 (omega arith))
+
+-- and one that is 1
+pub flagged : (a : ℕ) → toBits 9 (2 * a + 1) ≡ toBits 8 a ++ toBits 1 1
+flagged a =
+    let h : (2 * a + 1) / 2 ^ 1 ≡ a = omega arith in
+    let l : 2 * a + 1 ≡ a * 2 ^ 1 + 1 = omega arith in
+    toBits-split 8 1 (2 * a + 1) ∙ ap (λ (x : ℕ). toBits 8 x ++ toBits 1 (2 * a + 1)) h ∙ ap (λ b. toBits 8 a ++ b) (ap (toBits 1) l ∙ toBits-low 1 a 1 (omega arith))
+
+-- a field of 2 bits and one of 8
+pub counted-first : (k a : ℕ) → a < 256 → toBits 10 (256 * k + a) ≡ toBits 2 k ++ toBits 8 a
+counted-first k a b =
+    let h : (256 * k + a) / 2 ^ 8 ≡ k = omega arith in
+    let l : 256 * k + a ≡ k * 2 ^ 8 + a = omega arith in
+    toBits-split 2 8 (256 * k + a) ∙ ap (λ (x : ℕ). toBits 2 x ++ toBits 8 (256 * k + a)) h ∙ ap (λ b. toBits 2 k ++ b) (ap (toBits 8) l ∙ toBits-low 8 k a b)
+
 -- ---- names
 pub name-one : (a b : ℕ) → b ≡ 255 → nameBits (twoWords a b) ≡ toBits 8 a ++ toBits 1 0
 unfolding nameBits toBits odd
@@ -48,15 +71,18 @@ pub name-two : (a b : ℕ) → (b ≡ 255 → ⊥) → nameBits (twoWords a b) �
 unfolding nameBits toBits odd
 name-two a b e = rw (ne-eqb b 255 e)
 
+-- as they are written
+pub name-single : (a b : ℕ) → b ≡ 255 → nameBits (twoWords a b) ≡ toBits 9 (2 * a)
+name-single a b e = name-one a b e ∙ sym (unflagged a)
+
+pub name-double : (a b : ℕ) → (b ≡ 255 → ⊥) → nameBits (twoWords a b) ≡ toBits 9 (2 * a + 1) ++ toBits 8 b
+name-double a b e = name-two a b e ∙ sym (append-assoc (toBits 8 a) (toBits 1 1) (toBits 8 b)) ∙ ap (λ l. l ++ toBits 8 b) (sym (flagged a))
+
 pub name-one-long : (a b : ℕ) → b ≡ 255 → length (nameBits (twoWords a b)) ≡ 9
 name-one-long a b e = rw (name-one a b e) (simp (length-append, length-toBits))
 
 pub name-two-long : (a b : ℕ) → (b ≡ 255 → ⊥) → length (nameBits (twoWords a b)) ≡ 17
 name-two-long a b e = rw (name-two a b e) (simp (length-append, length-toBits))
-
-pub name-long : (a b : ℕ) → 8 ≤ length (nameBits (twoWords a b))
-unfolding nameBits
-name-long a b = rw (length-append, length-toBits) (omega arith)
 
 -- ---- a word or none
 pub none-bits : (w : ℕ) → w ≡ 255 → each (toBits 8) (optional w) ≡ []
@@ -140,6 +166,14 @@ parent-is a b c =
     let e : length (threeWords a b c) ≡ 1 + length (optional b) + length (optional c) = rw length-append (omega arith) in
     rw (e, each-append (toBits 8) (optional b) (optional c))
 
+-- as it is written
+pub parent-as : (a b c : ℕ) → a < 256 → parentBits (threeWords a b c)
+    ≡ toBits 10 (256 * (1 + length (optional b) + length (optional c)) + a) ++ (each (toBits 8) (optional b) ++ each (toBits 8) (optional c))
+parent-as a b c l =
+    let k = 1 + length (optional b) + length (optional c) in
+    let r = each (toBits 8) (optional b) ++ each (toBits 8) (optional c) in
+    parent-is a b c ∙ sym (append-assoc (toBits 2 k) (toBits 8 a) r) ∙ ap (λ x. x ++ r) (sym (counted-first k a l))
+
 pub parent-long : (a b c : ℕ) → length (parentBits (threeWords a b c))
     ≡ 10 + length (each (toBits 8) (optional b)) + length (each (toBits 8) (optional c))
 parent-long a b c = rw (parent-is a b c) (simp (length-append, length-toBits) (omega arith))
@@ -169,36 +203,45 @@ derive-long d t e = rw (derive-is d t e) (simp (length-append, length-toBits))
 pub makelist-long : (d t : ℕ) → (d ≡ 1 → ⊥) → length (markBits (markAs d t)) ≡ 1
 makelist-long d t e = rw (makelist-is d t e) (simp length-toBits)
 
-pub marks-all : (t : Marks) (i : ℕ) → i ≡ t .count → each markBits (tabulate (markAt t) i) ≡ each markBits (marksOf t)
-unfolding marksOf
-marks-all t i e = rw e
-
-pub marks-are : (t : Marks) → countedBits 9 markBits (marksOf t) ≡ toBits 9 (t .count) ++ each markBits (marksOf t)
-marks-are t = rw (length-marksOf t)
-
-pub marks-long : (t : Marks) → length (countedBits 9 markBits (marksOf t)) ≡ 9 + length (each markBits (marksOf t))
-marks-long t = rw (length-append, length-toBits)
-
 -- ---- lines: what follows each field
-abbrev pub behindVirtual : Making → List Bool
-behindVirtual m = countedBits 5 parentBits (parentsOf (m .parents)) ++ countedBits 9 markBits (marksOf (m .marks))
+abbrev pub behindWord : Bool → List Name → List Bool
+behindWord v ps = (v ∷ []) ++ countedBits 5 parentBits ps
 
-abbrev pub behindWord : Making → List Bool
-behindWord m = (m .«is_virtual» ∷ []) ++ behindVirtual m
+abbrev pub behindName : ℕ → Bool → List Name → List Bool
+behindName r v ps = toBits 8 r ++ behindWord v ps
 
-abbrev pub behindName : Making → List Bool
-behindName m = toBits 8 (m .word) ++ behindWord m
+abbrev pub behindLead : Name → ℕ → Bool → List Name → List Bool
+behindLead n r v ps = nameBits n ++ behindName r v ps
 
-abbrev pub behindLead : Making → List Bool
-behindLead m = nameBits (nameOf (m .name)) ++ behindName m
+pub head-is : (n : Name) (r : ℕ) (v : Bool) (ps : List Name) → headBits n r v ps ≡ toBits 1 0 ++ behindLead n r v ps
+unfolding headBits toBits odd
+head-is n r v ps = refl
 
-pub making-is : (m : Making) → itemBits (itemOf m) ≡ toBits 1 0 ++ behindLead m
-unfolding itemBits toBits odd
-making-is m = refl
+pub head-long : (n : Name) (r : ℕ) (v : Bool) (ps : List Name) →
+    length (headBits n r v ps) ≡ 10 + length (nameBits n) + length (countedBits 5 parentBits ps)
+head-long n r v ps = rw (head-is n r v ps) (simp (length-append, length-toBits) (omega arith))
 
-pub making-long : (m : Making) → length (itemBits (itemOf m))
-    ≡ 10 + length (nameBits (nameOf (m .name))) + length (countedBits 5 parentBits (parentsOf (m .parents))) + length (countedBits 9 markBits (marksOf (m .marks)))
-making-long m = rw (making-is m) (simp (length-append, length-toBits) (omega arith))
+-- the marks follow
+pub making-is : (n : Name) (r : ℕ) (v : Bool) (ps : List Name) (ms : List Mark) →
+    itemBits (synthesized n r v ps ms) ≡ headBits n r v ps ++ (toBits 9 (length ms) ++ each markBits ms)
+unfolding itemBits headBits
+making-is n r v ps ms =
+    rw (append-assoc (nameBits n) (toBits 8 r ++ (v ∷ countedBits 5 parentBits ps)) (countedBits 9 markBits ms), append-assoc (toBits 8 r) (v ∷ countedBits 5 parentBits ps) (countedBits 9 markBits ms))
+
+pub making-long : (n : Name) (r : ℕ) (v : Bool) (ps : List Name) (ms : List Mark) →
+    length (itemBits (synthesized n r v ps ms)) ≡ 19 + length (nameBits n) + length (countedBits 5 parentBits ps) + length (each markBits ms)
+making-long n r v ps ms =
+    omega (arith, head-long n r v ps, simp (length-append, length-toBits) at (ap length (making-is n r v ps ms)))
+
+-- a mark has at most 9 bits
+mark-most : (m : Mark) → length (markBits m) ≤ 9
+unfolding markBits
+mark-most makelistMark = omega arith
+mark-most (deriveMark t) = omega (arith, length-toBits 8 t)
+
+pub marks-most : (ms : List Mark) → length (each markBits ms) ≤ 9 * length ms
+marks-most [] = omega arith
+marks-most (m ∷ ms) = rw length-append (omega (arith, mark-most m, marks-most ms))
 
 abbrev pub lineBehindVirtual : Line → List Bool
 lineBehindVirtual l = (l .«is_trait» ∷ []) ++ toBits 8 (l .word)

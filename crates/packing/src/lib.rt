@@ -2,9 +2,7 @@
 use bits::Cursor;
 use fields::Name;
 use making::Line;
-use making::Making;
 use making::Mark;
-use making::Marks;
 use making::Parent;
 use making::Parents;
 ghost use mathlib.Core.List.{[], _∷_};
@@ -16,7 +14,8 @@ ghost use Rattle.definitions.specs.Bits.{toBits};
 ghost use Rattle.definitions.specs.Packing.{nameBits, parentBits, markBits, itemBits, orderBits, countedBits};
 ghost use Rattle.bits.specs.Writing.{Wrote};
 ghost use Rattle.fields.specs.Fields.{optional, nameOf};
-ghost use Rattle.making.specs.Making.{parentOf, parentsOf, markOf, marksOf, itemOf, lineOf, Bounded};
+ghost use Rattle.making.specs.Making.{parentOf, parentsOf, markOf, lineOf};
+ghost use Rattle.packing.specs.Head.{headBits};
 ghost use Rattle.packing.specs.Room.{Room};
 ghost use Rattle.packing.specs.Order.{nameAt, orderNames, Listing};
 
@@ -43,12 +42,12 @@ pub fn write_name(buf: &mut [u8], c: Cursor, n: Name) -> Cursor
     requires { ⌜ Room (now buf) (c .at) (length (nameBits (nameOf n))) ⌝ }
     ensures { λ r. ⌜ Wrote (now (buf .entry)) (now (buf .exit)) (c .at) (r .at) (nameBits (nameOf n)) ⌝ }
 {
-    let d = c.write(buf, 8, n.first as usize);
+    let first = 2 * n.first as usize;
     if n.second == 255 {
-        d.write(buf, 1, 0)
+        c.write(buf, 9, first)
     } else {
-        let e = d.write(buf, 1, 1);
-        e.write(buf, 8, n.second as usize)
+        let d = c.write(buf, 9, first + 1);
+        d.write(buf, 8, n.second as usize)
     }
 }
 
@@ -82,10 +81,10 @@ fn write_parent(buf: &mut [u8], c: Cursor, p: Parent) -> Cursor
     requires { ⌜ Room (now buf) (c .at) (length (parentBits (parentOf p))) ⌝ }
     ensures { λ r. ⌜ Wrote (now (buf .entry)) (now (buf .exit)) (c .at) (r .at) (parentBits (parentOf p)) ⌝ }
 {
-    let d = c.write(buf, 2, 1 + present(p.second) + present(p.third));
-    let e = d.write(buf, 8, p.first as usize);
-    let f = write_present(buf, e, p.second);
-    write_present(buf, f, p.third)
+    let words = 1 + present(p.second) + present(p.third);
+    let d = c.write(buf, 10, 256 * words + p.first as usize);
+    let e = write_present(buf, d, p.second);
+    write_present(buf, e, p.third)
 }
 
 // 01: 'parents 5'.
@@ -131,13 +130,13 @@ fn write_parents(buf: &mut [u8], c: Cursor, t: Parents) -> Cursor
 }
 
 // 01: 'A mark: 0 makelist, or 1 and a tag 8 for derive.'
-fn mark_bits(m: Mark) -> usize
+pub fn mark_bits(m: Mark) -> usize
     ensures { λ r. ⌜ (r ≡ length (markBits (markOf m))) × (r ≤ 9) ⌝ }
 {
     if m.derive == 1 { 9 } else { 1 }
 }
 
-fn write_mark(buf: &mut [u8], c: Cursor, m: Mark) -> Cursor
+pub fn write_mark(buf: &mut [u8], c: Cursor, m: Mark) -> Cursor
     requires { ⌜ Room (now buf) (c .at) (length (markBits (markOf m))) ⌝ }
     ensures { λ r. ⌜ Wrote (now (buf .entry)) (now (buf .exit)) (c .at) (r .at) (markBits (markOf m)) ⌝ }
 {
@@ -149,76 +148,31 @@ fn write_mark(buf: &mut [u8], c: Cursor, m: Mark) -> Cursor
     }
 }
 
-// 01: 'marks 9'.
-fn marks_bits(t: Marks) -> usize
-    requires { ⌜ t .count ≤ 448 ⌝ }
-    ensures { λ r. ⌜ (r ≡ length (countedBits 9 markBits (marksOf t))) × (r ≤ 4041) ⌝ }
+// 01: 'Bit 0, a synthesized resource: type name, resource word, virtual 1, parents 5', all that stands before its marks.
+pub fn head_bits(name: Name, parents: Parents) -> usize
+    requires { ⌜ parents .count ≤ 17 ⌝ }
+    ensures { λ r. ⌜ (r ≡ 10 + length (nameBits (nameOf name)) + length (countedBits 5 parentBits (parentsOf parents))) × (r ≤ 474) ⌝ }
 {
-    let mut total: usize = 9;
-    let mut i = 0;
-    while i < t.count {
-        let m = Mark {
-            derive: t.derives[i],
-            tag: t.tags[i],
-        };
-        total += mark_bits(m);
-        i += 1;
-    }
-    total
+    10 + name_bits(name) + parents_bits(parents)
 }
 
-fn write_each_mark(buf: &mut [u8], c: Cursor, t: Marks) -> Cursor
-    requires { ⌜ t .count ≤ 448 ⌝ }
-    requires { ⌜ Room (now buf) (c .at) (length (each markBits (marksOf t))) ⌝ }
-    ensures { λ r. ⌜ Wrote (now (buf .entry)) (now (buf .exit)) (c .at) (r .at) (each markBits (marksOf t)) ⌝ }
+pub fn write_head(
+    buf: &mut [u8],
+    c: Cursor,
+    name: Name,
+    word: u8,
+    is_virtual: bool,
+    parents: Parents,
+) -> Cursor
+    requires { ⌜ parents .count ≤ 17 ⌝ }
+    requires { ⌜ Room (now buf) (c .at) (length (headBits (nameOf name) word «is_virtual» (parentsOf parents))) ⌝ }
+    ensures { λ r. ⌜ Wrote (now (buf .entry)) (now (buf .exit)) (c .at) (r .at) (headBits (nameOf name) word «is_virtual» (parentsOf parents)) ⌝ }
 {
-    let mut at = c;
-    let mut i = 0;
-    while i < t.count {
-        let m = Mark {
-            derive: t.derives[i],
-            tag: t.tags[i],
-        };
-        at = write_mark(buf, at, m);
-        i += 1;
-    }
-    at
-}
-
-fn write_marks(buf: &mut [u8], c: Cursor, t: Marks) -> Cursor
-    requires { ⌜ t .count ≤ 448 ⌝ }
-    requires { ⌜ Room (now buf) (c .at) (length (countedBits 9 markBits (marksOf t))) ⌝ }
-    ensures { λ r. ⌜ Wrote (now (buf .entry)) (now (buf .exit)) (c .at) (r .at) (countedBits 9 markBits (marksOf t)) ⌝ }
-{
-    let d = c.write(buf, 9, t.count);
-    write_each_mark(buf, d, t)
-}
-
-// 01: 'Bit 0, a synthesized resource: type name, resource word, virtual 1, parents 5, marks 9'.
-pub fn making_bits(m: Making) -> usize
-    requires { ⌜ Bounded m ⌝ }
-    ensures { λ r. ⌜ (r ≡ length (itemBits (itemOf m))) × (r ≤ 4515) ⌝ }
-{
-    let name = m.name;
-    let parents = m.parents;
-    let marks = m.marks;
-    10 + name_bits(name) + parents_bits(parents) + marks_bits(marks)
-}
-
-pub fn write_making(buf: &mut [u8], c: Cursor, m: Making) -> Cursor
-    requires { ⌜ Bounded m ⌝ }
-    requires { ⌜ Room (now buf) (c .at) (length (itemBits (itemOf m))) ⌝ }
-    ensures { λ r. ⌜ Wrote (now (buf .entry)) (now (buf .exit)) (c .at) (r .at) (itemBits (itemOf m)) ⌝ }
-{
-    let name = m.name;
-    let parents = m.parents;
-    let marks = m.marks;
     let c1 = c.write(buf, 1, 0);
     let c2 = write_name(buf, c1, name);
-    let c3 = c2.write(buf, 8, m.word as usize);
-    let c4 = write_flag(buf, c3, m.is_virtual);
-    let c5 = write_parents(buf, c4, parents);
-    write_marks(buf, c5, marks)
+    let c3 = c2.write(buf, 8, word as usize);
+    let c4 = write_flag(buf, c3, is_virtual);
+    write_parents(buf, c4, parents)
 }
 
 // 01: 'Bit 1, an extension line: type name, virtual 1, trait 1, resource word.'

@@ -1,6 +1,7 @@
 // Sets of numbers below 256 as rows of bits: 'a dom set a row of bits'. A set of words is held so too.
 ghost use mathlib.Core.Path.{_≡_};
-ghost use Prim.Native.Nat.{_<_};
+ghost use Prim.Native.Nat.{_<_, _≤_};
+ghost use Rattle.rows.specs.Next.{Next, NextBit};
 ghost use Rattle.rows.specs.Rows.{common, without, either, none, limb, has, single, empty};
 
 // Number k is bit k % 64 of the part k / 64.
@@ -131,4 +132,38 @@ pub fn alone(w: usize) -> Row
         c: 0,
         d: bit,
     }
+}
+
+// The first number from `from` on that stands in a row of 64; 64 where none does.
+pub fn next_type(types: u64, from: usize) -> usize
+    requires { ⌜ from ≤ 64 ⌝ }
+    ensures { λ k. ⌜ NextBit types from k ⌝ }
+{
+    if from == 64 {
+        return 64;
+    }
+    let zeros = u64::trailing_zeros(types >> from) as usize;
+    let k = from + zeros;
+    if k > 64 {
+        return 64;
+    }
+    k
+}
+
+// The first number from `from` on that stands in the row; 256 where none does.
+pub fn next(r: Row, from: usize) -> usize
+    requires { ⌜ from ≤ 256 ⌝ }
+    ensures { λ k. ⌜ Next r from k ⌝ }
+{
+    let mut i = from / 64;
+    let mut j = from % 64;
+    while i < 4 {
+        let k = next_type(quarter(r, i), j);
+        if k < 64 {
+            return i * 64 + k;
+        }
+        i += 1;
+        j = 0;
+    }
+    256
 }

@@ -1,3 +1,4 @@
 pub mod Scenes
 pub mod ItemLaws
 pub mod WordLaws
+pub mod Sites

@@ -1,92 +1,69 @@
-use Prim.Native.Nat.{ℕ, _≤_, _<_, _-_, _+_, _*_}
 use native.Mathlib.Omega.{arith}
-use borrow.Author.Needs.{needs}
-use lib.ListN.{getD}
-use Rattle.ancestry.specs.Gathering.{parent-below}
-use Rattle.above.specs.Steps.{PassingTo, passing-none, passing-more, passing-all}
+use Rattle.above.specs.Steps.{passing-none, passing-more, passing-skip, passing-all}
+use Prim.Native.Nat.{_+_}
+use Prim.Native.Nat.{_≤_, _-_}
+use Rattle.rows.specs.Rows.{hasBit}
+use Rattle.above.specs.Steps.{PassingTo}
+use Rattle.above.specs.Walks.{Walk}
 use Rattle.above.proofs.parents_passing.Statement.{statement}
 use Rattle.above.proofs.parents_passing.Tie as tie
-use Rattle.above.proofs.parents_passing.Reads as reads
-use Rattle.above.proofs.parents_passing.Lts as lts
-use Rattle.above.proofs.row_at.Reads as row-at-reads
-use Rattle.above.proofs.with_type.Reads as with-type-reads
-use Rattle.rows.proofs.holds.Reads as holds-reads
 
 abbrev Inv-loop : tie.InvT-loop
-Inv-loop passed t r p count base out₀ i₀ out i = (i ≤ count) × PassingTo p passed t r i out
+Inv-loop parents passed count r out₀ a₀ out a = Walk (hasBit parents) 64 (λ n. (n ≤ count) × PassingTo parents passed r n out) a
 
 abbrev μ-loop : tie.MeasureT-loop
-μ-loop passed t r p count base out₀ i₀ out i = count - i
+μ-loop parents passed count r out₀ a₀ out a = 64 - a
 
-element-copy-out-count : tie.Need-element-copy-out-count Inv-loop μ-loop
-element-copy-out-count c = search needs
-
-cast-count : tie.Need-cast-count Inv-loop μ-loop
-cast-count c = search needs
-
-mul-base : tie.Need-mul-base Inv-loop μ-loop
-mul-base c = search needs
+next-type-requires : tie.Need-next-type-requires Inv-loop μ-loop
+next-type-requires c κs = omega arith
 
 loop-holds : tie.Need-loop-holds Inv-loop μ-loop
-loop-holds c = (omega arith, passing-none _ _ _ _)
-
-add-at : tie.Need-add-at Inv-loop μ-loop
-add-at c =
-    let s = c .before .before .before .before in
-    omega (arith, s .pre .0 .types, s .pre .0 .parents _ (s .pre .1 .0))
-
-element-copy-out-place : tie.Need-element-copy-out-place Inv-loop μ-loop
-element-copy-out-place c =
-    let s = c .before .before .before .before in
-    omega (arith, s .pre .0 .types, s .pre .0 .parents _ (s .pre .1 .0))
-
--- the parent at i is declared
-place-below : (c : tie.After-place Inv-loop μ-loop) →
-    let a = c .before .before .before .before .before .args in
-    getD (a .t1 .places) (8 * a .t + c .before .before .loop .i) 0 < a .t1 .count
-place-below c =
-    let s = c .before .before .before .before .before in
-    parent-below (s .args .t1) (s .args .t) (s .pre .1 .1) (c .before .before .loop .i) (c .before .loop-test .taken)
-
-cast-place : tie.Need-cast-place Inv-loop μ-loop
-cast-place c = omega (arith, place-below c, c .before .before .before .before .before .pre .0 .types)
+loop-holds c = record { from = 0; next = c .next-type .ensures; done = (omega arith, passing-none _ _ _) }
 
 mul-row-at : tie.Need-mul-row-at Inv-loop μ-loop
-mul-row-at c = omega (arith, place-below c, c .before .before .before .before .before .pre .0 .types)
+mul-row-at c = omega arith
 
 row-at-requires : tie.Need-row-at-requires Inv-loop μ-loop
-row-at-requires c κs =
-    let s = c .before .before .before .before .before in
-    (omega (arith, place-below c, s .pre .1 .3), s .pre .1 .4)
+row-at-requires c κs = (omega arith, omega arith)
 
 holds-requires : tie.Need-holds-requires Inv-loop μ-loop
-holds-requires c κs = c .before .before .before .before .before .before .pre .1 .2
+holds-requires c κs = c .before .before .before .before .before .pre .1 .1
 
 with-type-requires : tie.Need-with-type-requires Inv-loop μ-loop
-with-type-requires c κs = omega (arith, place-below (c .before .before), c .before .before .before .before .before .before .before .pre .0 .types)
+with-type-requires c κs = omega arith
 
-add-i : tie.Need-add-i Inv-loop μ-loop
-add-i c =
-    let s = c .before .before .before .before .before .before .before .before in
-    omega (arith, s .pre .0 .types, s .pre .0 .parents _ (s .pre .1 .0))
+add-next-type : tie.Need-add-next-type Inv-loop μ-loop
+add-next-type c = omega arith
+
+next-type-requires-2 : tie.Need-next-type-requires-2 Inv-loop μ-loop
+next-type-requires-2 c κs = omega arith
 
 loop-less : tie.Need-loop-less Inv-loop μ-loop
-loop-less c = omega arith
+loop-less c = omega (arith, c .next-type2 .ensures .least)
 
 loop-again : tie.Need-loop-again Inv-loop μ-loop
 loop-again c =
     let a = c .before .before .before .before .before .before .before .before .args in
-    let l = c .before .before .before .before .before .loop in (
-      omega arith,
-      passing-more (a .t1) (a .passed .now) (a .t) (a .r) (l .i) (l .out) (c .before .before .row-at .result) (c .before .holds .result) (c .with-type .result) (l .inv .1)
-          (c .before .before .row-at .ensures) (c .before .holds .ensures) (c .with-type .ensures),
-    )
+    let l = c .before .before .before .before .before .loop in
+    let w = l .inv in
+    record {
+      from = l .a + 1;
+      next = c .next-type2 .ensures;
+      done = (
+        omega arith,
+        passing-more (a .parents) (a .passed .now) (a .r) (l .a) (l .out) (c .before .before .before .row-at .result) (c .before .before .holds .result) (c .before .with-type .result)
+            (passing-skip (a .parents) (a .passed .now) (a .r) (w .from) (l .a) (l .out) (w .next .least) (w .next .none) (w .done .1)) (w .next .some (omega arith))
+            (c .before .before .before .row-at .ensures) (c .before .before .holds .ensures) (c .before .with-type .ensures),
+      );
+    }
 
 returns : tie.Need-returns Inv-loop μ-loop
 returns c =
-    let a = c .before .before .before .before .args in
+    let s = c .before .before .before .before in
     let l = c .before .loop in
-    passing-all (a .t1) (a .passed .now) (a .t) (a .r) (l .i) (l .out) (omega arith) (l .inv .1)
+    let w = l .inv in
+    passing-all (s .args .parents) (s .args .passed .now) (s .args .r) (s .args .count) (l .out) (s .pre .0)
+    (passing-skip (s .args .parents) (s .args .passed .now) (s .args .r) (w .from) (s .args .count) (l .out) (w .done .0) (λ i p q. w .next .none i p (omega arith)) (w .done .1))
 
 pub parents-passing-spec : {M : Type 1} → statement M
 parents-passing-spec =
@@ -94,18 +71,14 @@ parents-passing-spec =
     (tie.spec
     Inv-loop
     μ-loop
-    element-copy-out-count
-    cast-count
-    mul-base
+    next-type-requires
     loop-holds
-    add-at
-    element-copy-out-place
-    cast-place
     mul-row-at
     row-at-requires
     holds-requires
     with-type-requires
-    add-i
+    add-next-type
+    next-type-requires-2
     loop-less
     loop-again
     returns)

@@ -3,8 +3,6 @@ use Rattle.above.specs.Tables.{rowAt}
 use borrow.Author.Needs.{needs}
 use Rattle.above.proofs.row_at.Statement.{statement}
 use Rattle.above.proofs.row_at.Tie as tie
-use Rattle.above.proofs.row_at.Reads as reads
-use Rattle.above.proofs.row_at.Lts as lts
 
 mul-a : tie.Need-mul-a
 mul-a c = search needs

@@ -1,32 +1,35 @@
-use Prim.Native.Nat.{ℕ, _≤_, _-_}
-use mathlib.Core.Path.{_≡_, sym, subst}
-use Rattle.rows.specs.declared.Row.{Row}
+use mathlib.Core.Path.{sym, subst}
 use native.Mathlib.Omega.{arith}
-use borrow.Author.Needs.{needs}
+use Prim.Native.Nat.{_+_}
+use Rattle.rows.specs.declared.Row.{Row}
+use Rattle.above.specs.Steps.{united-none, united-more, united-skip}
+use Prim.Native.Nat.{_≤_, _-_}
+use Rattle.rows.specs.Rows.{hasBit}
 use Rattle.above.specs.Tables.{United}
-use Rattle.above.specs.Steps.{united-none, united-more}
+use Rattle.above.specs.Walks.{Walk}
 use Rattle.above.proofs.united.Statement.{statement}
 use Rattle.above.proofs.united.Tie as tie
-use Rattle.above.proofs.united.Reads as reads
-use Rattle.above.proofs.united.Lts as lts
-use Rattle.above.proofs.joined_if.Reads as joined-if-reads
-use Rattle.above.proofs.row_at.Reads as row-at-reads
-use Rattle.above.proofs.stands.Reads as stands-reads
-use Rattle.rows.proofs.empty_row.Reads as empty-row-reads
 
 abbrev Inv-loop : tie.InvT-loop
-Inv-loop table slot types count out₀ a₀ out a = (a ≤ count) × United table slot types a out
+Inv-loop table slot types count out₀ a₀ out a = Walk (hasBit types) 64 (λ n. (n ≤ count) × United table slot types n out) a
 
 abbrev μ-loop : tie.MeasureT-loop
-μ-loop table slot types count out₀ a₀ out a = count - a
+μ-loop table slot types count out₀ a₀ out a = 64 - a
 
 empty-row-requires : tie.Need-empty-row-requires Inv-loop μ-loop
 empty-row-requires c κs = tt
 
+next-type-requires : tie.Need-next-type-requires Inv-loop μ-loop
+next-type-requires c κs = omega arith
+
 loop-holds : tie.Need-loop-holds Inv-loop μ-loop
 loop-holds c =
-    let a = c .before .before .args in
-    (omega arith, subst (λ (r : Row). United (a .table .now) (a .slot) (a .types) 0 r) (sym (c .empty-row .ensures)) (united-none (a .table .now) (a .slot) (a .types)))
+    let a = c .before .before .before .args in
+    record {
+      from = 0;
+      next = c .next-type .ensures;
+      done = (omega arith, subst (λ (r : Row). United (a .table .now) (a .slot) (a .types) 0 r) (sym (c .before .empty-row .ensures)) (united-none (a .table .now) (a .slot) (a .types)));
+    }
 
 mul-row-at : tie.Need-mul-row-at Inv-loop μ-loop
 mul-row-at c = omega arith
@@ -40,32 +43,40 @@ add-row-at c = omega arith
 row-at-requires : tie.Need-row-at-requires Inv-loop μ-loop
 row-at-requires c κs = (omega arith, omega arith)
 
-stands-requires : tie.Need-stands-requires Inv-loop μ-loop
-stands-requires c κs = omega arith
+in-either-requires : tie.Need-in-either-requires Inv-loop μ-loop
+in-either-requires c κs = tt
 
-joined-if-requires : tie.Need-joined-if-requires Inv-loop μ-loop
-joined-if-requires c κs = tt
+add-next-type : tie.Need-add-next-type Inv-loop μ-loop
+add-next-type c = omega arith
 
-add-a : tie.Need-add-a Inv-loop μ-loop
-add-a c = omega arith
+next-type-requires-2 : tie.Need-next-type-requires-2 Inv-loop μ-loop
+next-type-requires-2 c κs = omega arith
 
 loop-less : tie.Need-loop-less Inv-loop μ-loop
-loop-less c = omega arith
+loop-less c = omega (arith, c .next-type2 .ensures .least)
 
 loop-again : tie.Need-loop-again Inv-loop μ-loop
 loop-again c =
-    let a = c .before .before .before .before .before .before .before .args in
-    let l = c .before .before .before .before .loop in (
-      omega arith,
-      united-more (a .table .now) (a .slot) (a .types) (l .a) (l .out) (c .before .before .row-at .result) (c .before .stands .result) (c .joined-if .result) (l .inv .1)
-          (c .before .before .row-at .ensures) (c .before .stands .ensures) (c .joined-if .ensures),
-    )
+    let a = c .before .before .before .before .before .before .before .before .args in
+    let l = c .before .before .before .before .loop in
+    let w = l .inv in
+    record {
+      from = l .a + 1;
+      next = c .next-type2 .ensures;
+      done = (
+        omega arith,
+        united-more (a .table .now) (a .slot) (a .types) (l .a) (l .out) (c .before .before .row-at .result) (c .before .in-either .result)
+            (united-skip (a .table .now) (a .slot) (a .types) (w .from) (l .a) (l .out) (w .next .least) (w .next .none) (w .done .1)) (w .next .some (omega arith))
+            (c .before .before .row-at .ensures) (c .before .in-either .ensures),
+      );
+    }
 
 returns : tie.Need-returns Inv-loop μ-loop
 returns c =
-    let a = c .before .before .before .before .args in
-    let e : c .before .loop .a ≡ a .count = omega arith in
-    subst (λ (n : ℕ). United (a .table .now) (a .slot) (a .types) n (c .before .loop .out)) e (c .before .loop .inv .1)
+    let a = c .before .before .before .before .before .args in
+    let l = c .before .loop in
+    let w = l .inv in
+    united-skip (a .table .now) (a .slot) (a .types) (w .from) (a .count) (l .out) (w .done .0) (λ i p q. w .next .none i p (omega arith)) (w .done .1)
 
 pub united-spec : {M : Type 1} → statement M
 united-spec =
@@ -74,14 +85,15 @@ united-spec =
     Inv-loop
     μ-loop
     empty-row-requires
+    next-type-requires
     loop-holds
     mul-row-at
     mul-row-at-2
     add-row-at
     row-at-requires
-    stands-requires
-    joined-if-requires
-    add-a
+    in-either-requires
+    add-next-type
+    next-type-requires-2
     loop-less
     loop-again
     returns)

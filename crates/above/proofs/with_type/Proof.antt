@@ -1,12 +1,10 @@
 use mathlib.Core.Bool.{Bool}
-use mathlib.Core.Path.{_≡_, sym, subst}
+use mathlib.Core.Path.{sym, subst}
 use Rattle.above.specs.Tables.{WithType}
 use Rattle.above.specs.Steps.{with-yes, with-no}
 use borrow.Author.Needs.{needs}
 use Rattle.above.proofs.with_type.Statement.{statement}
 use Rattle.above.proofs.with_type.Tie as tie
-use Rattle.above.proofs.with_type.Reads as reads
-use Rattle.above.proofs.with_type.Lts as lts
 
 shl-bit : tie.Need-shl-bit
 shl-bit c = search needs

@@ -2,11 +2,6 @@ use Rattle.above.specs.Steps.{passed-is}
 use borrow.Author.Needs.{needs}
 use Rattle.above.proofs.words_passed.Statement.{statement}
 use Rattle.above.proofs.words_passed.Tie as tie
-use Rattle.above.proofs.words_passed.Reads as reads
-use Rattle.above.proofs.words_passed.Lts as lts
-use Rattle.above.proofs.row_at.Reads as row-at-reads
-use Rattle.above.proofs.united.Reads as united-reads
-use Rattle.rows.proofs.in_either.Reads as in-either-reads
 
 mul-row-at : tie.Need-mul-row-at
 mul-row-at c = search needs

@@ -5,10 +5,6 @@ use lib.ListN.{length}
 use Rattle.associations.specs.AssociationLaws.{PassedTo, passed-start, passed-step, passed-end}
 use Rattle.associations.proofs.fill_passed.Statement.{statement}
 use Rattle.associations.proofs.fill_passed.Tie as tie
-use Rattle.associations.proofs.fill_passed.Reads as reads
-use Rattle.associations.proofs.fill_passed.Lts as lts
-use Rattle.above.proofs.words_passed.Reads as words-passed-reads
-use Rattle.associations.proofs.put_row.Reads as put-row-reads
 
 abbrev Inv-loop : tie.InvT-loop
 Inv-loop passed₀ table count rows t₀ passed t = (t ≤ count) × PassedTo table rows count t passed₀ passed

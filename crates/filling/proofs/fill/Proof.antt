@@ -1,56 +1,86 @@
+use mathlib.Core.Bool.{true}
 use mathlib.Core.List.{List}
-use mathlib.Core.Path.{_≡_, subst}
-use Prim.Native.Nat.{ℕ, _+_, _*_}
-use Rattle.filling.specs.Filling.{FillsDoms}
-use Rattle.filling.specs.FillingLaws.{fills-all}
-use borrow.Author.Needs.{needs}
+use Prim.Native.Nat.{ℕ, _*_, _≤_, _-_}
+use native.Mathlib.Omega.{arith}
+use Rattle.lists.specs.Lists.{each}
+use Rattle.fields.specs.Tabulate.{tabulate, tabulate-more}
+use Rattle.records.specs.Annotations.{annotationOf}
+use Rattle.records.specs.declared.Annotation.{Annotation}
+use Rattle.giving.specs.Giving.{resourcesIf}
+use Rattle.giving.specs.GivingLaws.{itemAt, firstOnes, at-most, item-within, each-more}
+use Rattle.filling.specs.Filling.{Adds}
+use Rattle.filling.specs.FillingLaws.{adds-none, adds-more, fills-all}
 use Rattle.filling.proofs.fill.Statement.{statement}
 use Rattle.filling.proofs.fill.Tie as tie
-use Rattle.filling.proofs.fill.Reads as reads
-use Rattle.filling.proofs.fill.Lts as lts
-use Rattle.filling.proofs.fill_doms.Reads as fill-doms-reads
-use Rattle.filling.proofs.put_row.Reads as put-row-reads
-use Rattle.giving.proofs.words_given.Reads as words-given-reads
 
-words-given-requires : tie.Need-words-given-requires
-words-given-requires c κs = search needs
+none : (s : List ℕ) (at : ℕ) (l : List Annotation) → Adds s at (each (resourcesIf true) (firstOnes l 0)) s
+unfolding tabulate
+none s at l = adds-none s at
 
-mul-put-row : tie.Need-mul-put-row
-mul-put-row c = search needs
+abbrev Inv-loop : tie.InvT-loop
+Inv-loop s₀ a count items at i₀ s i = (i ≤ count) × Adds s₀ at (each (resourcesIf true) (firstOnes items i)) s
 
-put-row-requires : tie.Need-put-row-requires
-put-row-requires c κs = search needs
+abbrev μ-loop : tie.MeasureT-loop
+μ-loop s₀ a count items at i₀ s i = count - i
 
-mul-fill-doms : tie.Need-mul-fill-doms
-mul-fill-doms c = search needs
+mul-at : tie.Need-mul-at Inv-loop μ-loop
+mul-at c = omega (arith, c .before .before .before .pre .1 .1)
 
-add-fill-doms : tie.Need-add-fill-doms
-add-fill-doms c = search needs
+loop-holds : tie.Need-loop-holds Inv-loop μ-loop
+loop-holds c = (omega arith, none (c .before .before .before .args .s .now) (804 * c .before .before .before .args .a) (c .before .before .before .args .t .annotations .items))
 
-fill-doms-requires : tie.Need-fill-doms-requires
-fill-doms-requires c κs = search needs
+mul-x : tie.Need-mul-x Inv-loop μ-loop
+mul-x c = let s = c .before .before .before .before .before in omega (arith, at-most (s .args .t) (s .pre .0))
 
-same-length : tie.Need-same-length
-same-length c = search needs
+array-copy-out-x : tie.Need-array-copy-out-x Inv-loop μ-loop
+array-copy-out-x c = let s = c .before .before .before .before .before in omega (arith, at-most (s .args .t) (s .pre .0))
 
-returns : tie.Need-returns
+put-annotation-requires : tie.Need-put-annotation-requires Inv-loop μ-loop
+put-annotation-requires c κs =
+    let s = c .before .before .before .before .before .before .before in
+    let i = c .before .before .before .loop in
+    let l = i .inv .1 .long in
+    (item-within (s .args .t) (s .pre .0) (i .i) (omega arith), (omega (arith, s .pre .1 .1 .0, l), omega (arith, s .pre .1 .1 .1, l)))
+
+add-i : tie.Need-add-i Inv-loop μ-loop
+add-i c = let s = c .before .before .before .before .before .before .before .before .before .before in omega (arith, at-most (s .args .t) (s .pre .0))
+
+loop-less : tie.Need-loop-less Inv-loop μ-loop
+loop-less c = omega arith
+
+loop-again : tie.Need-loop-again Inv-loop μ-loop
+loop-again c =
+    let a = c .before .before .before .before .before .before .before .before .before .before .args in
+    let i = c .before .before .before .before .before .before .loop in
+    let l = a .t .annotations .items in
+    let p = c .before .before .put-annotation in (
+      omega arith,
+      rw (tabulate-more (λ (j : ℕ). annotationOf (itemAt l j)) (i .i), each-more (resourcesIf true) (firstOnes l (i .i)) (annotationOf (itemAt l (i .i))))
+          (adds-more (a .s .now) (i .s) (p .last .0) (804 * a .a) (each (resourcesIf true) (firstOnes l (i .i))) (resourcesIf true (annotationOf (itemAt l (i .i)))) (i .inv .1) (p .ensures)),
+    )
+
+same-length : tie.Need-same-length Inv-loop μ-loop
+same-length c = c .before .loop .inv .1 .long
+
+returns : tie.Need-returns Inv-loop μ-loop
 returns c =
-    let s = c .before .before .before .before .before .before .before .before .before .before in
-    let g = c .before .before .before .before .before .before .before .before .words-given in
-    let p = c .before .before .before .before .before .before .put-row in
-    let f = c .before .before .fill-doms in
-    fills-all (s .args .s .now) (s .args .a) (s .args .t) (g .result) (f .last .0) (s .pre .1 .0) (g .ensures)
-    (subst (λ (x : List ℕ). FillsDoms x (804 * s .args .a + 4) (s .args .t) 200 (f .last .0)) (p .ensures) (f .ensures))
+    let s = c .before .before .before .before .before in
+    let i = c .before .loop in
+    fills-all (s .args .s .now) (s .args .a) (s .args .t) (i .i) (i .s) (omega arith) (s .pre .1 .0) (i .inv .1)
 
 pub fill-spec : {M : Type 1} → statement M
 fill-spec =
     tie.close
     (tie.spec
-    words-given-requires
-    mul-put-row
-    put-row-requires
-    mul-fill-doms
-    add-fill-doms
-    fill-doms-requires
+    Inv-loop
+    μ-loop
+    mul-at
+    loop-holds
+    mul-x
+    array-copy-out-x
+    put-annotation-requires
+    add-i
+    loop-less
+    loop-again
     same-length
     returns)

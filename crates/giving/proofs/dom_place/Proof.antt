@@ -4,8 +4,6 @@ use mathlib.Core.Path.{refl}
 use borrow.Author.Needs.{needs}
 use Rattle.giving.proofs.dom_place.Statement.{statement}
 use Rattle.giving.proofs.dom_place.Tie as tie
-use Rattle.giving.proofs.dom_place.Reads as reads
-use Rattle.giving.proofs.dom_place.Lts as lts
 
 returns : tie.Need-returns
 returns c = place-none (c .before .args .d) (c .if1 .taken)

@@ -2,9 +2,6 @@ use Rattle.makings.specs.MakingLaws.{above-are}
 use borrow.Author.Needs.{needs}
 use Rattle.makings.proofs.words_above.Statement.{statement}
 use Rattle.makings.proofs.words_above.Tie as tie
-use Rattle.makings.proofs.words_above.Reads as reads
-use Rattle.makings.proofs.words_above.Lts as lts
-use Rattle.above.proofs.united.Reads as united-reads
 
 united-requires : tie.Need-united-requires
 united-requires c κs = search needs

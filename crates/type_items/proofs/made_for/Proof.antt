@@ -1,5 +1,5 @@
-use mathlib.Core.Path.{subst}
 use mathlib.Core.Bool.{Bool}
+use mathlib.Core.Path.{subst}
 use Rattle.makings.specs.Makings.{Makes}
 use borrow.Author.Needs.{needs}
 use Rattle.type_items.proofs.made_for.Statement.{statement}
@@ -12,13 +12,14 @@ made-at-requires : tie.Need-made-at-requires
 made-at-requires c κs =
     let q = c .before .before .before .before .pre in
     let r = q .0 in
-    (r .within, (r .fit, (r .valid, ((r .place, r .parents, q .1), ((r .tableLong, r .tableSmall), (r .passedLong, r .passedSmall))))))
+    (r .own, (r .parents, ((r .types, q .1), ((r .tableLong, r .tableSmall), (r .passedLong, r .passedSmall)))))
 
 returns : tie.Need-returns
 returns c =
     let a = c .before .before .before .before .before .args in
-    subst (λ (h : Bool). Makes (a .info) (a .p) (a .table .now) (a .passed .now) (a .site .row) (a .site .place) (a .w) h (c .made-at .result)) (c .before .holds .ensures)
-    (c .made-at .ensures)
+    subst
+    (λ (h : Bool). Makes (a .n) (a .words .now) (a .doms .now) (a .table .now) (a .passed .now) (a .site .row) (a .site .parents) (a .site .count) (a .w) h (c .made-at .result))
+    (c .before .holds .ensures) (c .made-at .ensures)
 
 pub made-for-spec : {M : Type 1} → statement M
 made-for-spec = tie.close (tie.spec holds-requires made-at-requires returns)

@@ -1,76 +1,81 @@
-use mathlib.Core.Path.{refl, sym, _∙_}
-use mathlib.Core.Logic.{⊎-elim}
-use Prim.Native.Nat.{_*_, _-_, _≤_}
+use Prim.Native.Nat.{_+_, _*_, _-_, _≤_}
 use native.Mathlib.Omega.{arith}
-use Rattle.type_items.specs.WordLaws.{Counting, counting-start, counting-more, counting-skip, counting-end}
-use borrow.Author.Needs.{needs}
+use Rattle.rows.specs.Rows.{has}
+use Rattle.above.specs.Walks.{Walk}
+use Rattle.facts.specs.Facts.{tableIn}
+use Rattle.type_items.specs.WordLaws.{Counting, counting-start, counting-more, counting-next, counting-end}
 use Rattle.type_items.proofs.type_bits.Statement.{statement}
 use Rattle.type_items.proofs.type_bits.Tie as tie
 
 abbrev Inv-loop : tie.InvT-loop
-Inv-loop info p t table passed site words items₀ bits₀ w₀ items bits w = (w ≤ 200) × (items ≤ 14 * w) × (bits ≤ 14 * w * 4515) × Counting info p t table passed site w (record { items = items; bits = bits })
+Inv-loop n words doms f table passed site made items₀ bits₀ w₀ items bits w =
+    Walk (has (site .words)) 256
+    (λ v.
+    (v ≤ 200) × (items ≤ 14 * v) × (bits ≤ 14 * v * 4515) × Counting n words doms (tableIn f) table passed site v (record { items = items; bits = bits }))
+    w
 
 abbrev μ-loop : tie.MeasureT-loop
-μ-loop info p t table passed site words items₀ bits₀ w₀ items bits w = 200 - w
+μ-loop n words doms f table passed site made items₀ bits₀ w₀ items bits w = 256 - w
+
+next-requires : tie.Need-next-requires Inv-loop μ-loop
+next-requires c κs = omega arith
 
 loop-holds : tie.Need-loop-holds Inv-loop μ-loop
 loop-holds c =
-    let a = c .before .before .before .args in
-    (omega arith, omega arith, omega arith, counting-start (a .info) (a .p) (a .t) (a .table .now) (a .passed .now) (a .site))
-
-holds-requires : tie.Need-holds-requires Inv-loop μ-loop
-holds-requires c κs = search needs
+    let a = c .before .before .before .before .args in
+    record { from = 0; next = c .next .ensures; done = (omega arith, omega arith, omega arith, counting-start (a .n) (a .words .now) (a .doms .now) (tableIn (a .f .now)) (a .table .now) (a .passed .now) (a .site)) }
 
 word-bits-requires : tie.Need-word-bits-requires Inv-loop μ-loop
-word-bits-requires c κs = (c .before .before .before .before .before .before .before .pre, omega arith)
+word-bits-requires c κs = (c .before .before .before .before .before .before .pre, omega arith)
 
 add-items : tie.Need-add-items Inv-loop μ-loop
 add-items c =
-    let g = c .before .before .before .before .before .before .before .before .before .pre in
-    let l = c .before .before .before .before .before .loop in
-    omega (arith, l .inv .0, l .inv .1, c .before .word-bits .ensures .counts (g .sheet) (g .types) (g .extensions) (g .scene) .few)
+    let g = c .before .before .before .before .before .before .before .before .pre in
+    let l = c .before .before .before .loop .inv in
+    omega (arith, l .done .1, l .next .least, c .before .word-bits .ensures .counts (g .sheet) (g .types) (g .extensions) (g .parents) (g .scene) .few)
 
 add-bits : tie.Need-add-bits Inv-loop μ-loop
 add-bits c =
-    let g = c .before .before .before .before .before .before .before .before .before .before .pre in
-    let l = c .before .before .before .before .before .before .loop in
-    omega (arith, l .inv .0, l .inv .2, c .before .before .word-bits .ensures .counts (g .sheet) (g .types) (g .extensions) (g .scene) .small)
+    let g = c .before .before .before .before .before .before .before .before .before .pre in
+    let l = c .before .before .before .before .loop .inv in
+    omega (arith, l .done .2, l .next .least, c .before .before .word-bits .ensures .counts (g .sheet) (g .types) (g .extensions) (g .parents) (g .scene) .small)
 
-add-w : tie.Need-add-w Inv-loop μ-loop
-add-w c = search needs
+add-next : tie.Need-add-next Inv-loop μ-loop
+add-next c = omega arith
+
+next-requires-2 : tie.Need-next-requires-2 Inv-loop μ-loop
+next-requires-2 c κs = omega arith
 
 loop-less : tie.Need-loop-less Inv-loop μ-loop
-loop-less c = search needs
+loop-less c = omega (arith, c .next2 .ensures .least)
 
 loop-again : tie.Need-loop-again Inv-loop μ-loop
 loop-again c =
-    let b = c .before .before .before .before .before .before .before in
+    let b = c .before .before .before .before .before .before .before .before .before .before in
     let a = b .args in
     let g = b .pre in
-    let l = c .before .before .before .loop in
-    ⊎-elim
-    (λ w.
-    let n = w .1 in
-    let d = n .ensures .counts (g .sheet) (g .types) (g .extensions) (g .scene) in
-    rw (w .4, w .5) (
-      omega arith,
-      omega (arith, l .inv .1, d .few),
-      omega (arith, l .inv .2, d .small),
-      counting-more (a .info) (a .p) (a .t) (a .table .now) (a .passed .now) (a .site) (l .w) (record { items = l .items; bits = l .bits }) (n .result) (l .inv .3) (n .ensures),
-    ))
-    (λ w.
-    rw (w .1, w .2) (
-      omega arith,
-      omega (arith, l .inv .1),
-      omega (arith, l .inv .2),
-      counting-skip (a .info) (a .p) (a .t) (a .table .now) (a .passed .now) (a .site) (l .w) (record { items = l .items; bits = l .bits }) (l .inv .3) (sym (c .before .holds .ensures) ∙ w .0 .left),
-    ))
-    (c .if1 .came)
+    let l = c .before .before .before .before .before .loop in
+    let k = c .before .before .before .word-bits in
+    let d = k .ensures .counts (g .sheet) (g .types) (g .extensions) (g .parents) (g .scene) in
+    let z = l .inv in
+    let h = c .before .before .before .before .loop-test .taken in
+    record {
+      from = l .w + 1;
+      next = c .next2 .ensures;
+      done = (
+        omega (arith, h),
+        omega (arith, z .done .1, z .next .least, d .few),
+        omega (arith, z .done .2, z .next .least, d .small),
+        counting-more (a .n) (a .words .now) (a .doms .now) (tableIn (a .f .now)) (a .table .now) (a .passed .now) (a .site) (l .w) (record { items = l .items; bits = l .bits }) (k .result) (z .next .some (omega (arith, h)))
+            (counting-next (a .n) (a .words .now) (a .doms .now) (tableIn (a .f .now)) (a .table .now) (a .passed .now) (a .site) (z .from) (l .w) (record { items = l .items; bits = l .bits }) (z .next) (z .done .3)) (k .ensures),
+      );
+    }
 
 returns : tie.Need-returns Inv-loop μ-loop
 returns c =
-    let a = c .before .before .before .before .before .args in
-    counting-end (a .info) (a .p) (a .t) (a .table .now) (a .passed .now) (a .site) (c .before .loop .w) _ (omega arith) (c .before .loop .inv .3)
+    let a = c .before .before .before .before .before .before .args in
+    let z = c .before .loop .inv in
+    counting-end (a .n) (a .words .now) (a .doms .now) (tableIn (a .f .now)) (a .table .now) (a .passed .now) (a .site) (z .from) (c .before .loop .w) _ (z .next) (z .done .0) (omega arith) (z .done .3)
 
 pub type-bits-spec : {M : Type 1} → statement M
 type-bits-spec =
@@ -78,12 +83,13 @@ type-bits-spec =
     (tie.spec
     Inv-loop
     μ-loop
+    next-requires
     loop-holds
-    holds-requires
     word-bits-requires
     add-items
     add-bits
-    add-w
+    add-next
+    next-requires-2
     loop-less
     loop-again
     returns)

@@ -1,66 +1,87 @@
-use borrow.Author.Needs.{needs}
-use Prim.Native.Nat.{_+_, _≤_}
+use mathlib.Core.List.{List}
+use mathlib.Core.Path.{sym, ap, _∙_}
+use Prim.Native.Nat.{ℕ, _+_, _*_, _-_, _/_, _%_}
 use native.Mathlib.Omega.{arith}
-use mathlib.Core.Path.{_≡_, refl, sym, _∙_}
-use lib.ListN.{length}
+use denote.Ref.{now}
 use Rattle.definitions.specs.Bits.{toBits}
 use Rattle.bits.specs.Writing.{put}
 use Rattle.bits.specs.NumberLaws.{length-toBits}
-use Rattle.bits.specs.WriteLaws.{put-part, put-none}
+use Rattle.bits.specs.WriteLaws.{put-none, put-on}
+use borrow.Author.Needs.{needs}
 use Rattle.bits.proofs.Cursor.write.Statement.{statement}
 use Rattle.bits.proofs.Cursor.write.Tie as tie
+use Rattle.bits.proofs.Cursor.write.Reads as reads
+use Rattle.bits.proofs.Cursor.write.Lts as lts
+use Rattle.bits.proofs.put_chunk.Reads as put-chunk-reads
+use Rattle.bits.proofs.put_rest.Reads as put-rest-reads
 
-abbrev Inv-loop : tie.InvT-loop
-Inv-loop buf₀ n v at₀ k₀ buf at k =
-    (put buf at (toBits k v) ≡ put buf₀ at₀ (toBits n v)) × (at + k ≡ at₀ + n) × (length buf ≡ length buf₀) × (k ≤ n)
+-- src/lib.rt:95:20
+sub-room : tie.Need-sub-room
+sub-room c = search needs
 
-abbrev μ-loop : tie.MeasureT-loop
-μ-loop buf₀ n v at₀ k₀ buf at k = k
-
-loop-holds : tie.Need-loop-holds Inv-loop μ-loop
-loop-holds c = (refl, refl, refl, omega arith)
-
-sub-lesser : tie.Need-sub-lesser Inv-loop μ-loop
-sub-lesser c = omega arith
-
-lesser-requires : tie.Need-lesser-requires Inv-loop μ-loop
-lesser-requires c κs = search needs
-
-sub-k : tie.Need-sub-k Inv-loop μ-loop
-sub-k c = omega arith
-
-shr-put-chunk : tie.Need-shr-put-chunk Inv-loop μ-loop
-shr-put-chunk c = omega arith
-
-put-chunk-requires : tie.Need-put-chunk-requires Inv-loop μ-loop
-put-chunk-requires c κs = omega arith
-
-add-at : tie.Need-add-at Inv-loop μ-loop
-add-at c = omega arith
-
-loop-less : tie.Need-loop-less Inv-loop μ-loop
-loop-less c = omega arith
-
-loop-again : tie.Need-loop-again Inv-loop μ-loop
-loop-again c =
-    let l = c .before .before .before .before .before .before .loop in
-    let a = c .before .before .before .before .before .before .before .before .args in (
-      rw (c .before .before .put-chunk .ensures)
-          (sym (put-part (l .buf) (l .at) (l .k) (c .before .before .before .before .lesser .result) (a .v) (omega arith)) ∙ l .inv .0),
-      omega arith,
-      omega arith,
-      omega arith,
-    )
-
-same-length : tie.Need-same-length Inv-loop μ-loop
-same-length c = omega arith
-
-returns : tie.Need-returns Inv-loop μ-loop
+-- src/lib.rt:97:13
+returns : tie.Need-returns
 returns c =
-    let l = c .before .loop in
-    let a = c .before .before .before .args in
+    let a = c .before .before .args in
+    record { holds = sym (put-none _ (a .self .at) (a .n) (a .v) (omega arith)); next = omega (arith, length-toBits (a .n) (a .v)) }
+
+-- src/lib.rt:100:13
+put-chunk-requires : tie.Need-put-chunk-requires
+put-chunk-requires c κs = search needs
+
+-- src/lib.rt:101:33
+add-t13 : tie.Need-add-t13
+add-t13 c = search needs
+
+-- src/lib.rt:101:13
+same-length : tie.Need-same-length
+same-length c = search needs
+
+-- src/lib.rt:101:13
+returns-2 : tie.Need-returns-2
+returns-2 c =
+    let a = c .before .before .before .before .before .before .before .args in
+    record { holds = c .before .before .put-chunk .ensures; next = omega (arith, length-toBits (a .n) (a .v)) }
+
+-- src/lib.rt:103:17
+sub-k : tie.Need-sub-k
+sub-k c = search needs
+
+-- src/lib.rt:104:34
+shr-put-chunk : tie.Need-shr-put-chunk
+shr-put-chunk c = search needs
+
+-- src/lib.rt:104:9
+put-chunk-requires-2 : tie.Need-put-chunk-requires-2
+put-chunk-requires-2 c κs = search needs
+
+-- src/lib.rt:105:23
+add-put-rest : tie.Need-add-put-rest
+add-put-rest c = search needs
+
+-- src/lib.rt:105:9
+put-rest-requires : tie.Need-put-rest-requires
+put-rest-requires c κs = search needs
+
+-- src/lib.rt:106:22
+add-t8 : tie.Need-add-t8
+add-t8 c = search needs
+
+-- src/lib.rt:90:5
+same-length-2 : tie.Need-same-length-2
+same-length-2 c = search needs
+
+-- src/lib.rt:90:5
+returns-3 : tie.Need-returns-3
+returns-3 c =
+    let a = c .before .before .before .before .before .before .before .before .before .before .before .args in
+    let p = a .self .at in
+    let m = 8 - p % 8 in
     record {
-      holds = sym (put-none (l .buf) (l .at) (l .k) (a .v) (omega arith)) ∙ l .inv .0;
+      holds =
+          c .before .before .put-rest .ensures
+          ∙ ap (λ (b : List ℕ). put b (8 * (p / 8 + 1)) (toBits (a .n - m) (a .v))) (c .before .before .before .before .before .before .put-chunk2 .ensures)
+          ∙ put-on (now (a .buf)) p (a .n) m (p / 8 + 1) (a .v) (omega arith) (omega arith);
       next = omega (arith, length-toBits (a .n) (a .v));
     }
 
@@ -68,16 +89,17 @@ pub write-spec : {M : Type 1} → statement M
 write-spec =
     tie.close
     (tie.spec
-    Inv-loop
-    μ-loop
-    loop-holds
-    sub-lesser
-    lesser-requires
+    sub-room
+    returns
+    put-chunk-requires
+    add-t13
+    same-length
+    returns-2
     sub-k
     shr-put-chunk
-    put-chunk-requires
-    add-at
-    loop-less
-    loop-again
-    same-length
-    returns)
+    put-chunk-requires-2
+    add-put-rest
+    put-rest-requires
+    add-t8
+    same-length-2
+    returns-3)

@@ -1,0 +1,6 @@
+pub mod Plain
+pub mod Refusals
+pub mod Testing
+pub mod TestLaws
+pub mod TypeLaws
+pub mod HeldMaps
