@@ -1,5 +1,5 @@
 -- The bits of the schedule, part by part.
-use mathlib.Core.Bool.{Bool, true, false}
+use mathlib.Core.Bool.{Bool, true, false, _||_}
 use mathlib.Core.List.{List, _++_}
 use mathlib.Core.Path.{_≡_, refl, sym, ap, _∙_, subst}
 use Prim.Native.Nat.{ℕ, zero, suc, _+_, _*_, _/_, _<_, _≤_}
@@ -7,6 +7,7 @@ use native.Mathlib.Omega.{arith}
 use borrow.Author.Tests.{lt-ltb, le-ltb}
 use lib.ListN.{length, getD, length-append, replicate, length-replicate}
 use Rattle.lists.specs.Lists.{each}
+use Rattle.lists.specs.Tests.{never}
 use Rattle.definitions.specs.Records.{Name, Sheet}
 use Rattle.definitions.specs.Bits.{toBits, size}
 use Rattle.definitions.specs.Map.{typeMapOf}
@@ -25,17 +26,18 @@ use Rattle.ancestry.specs.Rows.{Ancestors}
 use Rattle.above.specs.Above as over
 use Rattle.associations.specs.Associations.{TypesHeld, FillsTable, FillsPassed}
 use Rattle.held_laws.specs.HeldLaws.{count-parents, count-most}
-use Rattle.held_laws.specs.Limits.{held-extensions, type-within}
+use Rattle.held_laws.specs.Limits.{held-extensions, type-within, type-fits}
 use Rattle.classes.specs.Classes.{Noted}
 use Rattle.plain.specs.HeldMaps.{noted-held}
-use Rattle.laying.specs.Laying.{Unmarked}
+use Rattle.plain.specs.Testing.{PlainTypes}
+use Rattle.laying.specs.Laying.{Unmarked, OwnRoom, OwnTo}
 use Rattle.table.specs.declared.Table.{Table}
 use Rattle.lookups.specs.Listable.{Tabled}
 use Rattle.packing.specs.Order.{orderNames, Listing}
 use Rattle.packing.specs.PackingLaws.{wrote-overwrite}
 use Rattle.packing.specs.Room.{Room}
 use Rattle.listing.specs.declared.Tried.{Tried}
-use Rattle.listing.specs.Grounds.{allItems, allBits, Ground, TriesAll}
+use Rattle.listing.specs.Grounds.{allItems, allBits, Ground, Accepts, ListsIf}
 use Rattle.listing.specs.Schedules.{TriesSchedule}
 use Rattle.listing.specs.NameLaws.{names-are}
 
@@ -78,38 +80,54 @@ room-all entry bs n e h l = record { fits = omega (arith, e, h); small = omega a
 -- ---- the tables
 
 pub ground-of : (s : Sheet) (ts : Types) (es : Extensions) (p : Parents) → HeldMap s ts es p → (resource : ℕ) → resource ≡ typeMapOf s .resource
-    → (t : Table) → Tabled ts es resource t → (a table b passed rows : List ℕ) → FillsTable ts a table → FillsPassed table rows (p .count) b passed → Ancestors p rows
-    → Ground s ts es p t table passed rows
-ground-of s ts es p h resource e t d a table b passed rows f g k =
+    → (t : Table) → Tabled ts es resource t → (own own′ a table b passed rows : List ℕ) → OwnTo ts (ts .count) own own′ → FillsTable ts a table → FillsPassed table rows (p .count) b passed → Ancestors p rows
+    → Ground s ts es p t own′ table passed rows
+ground-of s ts es p h resource e t d own own′ a table b passed rows w f g k =
     let u : over.Table (typeMapOf s) (p .count) table =
     subst (λ (n : ℕ). over.Table (typeMapOf s) n table) (sym (count-parents s ts es p h)) (f .table (typeMapOf s) (h .types)) in
     record {
       held = h;
       lookups = d .of (typeMapOf s) (h .types) (held-extensions s ts es p h) e;
+      owns = w .owns;
       gives = u;
       passes = g .passes p (typeMapOf s) (h .reads) refl k u;
       above = k;
     }
 
+pub accepts-of : (known quick : Bool) (ts : Types) (classes table rows : List ℕ) (r : Bool) → r ≡ (known || quick) → PlainTypes ts classes table rows quick → Accepts known ts classes table rows r
+accepts-of true quick ts classes table rows r e p = record { trusts = λ k. e; tests = λ k. never refl k }
+accepts-of false quick ts classes table rows r e p = record { trusts = λ k. never k refl; tests = λ k y. p .accepted (sym e ∙ y) }
+
 -- what is tried over the tables is tried for the map
-pub tries-schedule : (known : Bool) (ts : Types) (es : Extensions) (resource : ℕ) (p : Parents) (o : Order) → Organized p o → (t : Table) (classes table passed rows entry exit : List ℕ) (r : Tried)
-    → ((s : Sheet) → HeldMap s ts es p → resource ≡ typeMapOf s .resource → Ground s ts es p t table passed rows) → Noted (ofTypes ts) classes
-    → TriesAll known ts p o t classes table passed rows entry exit r → TriesSchedule known ts es resource p entry exit r
-tries-schedule known ts es resource p o g t classes table passed rows entry exit r on n q =
+pub tries-schedule : (known : Bool) (ts : Types) (es : Extensions) (resource : ℕ) (p : Parents) (o : Order) → Organized p o → (t : Table) (own classes table passed rows entry exit : List ℕ) (accepted : Bool) (r : Tried)
+    → ((s : Sheet) → HeldMap s ts es p → resource ≡ typeMapOf s .resource → Ground s ts es p t own table passed rows) → Noted (ofTypes ts) classes
+    → Accepts known ts classes table rows accepted → ListsIf accepted own p o t table passed rows entry exit r → TriesSchedule known ts es resource p entry exit r
+tries-schedule known ts es resource p o g t own classes table passed rows entry exit accepted r on n a q =
     record {
       lists = λ d. record {
         lists = λ s h e.
-            subst (λ (bs : List Bool). Listing entry exit bs (r .listed)) (schedule-is s ts es p h o g) (q .lists d .lists s es (on s h e));
+            subst (λ (bs : List Bool). Listing entry exit bs (r .listed)) (schedule-is s ts es p h o g) (q .lists (sym (q .decided) ∙ d) .lists s ts es (on s h e));
       };
-      tests = λ k d s h e. q .tests k d s es (on s h e) (noted-held s ts es p classes h n);
-      untouched = q .untouched;
-      trusts = q .trusts;
+      tests = λ k d s h e.
+          let u = on s h e in
+          a .tests k (sym (q .decided) ∙ d) s es p (record { held = h; names = noted-held s ts es p classes h n; gives = u .gives; above = u .above });
+      untouched = λ d. q .untouched (sym (q .decided) ∙ d);
+      trusts = λ k. q .decided ∙ a .trusts k;
     }
 
 pub types-held : (s : Sheet) (ts : Types) (es : Extensions) (p : Parents) → HeldMap s ts es p → TypesHeld ts
 types-held s ts es p h = record { count = count-most s ts es p h; type = type-within s ts es p h }
 
+pub own-room : (s : Sheet) (ts : Types) (es : Extensions) (p : Parents) → HeldMap s ts es p → (own : List ℕ) → 361 * p .count ≤ length own → length own < 1000000 → OwnRoom ts own
+own-room s ts es p h own l n = record { fits = type-fits s ts es p h; long = omega (arith, count-parents s ts es p h); small = n }
+
 -- ---- room for the tables
+
+pub own-long : (k n : ℕ) → n ≤ k → 361 * n ≤ length {A = ℕ} (replicate (361 * k) 0)
+own-long k n h = subst (λ (i : ℕ). 361 * n ≤ i) (sym (length-replicate {A = ℕ} (361 * k) 0)) (omega arith)
+
+pub own-small : (k : ℕ) → k ≤ 64 → length {A = ℕ} (replicate (361 * k) 0) < 1000000
+own-small k h = subst (λ (i : ℕ). i < 1000000) (sym (length-replicate {A = ℕ} (361 * k) 0)) (omega arith)
 
 pub table-long : (k n : ℕ) → n ≤ k → 804 * n ≤ length {A = ℕ} (replicate (804 * k) 0)
 table-long k n h = subst (λ (i : ℕ). 804 * n ≤ i) (sym (length-replicate {A = ℕ} (804 * k) 0)) (omega arith)

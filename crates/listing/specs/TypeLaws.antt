@@ -15,20 +15,17 @@ use Rattle.definitions.specs.Packing.{itemBits}
 use Rattle.bits.specs.Writing.{Wrote}
 use Rattle.bits.specs.WriteLaws.{wrote-none, wrote-then}
 use Rattle.fields.specs.Tabulate.{tabulate}
-use Rattle.types.specs.Types.{typeInfoOf}
 use Rattle.types.specs.declared.Types.{Types}
 use Rattle.types.specs.declared.Extensions.{Extensions}
 use Rattle.ordering.specs.Reading.{noType, valid}
 use Rattle.ordering.specs.declared.Parents.{Parents}
 use Rattle.ancestry.specs.Rows.{RowOf}
-use Rattle.associations.specs.Associations.{itemAt}
 use Rattle.held_laws.specs.HeldLaws.{count-parents, type-at, parents-below}
-use Rattle.held_laws.specs.Limits.{type-fits}
 use Rattle.above.specs.Tables.{ListedRoom}
 use Rattle.above.specs.Steps.{listed-room}
-use Rattle.own_associates.specs.Owning.{AllFit}
 use Rattle.own_classes.specs.OwnClasses.{OwnedOf}
 use Rattle.own_classes.specs.declared.Owned.{Owned}
+use Rattle.own_table.specs.OwnTable.{TakesOwn}
 use Rattle.table.specs.declared.Table.{Table}
 use Rattle.synthetic.specs.MadeLaws.{each-append, each-each}
 use Rattle.makings.specs.Makings.{Held}
@@ -69,84 +66,88 @@ types-all s n e =
 
 -- ---- the type at a place
 
-module _ (ts : Types) (p : Parents) (t : Table) (table passed rows : List ℕ) where
+module _ (own : List ℕ) (p : Parents) (t : Table) (table passed rows : List ℕ) where
   -- every sheet whose tables these are
-  abbrev On : Sheet → Extensions → Type 0
-  On s es = Ground s ts es p t table passed rows
+  abbrev On : Sheet → Types → Extensions → Type 0
+  On s ts es = Ground s ts es p t own table passed rows
 
   -- the own resources of the type at a
   abbrev Owns : ℕ → Owned → Type 0
-  Owns a w = OwnedOf (declarationOf (typeInfoOf (itemAt ts a))) (w .count) (w .words) (w .doms)
+  Owns a w = TakesOwn own a w
 
   -- its site
   abbrev At : ℕ → Owned → Site → Type 0
   At a w x = SiteOf (w .count) (w .words) (p .counts) (p .places) table (getD rows a 0) (p .count) a x
 
-  pub scene-at : {s : Sheet} {es : Extensions} → On s es → (a : ℕ) → a < p .count → (w : Owned) → Owns a w → (x : Site) → At a w x
+  pub scene-at : {s : Sheet} {ts : Types} {es : Extensions} → On s ts es → (a : ℕ) → a < p .count → (w : Owned) → Owns a w → (x : Site) → At a w x
       → Scene s ts es p (w .count) (w .words) (w .doms) t table passed x
-  scene-at {s} {es} o a h w g x e =
+  scene-at {s} {ts} {es} o a h w g x e =
       let k : a < ts .count = omega (arith, count-parents s ts es p (o .held)) in
       let d : Held s ts es p table (getD rows a 0) a = record { map = o .held; gives = o .gives; over = o .above .right a h } in
       scene-of s ts es p (w .count) (w .words) (w .doms) t table passed (getD rows a 0) a x e (record { held = d; passes = o .passes }) h
-      (subst (λ (T : records.TypeInfo). OwnedOf (declarationOf T) (w .count) (w .words) (w .doms)) (type-at s ts es p (o .held) a k) g) (o .lookups)
+      (subst (λ (T : records.TypeInfo). OwnedOf (declarationOf T) (w .count) (w .words) (w .doms)) (type-at s ts es p (o .held) a k) (g .of _ (o .owns a k))) (o .lookups)
 
-  ready-at : Grounded ts p t table passed rows → (a : ℕ) → a < p .count → (w : Owned) → Owns a w → (x : Site) → At a w x
+  ready-at : Grounded own p t table passed rows → (a : ℕ) → a < p .count → (w : Owned) → Owns a w → (x : Site) → At a w x
       → Ready (w .count) (w .words) (w .doms) table passed x
   ready-at g a h w q x e =
       let s = g .sheet in
+      let ts = g .types in
       let es = g .extensions in
       let o = g .ground in
       let k : a < ts .count = omega (arith, count-parents s ts es p (o .held)) in
       let d : Held s ts es p table (getD rows a 0) a = record { map = o .held; gives = o .gives; over = o .above .right a h } in
       ready-of s ts es p (w .count) (w .words) (w .doms) t table passed (getD rows a 0) a x e (record { held = d; passes = o .passes }) h
-      (subst (λ (T : records.TypeInfo). OwnedOf (declarationOf T) (w .count) (w .words) (w .doms)) (type-at s ts es p (o .held) a k) q)
+      (subst (λ (T : records.TypeInfo). OwnedOf (declarationOf T) (w .count) (w .words) (w .doms)) (type-at s ts es p (o .held) a k) (q .of _ (o .owns a k)))
       (valid p (typeMapOf s) (o .held .reads)) (parents-below s ts es p (o .held) a h) (g .tableLong, g .tableSmall) (g .passedLong, g .passedSmall)
 
-  pub staged-at : Grounded ts p t table passed rows → (a : ℕ) → a < p .count → (w : Owned) → Owns a w → (x : Site) → At a w x
+  pub staged-at : Grounded own p t table passed rows → (a : ℕ) → a < p .count → (w : Owned) → Owns a w → (x : Site) → At a w x
       → Staged (w .count) (w .words) (w .doms) t table passed x
   staged-at g a h w q x e =
-      record { ready = ready-at g a h w q x e; sheet = g .sheet; types = ts; extensions = g .extensions; parents = p; scene = scene-at (g .ground) a h w q x e }
+      record { ready = ready-at g a h w q x e; sheet = g .sheet; types = g .types; extensions = g .extensions; parents = p; scene = scene-at (g .ground) a h w q x e }
 
   -- the arrays have room for the parents of the type
-  pub room-here : Grounded ts p t table passed rows → (a : ℕ) → a < p .count → ListedRoom (p .counts) (p .places) a
+  pub room-here : Grounded own p t table passed rows → (a : ℕ) → a < p .count → ListedRoom (p .counts) (p .places) a
   room-here g a h =
       let d = g .ground .held in
-      listed-room p a (valid p (typeMapOf (g .sheet)) (d .reads)) h (parents-below (g .sheet) ts (g .extensions) p d a h)
+      listed-room p a (valid p (typeMapOf (g .sheet)) (d .reads)) h (parents-below (g .sheet) (g .types) (g .extensions) p d a h)
 
-  pub fit-here : Grounded ts p t table passed rows → (a : ℕ) → a < p .count → AllFit (itemAt ts a)
-  fit-here g a h =
-      let s = g .sheet in
-      let es = g .extensions in
-      let d = g .ground .held in
-      type-fits s ts es p d a (omega (arith, count-parents s ts es p d))
+  -- and there the own resources of the type stand
+  pub own-here : Grounded own p t table passed rows → (a : ℕ) → a < p .count → (361 * a + 361 ≤ length own) × (length own < 1000000) × (getD own (361 * a) 0 ≤ 180)
+  own-here g a h =
+      let k = g .ground .owns a (omega (arith, count-parents (g .sheet) (g .types) (g .extensions) p (g .ground .held))) in
+      (omega (arith, g .ownLong), g .ownSmall, k .owned .sound .most)
 
-  pub few-types : Grounded ts p t table passed rows → p .count ≤ 64
+  pub own-few : Grounded own p t table passed rows → (a : ℕ) → a < p .count → (w : Owned) → Owns a w → w .count ≤ 180
+  own-few g a h w q =
+      q .of _ (g .ground .owns a (omega (arith, count-parents (g .sheet) (g .types) (g .extensions) p (g .ground .held)))) .sound .most
+
+  pub few-types : Grounded own p t table passed rows → p .count ≤ 64
   few-types g = g .ground .held .reads .most
 
   -- ---- the loops
 
   -- the types below a are counted
   pub record Counting (a : ℕ) (r : Counted) : Type 0 where
-    pub counts : (s : Sheet) (es : Extensions) → On s es → Counts (2800 * a) (each (typeItems s) (tabulate (λ (i : ℕ). i) a)) r
+    pub counts : (s : Sheet) (ts : Types) (es : Extensions) → On s ts es → Counts (2800 * a) (each (typeItems s) (tabulate (λ (i : ℕ). i) a)) r
 
   pub counting-start : Counting 0 (record { items = 0; bits = 0 })
-  counting-start = record { counts = λ s es o. counts-start (typeItems s) (λ (i : ℕ). i) 2800 }
+  counting-start = record { counts = λ s ts es o. counts-start (typeItems s) (λ (i : ℕ). i) 2800 }
 
   -- what a type's count says of the type at a
-  pub count-at : {s : Sheet} {es : Extensions} → On s es → (a : ℕ) → a < p .count → (w : Owned) → Owns a w → (x : Site) → At a w x → (b : Counted)
+  pub count-at : {s : Sheet} {ts : Types} {es : Extensions} → On s ts es → (a : ℕ) → a < p .count → (w : Owned) → Owns a w → (x : Site) → At a w x → (b : Counted)
       → CountsType (w .count) (w .words) (w .doms) t table passed x b → Counts 2800 (typeItems s a) b
-  count-at {s} {es} o a h w q x e b c = subst (λ (i : ℕ). Counts 2800 (typeItems s i) b) (e .at) (c .counts s ts es p (scene-at o a h w q x e))
+  count-at {s} {ts} {es} o a h w q x e b c = subst (λ (i : ℕ). Counts 2800 (typeItems s i) b) (e .at) (c .counts s ts es p (scene-at o a h w q x e))
 
   pub counting-more : (a : ℕ) → a < p .count → (w : Owned) → Owns a w → (x : Site) → At a w x → (b c : Counted) → Counting a b
       → CountsType (w .count) (w .words) (w .doms) t table passed x c → Counting (a + 1) (record { items = b .items + c .items; bits = b .bits + c .bits })
   counting-more a h w q x e b c d f =
-      record { counts = λ s es o. counts-more (typeItems s) (λ (i : ℕ). i) 2800 a b c (d .counts s es o) (count-at o a h w q x e c f) }
+      record { counts = λ s ts es o. counts-more (typeItems s) (λ (i : ℕ). i) 2800 a b c (d .counts s ts es o) (count-at o a h w q x e c f) }
 
-  pub counting-end : (a : ℕ) (r : Counted) → a ≡ p .count → a ≤ 64 → Counting a r → CountsAll ts p t table passed rows r
+  pub counting-end : (a : ℕ) (r : Counted) → a ≡ p .count → a ≤ 64 → Counting a r → CountsAll own p t table passed rows r
   counting-end a r e l c =
       record {
-        counts = λ s es o.
-            let d = c .counts s es o in
+        counts = λ s ts es o.
+            let d = c .counts s ts es o in
             let q = types-all s a (e ∙ o .held .reads .count) in
             record {
               items = d .items ∙ ap length q;
@@ -160,29 +161,29 @@ module _ (ts : Types) (p : Parents) (t : Table) (table passed rows : List ℕ) w
   abbrev pub typeBits : Sheet → ℕ → List Bool
   typeBits s a = each itemBits (typeItems s a)
 
-  bits-all : {s : Sheet} {es : Extensions} → On s es → (a : ℕ) → a ≡ p .count → each (typeBits s) (tabulate (λ (i : ℕ). i) a) ≡ each itemBits (allItems s)
+  bits-all : {s : Sheet} {ts : Types} {es : Extensions} → On s ts es → (a : ℕ) → a ≡ p .count → each (typeBits s) (tabulate (λ (i : ℕ). i) a) ≡ each itemBits (allItems s)
   bits-all {s} o a e = each-each itemBits (typeItems s) (tabulate (λ (i : ℕ). i) a) ∙ ap (each itemBits) (types-all s a (e ∙ o .held .reads .count))
 
   pub record Writing (a : ℕ) (b c : List ℕ) (q r : ℕ) : Type 0 where
-    pub wrote : (s : Sheet) (es : Extensions) → On s es → Wrote b c q r (each (typeBits s) (tabulate (λ (i : ℕ). i) a))
+    pub wrote : (s : Sheet) (ts : Types) (es : Extensions) → On s ts es → Wrote b c q r (each (typeBits s) (tabulate (λ (i : ℕ). i) a))
 
   pub writing-start : (b : List ℕ) (q : ℕ) → Writing 0 b b q q
-  writing-start b q = record { wrote = λ s es o. rw (each-none (typeBits s) (λ (i : ℕ). i)) (wrote-none b q) }
+  writing-start b q = record { wrote = λ s ts es o. rw (each-none (typeBits s) (λ (i : ℕ). i)) (wrote-none b q) }
 
   pub writing-more : (a : ℕ) → a < p .count → (w : Owned) → Owns a w → (x : Site) → At a w x → (b c d : List ℕ) (q r u : ℕ) → Writing a b c q r
       → WritesType (w .count) (w .words) (w .doms) t table passed x c d r u → Writing (a + 1) b d q u
   writing-more a h w y x e b c d q r u f g =
       record {
-        wrote = λ s es o.
+        wrote = λ s ts es o.
             rw (each-more (typeBits s) (λ (i : ℕ). i) a)
-            (wrote-then (f .wrote s es o) (subst (λ (i : ℕ). Wrote c d r u (typeBits s i)) (e .at) (g .wrote s ts es p (scene-at o a h w y x e))));
+            (wrote-then (f .wrote s ts es o) (subst (λ (i : ℕ). Wrote c d r u (typeBits s i)) (e .at) (g .wrote s ts es p (scene-at o a h w y x e))));
       }
 
-  pub writing-end : (a : ℕ) (b c : List ℕ) (q r : ℕ) → a ≡ p .count → Writing a b c q r → WritesTypes ts p t table passed rows b c q r
-  writing-end a b c q r e d = record { wrote = λ s es o. rw (← bits-all o a e) (d .wrote s es o) }
+  pub writing-end : (a : ℕ) (b c : List ℕ) (q r : ℕ) → a ≡ p .count → Writing a b c q r → WritesTypes own p t table passed rows b c q r
+  writing-end a b c q r e d = record { wrote = λ s ts es o. rw (← bits-all o a e) (d .wrote s ts es o) }
 
   -- the next type finds room
-  pub type-room : (b c : List ℕ) (q r : ℕ) → RoomForTypes ts p t table passed rows b q → (a : ℕ) → a < p .count → (w : Owned) → Owns a w → (x : Site) → At a w x
+  pub type-room : (b c : List ℕ) (q r : ℕ) → RoomForTypes own p t table passed rows b q → (a : ℕ) → a < p .count → (w : Owned) → Owns a w → (x : Site) → At a w x
       → Writing a b c q r → RoomForType (w .count) (w .words) (w .doms) t table passed x c r
   unfolding staged-at
   type-room b c q r m a h w y x e d =
@@ -192,5 +193,5 @@ module _ (ts : Types) (p : Parents) (t : Table) (table passed rows : List ℕ) w
         staged = staged-at g a h w y x e;
         room =
             subst (λ (i : ℕ). Room c r (length (typeBits s i))) (sym (e .at))
-            (room-next (typeBits s) (λ (i : ℕ). i) a (p .count) h (d .wrote s (g .extensions) (g .ground)) (rw (bits-all (g .ground) (p .count) refl) (m .room)));
+            (room-next (typeBits s) (λ (i : ℕ). i) a (p .count) h (d .wrote s (g .types) (g .extensions) (g .ground)) (rw (bits-all (g .ground) (p .count) refl) (m .room)));
       }

@@ -6,15 +6,14 @@ use ordering::Parents;
 use packing::Listed;
 use types::Extensions;
 use types::Types;
-ghost use mathlib.Core.Bool.{true, false};
+ghost use mathlib.Core.Bool.{true, false, _||_};
 ghost use mathlib.Core.Path.{_≡_};
 ghost use Prim.Native.Nat.{_≤_, _<_, _*_};
 ghost use lib.ListN.{length};
 ghost use Rattle.ordering.specs.Organized.{Organized};
-ghost use Rattle.listing.specs.Grounds.{Grounded, CountsAll, RoomForTypes, WritesTypes, RoomForAll, WritesAll, ListsAll, Accepts, TriesAll};
+ghost use Rattle.listing.specs.Grounds.{Grounded, CountsAll, RoomForTypes, WritesTypes, RoomForAll, WritesAll, ListsAll, ListsIf};
 ghost use Rattle.associations.specs.Associations.{Blanks};
 ghost use Rattle.facts.specs.Facts.{tableIn};
-ghost use Rattle.plain.specs.Testing.{TypesFit};
 ghost use Rattle.listing.specs.Schedules.{Schedulable, TriesSchedule};
 
 // What became of a schedule. It is not decided where the quick test can't tell that no type is refused; then nothing was written.
@@ -25,27 +24,26 @@ pub struct Tried {
 
 // 'types in name order'
 fn types_bits(
-    types: Types,
+    own: &[u8],
     p: Parents,
     facts: &[u8; 1944],
     table: &[u64],
     passed: &[u64],
     rows: [u64; 64],
 ) -> Counted
-    requires { ⌜ Grounded types p (tableIn (now facts)) (now table) (now passed) rows ⌝ }
-    ensures { λ r. ⌜ CountsAll types p (tableIn (now (facts .entry))) (now (table .entry)) (now (passed .entry)) rows r ⌝ }
+    requires { ⌜ Grounded (now own) p (tableIn (now facts)) (now table) (now passed) rows ⌝ }
+    ensures { λ r. ⌜ CountsAll (now (own .entry)) p (tableIn (now (facts .entry))) (now (table .entry)) (now (passed .entry)) rows r ⌝ }
 {
     let count = p.count;
     let mut items: usize = 0;
     let mut bits: usize = 0;
     let mut a: usize = 0;
     while a < count {
-        let info = types.items[a];
-        let own = own_classes::owned_of(info);
-        let k = own.count;
+        let mine = own_table::own_at(own, a);
+        let k = mine.count;
         let site = type_items::site_of(
             k,
-            &own.words,
+            &mine.words,
             &p.counts,
             &p.places,
             table,
@@ -53,7 +51,7 @@ fn types_bits(
             count,
             a,
         );
-        let n = type_items::type_bits(k, &own.words, &own.doms, facts, table, passed, site);
+        let n = type_items::type_bits(k, &mine.words, &mine.doms, facts, table, passed, site);
         items += n.items;
         bits += n.bits;
         a += 1;
@@ -64,26 +62,25 @@ fn types_bits(
 fn write_types(
     buf: &mut [u8],
     c: Cursor,
-    types: Types,
+    own: &[u8],
     p: Parents,
     facts: &[u8; 1944],
     table: &[u64],
     passed: &[u64],
     rows: [u64; 64],
 ) -> Cursor
-    requires { ⌜ RoomForTypes types p (tableIn (now facts)) (now table) (now passed) rows (now buf) (c .at) ⌝ }
-    ensures { λ r. ⌜ WritesTypes types p (tableIn (now (facts .entry))) (now (table .entry)) (now (passed .entry)) rows (now (buf .entry)) (now (buf .exit)) (c .at) (r .at) ⌝ }
+    requires { ⌜ RoomForTypes (now own) p (tableIn (now facts)) (now table) (now passed) rows (now buf) (c .at) ⌝ }
+    ensures { λ r. ⌜ WritesTypes (now (own .entry)) p (tableIn (now (facts .entry))) (now (table .entry)) (now (passed .entry)) rows (now (buf .entry)) (now (buf .exit)) (c .at) (r .at) ⌝ }
 {
     let count = p.count;
     let mut at = c;
     let mut a: usize = 0;
     while a < count {
-        let info = types.items[a];
-        let own = own_classes::owned_of(info);
-        let k = own.count;
+        let mine = own_table::own_at(own, a);
+        let k = mine.count;
         let site = type_items::site_of(
             k,
-            &own.words,
+            &mine.words,
             &p.counts,
             &p.places,
             table,
@@ -95,8 +92,8 @@ fn write_types(
             buf,
             at,
             k,
-            &own.words,
-            &own.doms,
+            &mine.words,
+            &mine.doms,
             facts,
             table,
             passed,
@@ -110,7 +107,7 @@ fn write_types(
 // 'N in 7, names in order; item count 16; items'.
 fn write_all(
     buf: &mut [u8],
-    types: Types,
+    own: &[u8],
     p: Parents,
     o: Order,
     facts: &[u8; 1944],
@@ -119,21 +116,21 @@ fn write_all(
     rows: [u64; 64],
     items: usize,
 ) -> Cursor
-    requires { ⌜ RoomForAll types p o (tableIn (now facts)) (now table) (now passed) rows items (now buf) ⌝ }
-    ensures { λ r. ⌜ WritesAll types p o (tableIn (now (facts .entry))) (now (table .entry)) (now (passed .entry)) rows items (now (buf .entry)) (now (buf .exit)) (r .at) ⌝ }
+    requires { ⌜ RoomForAll (now own) p o (tableIn (now facts)) (now table) (now passed) rows items (now buf) ⌝ }
+    ensures { λ r. ⌜ WritesAll (now (own .entry)) p o (tableIn (now (facts .entry))) (now (table .entry)) (now (passed .entry)) rows items (now (buf .entry)) (now (buf .exit)) (r .at) ⌝ }
 {
     let firsts = p.firsts;
     let seconds = p.seconds;
     let places = o.items;
     let c = packing::write_order_bits(buf, Cursor { at: 0 }, firsts, seconds, places, o.count);
     let d = c.write(buf, 16, items);
-    write_types(buf, d, types, p, facts, table, passed, rows)
+    write_types(buf, d, own, p, facts, table, passed, rows)
 }
 
 // '10 answers the needed size, acceptance the size written'. Nothing is touched where the listing is too short.
 fn list_all(
     listing: &mut [u8],
-    types: Types,
+    own: &[u8],
     p: Parents,
     o: Order,
     facts: &[u8; 1944],
@@ -141,11 +138,11 @@ fn list_all(
     passed: &[u64],
     rows: [u64; 64],
 ) -> Listed
-    requires { ⌜ Grounded types p (tableIn (now facts)) (now table) (now passed) rows ⌝ }
+    requires { ⌜ Grounded (now own) p (tableIn (now facts)) (now table) (now passed) rows ⌝ }
     requires { ⌜ o .count ≤ 64 ⌝ }
-    ensures { λ r. ⌜ ListsAll types p o (tableIn (now (facts .entry))) (now (table .entry)) (now (passed .entry)) rows (now (listing .entry)) (now (listing .exit)) r ⌝ }
+    ensures { λ r. ⌜ ListsAll (now (own .entry)) p o (tableIn (now (facts .entry))) (now (table .entry)) (now (passed .entry)) rows (now (listing .entry)) (now (listing .exit)) r ⌝ }
 {
-    let n = types_bits(types, p, facts, table, passed, rows);
+    let n = types_bits(own, p, facts, table, passed, rows);
     let firsts = p.firsts;
     let seconds = p.seconds;
     let places = o.items;
@@ -154,26 +151,15 @@ fn list_all(
     if listing.len() < size {
         return Listed { short: true, size };
     }
-    write_all(listing, types, p, o, facts, table, passed, rows, n.items);
+    write_all(listing, own, p, o, facts, table, passed, rows, n.items);
     Listed { short: false, size }
 }
 
-// Whether it is known that no type is refused: from elsewhere, or by the quick test.
-fn is_accepted(
-    known: bool,
-    types: Types,
-    classes: &[u64; 1600],
-    table: &[u64],
-    rows: [u64; 64],
-) -> bool
-    requires { ⌜ TypesFit types ⌝ }
-    requires { ⌜ (804 * types .count ≤ length (now table)) × (length (now table) < 1000000) ⌝ }
-    ensures { λ r. ⌜ Accepts known types (now (classes .entry)) (now (table .entry)) rows r ⌝ }
+// Whether no type is refused: that is known from elsewhere, or the quick test says so.
+fn is_accepted(known: bool, quick: bool) -> bool
+    ensures { λ r. ⌜ r ≡ (known || quick) ⌝ }
 {
-    if known {
-        return true;
-    }
-    plain::types_plain(types, classes, table, rows)
+    if known { true } else { quick }
 }
 
 // Nothing is decided.
@@ -189,12 +175,11 @@ fn undecided() -> Tried
     }
 }
 
-// The schedule, if no type is refused.
-fn try_all(
+// The schedule, if it is accepted.
+fn list_if(
+    accepted: bool,
     listing: &mut [u8],
-    known: bool,
-    classes: &[u64; 1600],
-    types: Types,
+    own: &[u8],
     p: Parents,
     o: Order,
     facts: &[u8; 1944],
@@ -202,24 +187,25 @@ fn try_all(
     passed: &[u64],
     rows: [u64; 64],
 ) -> Tried
-    requires { ⌜ Grounded types p (tableIn (now facts)) (now table) (now passed) rows ⌝ }
+    requires { ⌜ Grounded (now own) p (tableIn (now facts)) (now table) (now passed) rows ⌝ }
     requires { ⌜ o .count ≤ 64 ⌝ }
-    ensures { λ r. ⌜ TriesAll known types p o (tableIn (now (facts .entry))) (now (classes .entry)) (now (table .entry)) (now (passed .entry)) rows (now (listing .entry)) (now (listing .exit)) r ⌝ }
+    ensures { λ r. ⌜ ListsIf accepted (now (own .entry)) p o (tableIn (now (facts .entry))) (now (table .entry)) (now (passed .entry)) rows (now (listing .entry)) (now (listing .exit)) r ⌝ }
 {
-    if !is_accepted(known, types, classes, table, rows) {
+    if !accepted {
         return undecided();
     }
-    let listed = list_all(listing, types, p, o, facts, table, passed, rows);
+    let listed = list_all(listing, own, p, o, facts, table, passed, rows);
     Tried {
         decided: true,
         listed,
     }
 }
 
-// The schedule, with what each type associates in the table, 804 numbers a type, and what it is passed in the other.
+// The schedule, with what each type associates in the table, 804 numbers a type, and its own resources in `own`, 361 bytes a type.
 fn list_with(
     listing: &mut [u8],
     table: &mut [u64],
+    own: &mut [u8],
     known: bool,
     types: Types,
     extensions: Extensions,
@@ -230,6 +216,7 @@ fn list_with(
     requires { ⌜ Schedulable types extensions resource p ⌝ }
     requires { ⌜ Organized p o ⌝ }
     requires { ⌜ (o .found ≡ true) × Blanks (now table) (types .count) × (804 * p .count ≤ length (now table)) × (length (now table) < 1000000) ⌝ }
+    requires { ⌜ (361 * p .count ≤ length (now own)) × (length (now own) < 1000000) ⌝ }
     ensures { λ r. ⌜ TriesSchedule known types extensions resource p (now (listing .entry)) (now (listing .exit)) r ⌝ }
 {
     let mut passed = [0u64; 256];
@@ -238,20 +225,11 @@ fn list_with(
     let above = ancestry::find_ancestors(p, o);
     let rows = above.rows;
     facts::lay_head(&mut facts, types.count, extensions, resource);
-    laying::lay_types(table, &mut facts, &mut classes, types);
+    laying::lay_types(table, &mut facts, &mut classes, own, types);
     associations::fill_passed(&mut passed, table, rows, p.count);
-    try_all(
-        listing,
-        known,
-        &classes,
-        types,
-        p,
-        o,
-        &facts,
-        table,
-        &passed,
-        rows,
-    )
+    let quick = plain::types_plain(types, &classes, table, rows);
+    let accepted = is_accepted(known, quick);
+    list_if(accepted, listing, own, p, o, &facts, table, &passed, rows)
 }
 
 // The table is all set to 0 first: a small one for few types. Here for 8.
@@ -270,9 +248,11 @@ fn list_few(
     ensures { λ r. ⌜ TriesSchedule known types extensions resource p (now (listing .entry)) (now (listing .exit)) r ⌝ }
 {
     let mut table = [0u64; 6432];
+    let mut own = [0u8; 2888];
     list_with(
         listing,
         &mut table,
+        &mut own,
         known,
         types,
         extensions,
@@ -298,9 +278,11 @@ fn list_some(
     ensures { λ r. ⌜ TriesSchedule known types extensions resource p (now (listing .entry)) (now (listing .exit)) r ⌝ }
 {
     let mut table = [0u64; 19296];
+    let mut own = [0u8; 8664];
     list_with(
         listing,
         &mut table,
+        &mut own,
         known,
         types,
         extensions,
@@ -326,9 +308,11 @@ fn list_most(
     ensures { λ r. ⌜ TriesSchedule known types extensions resource p (now (listing .entry)) (now (listing .exit)) r ⌝ }
 {
     let mut table = [0u64; 51456];
+    let mut own = [0u8; 23104];
     list_with(
         listing,
         &mut table,
+        &mut own,
         known,
         types,
         extensions,

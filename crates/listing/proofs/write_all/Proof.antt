@@ -15,7 +15,7 @@ use Rattle.listing.proofs.write_all.Tie as tie
 
 write-order-bits-requires : tie.Need-write-order-bits-requires
 write-order-bits-requires c κs =
-    let s = c .before .before .before .before .before .before .before in
+    let s = c .before .before .before .before .before .before .before .before in
     let a = s .args in
     let g = s .pre in
     let ns = orderBits (orderNames (a .p .firsts) (a .p .seconds) (a .o .items) (a .o .count)) in
@@ -24,7 +24,7 @@ write-order-bits-requires c κs =
 
 write-requires : tie.Need-write-requires
 write-requires c κs =
-    let s = c .before .before .before .before .before .before .before .before .before .before .before in
+    let s = c .before .before .before .before .before .before .before .before .before .before .before .before in
     let a = s .args in
     let g = s .pre in
     let ns = orderBits (orderNames (a .p .firsts) (a .p .seconds) (a .o .items) (a .o .count)) in
@@ -35,7 +35,7 @@ write-requires c κs =
 
 write-types-requires : tie.Need-write-types-requires
 write-types-requires c κs =
-    let s = c .before .before .before .before .before .before .before .before .before .before .before .before .before .before .before in
+    let s = c .before .before .before .before .before .before .before .before .before .before .before .before .before .before .before .before in
     let a = s .args in
     let g = s .pre in
     let ns = orderBits (orderNames (a .p .firsts) (a .p .seconds) (a .o .items) (a .o .count)) in
@@ -49,12 +49,12 @@ same-length c = search needs
 
 returns : tie.Need-returns
 returns c =
-    let s = c .before .before .before .before .before .before .before .before .before .before .before .before .before .before .before .before .before .before in
+    let s = c .before .before .before .before .before .before .before .before .before .before .before .before .before .before .before .before .before .before .before in
     let a = s .args in
     record {
-      wrote = λ d es o e.
+      wrote = λ d ts es o e.
           rw (all-is d (a .p) (a .o) (a .items) e)
-          (wrote-then (c .before .before .before .before .before .before .before .before .before .before .write-order-bits .ensures) (wrote-then (c .before .before .before .before .before .before .write .ensures) (c .before .before .write-types .ensures .wrote d es o)));
+          (wrote-then (c .before .before .before .before .before .before .before .before .before .before .write-order-bits .ensures) (wrote-then (c .before .before .before .before .before .before .write .ensures) (c .before .before .write-types .ensures .wrote d ts es o)));
     }
 
 pub write-all-spec : {M : Type 1} → statement M
