@@ -1,20 +1,20 @@
 -- What the rows say of the definitions: the doms and the direct parents of an inherited word, and the words with a making.
 use mathlib.Core.Bool.{Bool, true, false, _&&_, _||_}
-use mathlib.Core.List.{List, [], _∷_, _++_, map}
+use mathlib.Core.List.{List, [], _∷_, _++_, map, map-id}
 use mathlib.Core.Path.{_≡_, refl, sym, ap, ap₂, _∙_, subst}
 use Prim.Native.Nat.{ℕ, suc, _+_, _*_, _<_}
-use native.Mathlib.Omega.{arith}
-use borrow.Author.Tests.{lt-ltb, le-ltb, eqb-true}
+use borrow.Author.Tests.{eqb-true}
 use lib.Dec.{eqb, ltb}
 use Rattle.lists.specs.Lists.{In, any, filter, each, setOf}
-use Rattle.lists.specs.Tests.{any-of, filter-of}
+use Rattle.lists.specs.Tests.{any-of, filter-of, eqb-flip}
+use Rattle.lists.specs.Appending.{any-append, any-map, any-alike, any-each, filter-each, map-map}
 use Rattle.definitions.specs.Records.{Dom, Resource}
 use Rattle.definitions.specs.Orders.{sameName, domBefore, dotted}
 use Rattle.definitions.specs.Map.{TypeMap, Declaration, declarationOf, mapOf}
 use Rattle.definitions.specs.Items.{owned, given, ofWord, hasWord, associateWord, parentsOf, ancestors, domsAbove, parentsAbove, wordsMade}
 use Rattle.rows.specs.declared.Row.{Row}
 use Rattle.rows.specs.Rows.{has, hasBit}
-use Rattle.rows.specs.Lists.{map-map, any-append, any-map, elem, below, between-same, Climbs, set-places}
+use Rattle.rows.specs.Lists.{elem, below, between-same, set-places, climbing-numbers}
 use Rattle.annotations.specs.Reading.{domAt, domsOf}
 use Rattle.annotations.specs.Laws.{climbing-doms}
 use Rattle.ordering.specs.Lists as ordering
@@ -23,7 +23,7 @@ use Rattle.ordering.specs.Names.{place-same}
 use Rattle.ordering.specs.declared.Parents.{Parents}
 use Rattle.ancestry.specs.Rows.{declarationAt, typesIn, RowOf}
 use Rattle.ancestry.specs.Places.{types-at}
-use Rattle.above.specs.Lists.{eqb-flip, any-alike, any-each, filter-each, any-and, any-below, any-upTo}
+use Rattle.above.specs.Lists.{any-and, any-below, any-upTo}
 use Rattle.above.specs.Tables.{rowAt, slotOf, upTo, hasIn, United, Passed, WithMaking, Direct, PassingIn, passesAs, Passing}
 
 -- ---- what a table says of a map
@@ -49,26 +49,19 @@ pub record Bounded (us : List Resource) : Type 0 where
 
 -- ---- sets as rows
 
-climbing : Climbs ltb (λ k. k) 200
-climbing = record { up = λ i j h l. lt-ltb i j h; down = λ i j h l. le-ltb j i (omega arith); flat = λ i l. le-ltb i i (omega arith) }
-
 -- a member of a list of numbers of elements
 of-elem : {A : Type 0} (f : A → ℕ) (l : List A) (k : ℕ) → elem k (map f l) ≡ true → (x : A) × In x l × (k ≡ f x)
 of-elem f l k e = let r = any-of (λ x. eqb k (f x)) l (sym (any-map (eqb k) f l) ∙ e) in (r .0, r .1, eqb-true k (f (r .0)) (r .2))
-
-map-id : (l : List ℕ) → map (λ k. k) l ≡ l
-map-id [] = refl
-map-id (x ∷ l) = ap (λ (k : List ℕ). x ∷ k) (map-id l)
 
 -- the words of resources, ascending
 words-set : (us : List Resource) → Bounded us → (row : Row) → ((k : ℕ) → has row k ≡ hasWord us k) → setOf ltb (map (λ (u : Resource). u .word) us) ≡ below (has row) 200
 words-set us b row e =
     let ws = map (λ (u : Resource). u .word) us in
     ap (setOf ltb) (sym (map-id ws))
-    ∙ set-places ltb (λ k. k) 200 climbing ws (λ k h. let r = of-elem (λ (u : Resource). u .word) us k h in rw (r .2) (b .word (r .0) (r .1)))
+    ∙ set-places ltb (λ k. k) 200 (climbing-numbers 200) ws (λ k h. let r = of-elem (λ (u : Resource). u .word) us k h in rw (r .2) (b .word (r .0) (r .1)))
     ∙ map-id (below (λ k. elem k ws) 200)
     ∙ between-same (λ k. elem k ws) (has row) 0 200
-    (λ k p q. any-map (eqb k) (λ (u : Resource). u .word) us ∙ any-alike (λ (u : Resource). eqb k (u .word)) (λ (u : Resource). eqb (u .word) k) us (λ u. eqb-flip k (u .word)) ∙ sym (e k))
+    (λ k p q. any-map (eqb k) (λ (u : Resource). u .word) us ∙ any-alike (λ (u : Resource). eqb k (u .word)) (λ (u : Resource). eqb (u .word) k) (λ u. eqb-flip k (u .word)) us ∙ sym (e k))
 
 -- the doms of resources, none first, then ascending
 same-doms : (us : List Resource) → ((u : Resource) → In u us → domAt (placeOfDom (u .dom)) ≡ u .dom)
@@ -95,11 +88,7 @@ of-word r us b =
 
 -- a test of the types of a row, asked by places
 any-types : (m : TypeMap) (n row : ℕ) (f : Declaration → Bool) → any f (typesIn m n row) ≡ any (λ a. hasBit row a && f (declarationAt m a)) (upTo n)
-any-types m n row f = any-map-o f (declarationAt m) (ordering.below (hasBit row) n) ∙ any-below (λ a. f (declarationAt m a)) (hasBit row) n
-  where
-    any-map-o : {A B : Type 0} (f : B → Bool) (g : A → B) (l : List A) → any f (map g l) ≡ any (λ x. f (g x)) l
-    any-map-o f g [] = refl
-    any-map-o f g (x ∷ l) = ap (λ (b : Bool). f (g x) || b) (any-map-o f g l)
+any-types m n row f = any-map f (declarationAt m) (ordering.below (hasBit row) n) ∙ any-below (λ a. f (declarationAt m a)) (hasBit row) n
 
 module _ (m : TypeMap) (n : ℕ) (table : List ℕ) (T : Table m n table) (row : ℕ) where
   -- the types of the row
@@ -147,8 +136,7 @@ module _ (p : Parents) (m : TypeMap) (r : Reads p m) (passed : List ℕ) where
   inherits-is : (t a : ℕ) → t < p .count → a < p .count → declarationAt m t .inherits (declarationAt m a .name) ≡ any (λ (q : Parent). eqb (q .place) a) (listed p t)
   unfolding declarationOf parentIn
   inherits-is t a h k =
-      any-alike (sameName (typeAt m a .name)) (λ n. eqb (placeIn m n) a) (typeAt m t .parents)
-      (λ n. ordering.same-list-sym (typeAt m a .name) n ∙ place-same p m r n a k)
+      any-alike (sameName (typeAt m a .name)) (λ n. eqb (placeIn m n) a) (λ n. ordering.same-list-sym (typeAt m a .name) n ∙ place-same p m r n a k) (typeAt m t .parents)
       ∙ sym (any-map (λ (q : Parent). eqb (q .place) a) (parentIn m) (typeAt m t .parents))
       ∙ ap (any (λ (q : Parent). eqb (q .place) a)) (sym (r .types t h .parents))
 
@@ -168,7 +156,7 @@ module _ (p : Parents) (m : TypeMap) (r : Reads p m) (passed : List ℕ) where
             g .bits a
             ∙ ap (λ (b : Bool). b && has (rowAt passed (4 * a)) w) (d .bits a)
             ∙ sym (any-and (λ (q : Parent). eqb (q .place) a) (has (rowAt passed (4 * a)) w) (listed p t))
-            ∙ sym (any-alike (passesAs passed w a) (λ (q : Parent). eqb (q .place) a && has (rowAt passed (4 * a)) w) (listed p t) (at-place w a));
+            ∙ sym (any-alike (passesAs passed w a) (λ (q : Parent). eqb (q .place) a && has (rowAt passed (4 * a)) w) (at-place w a) (listed p t));
       }
 
   -- the row of the words that each type passes on
@@ -193,9 +181,9 @@ module _ (p : Parents) (m : TypeMap) (r : Reads p m) (passed : List ℕ) where
       (λ a k.
       ap₂ (λ (b d : Bool). b && d) (inherits-is t a h k) (sym (c .words a k w))
       ∙ sym (any-and (λ (q : Parent). eqb (q .place) a) (has (rowAt passed (4 * a)) w) (listed p t))
-      ∙ sym (any-alike (passesAs passed w a) (λ (q : Parent). eqb (q .place) a && has (rowAt passed (4 * a)) w) (listed p t) (at-place w a))
+      ∙ sym (any-alike (passesAs passed w a) (λ (q : Parent). eqb (q .place) a && has (rowAt passed (4 * a)) w) (at-place w a) (listed p t))
       ∙ sym (g .bits a))) in
-      ap (map (λ (P : Declaration). dotted (P .name) w)) e ∙ ordering.map-map (λ (P : Declaration). dotted (P .name) w) D (ordering.below (hasBit x) n)
+      ap (map (λ (P : Declaration). dotted (P .name) w)) e ∙ map-map (λ (P : Declaration). dotted (P .name) w) D (ordering.below (hasBit x) n)
 
 -- the row that `words_passed` makes says what a type passes on
 pub passed-words : (p : Parents) (m : TypeMap) → Reads p m → (table : List ℕ) → Table m (p .count) table → (t row : ℕ) → t < p .count → RowOf p row t

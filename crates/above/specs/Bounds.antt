@@ -24,7 +24,7 @@ dom-within [] w = (omega arith, refl)
 dom-within (d ∷ []) w = (omega (arith, w .below d (List·Memᴰ·head refl)), refl)
 dom-within (d ∷ e ∷ l) w = absurd (omega (arith, w .most))
 
-bounded-if : (us : List Resource) → ((u : Resource) → In u us → ResourceWithin 200 u) → Bounded us
+pub bounded-if : (us : List Resource) → ((u : Resource) → In u us → ResourceWithin 200 u) → Bounded us
 bounded-if us h = record { word = λ u i. h u i .word; dom = λ u i. dom-within (u .dom) (h u i .dom) }
 
 -- an own Associate is an associate

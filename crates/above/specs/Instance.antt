@@ -8,12 +8,13 @@ use lib.ListN.{replicate, getD, List·getD-append}
 use lib.Seq.{getD-append-add}
 use borrow.Author.Tests.{ne-eqb}
 use lib.Dec.{eqb}
-use Rattle.lists.specs.Tests.{cons-elim}
+use Rattle.lists.specs.Tests.{cons-elim, eqb-flip}
 use Rattle.definitions.specs.Records.{Name, domain, associate, nestAssociate, Annotation, TypeInfo}
 use Rattle.definitions.specs.Map.{TypeMap, declarationOf, mapOf}
 use Rattle.definitions.specs.Items.{owned, given, hasWord, associateWord, parentsOf, reached, ancestors, domsAbove, parentsAbove, wordsMade}
 use Rattle.definitions.specs.Orders.{domBefore}
 use Rattle.lists.specs.Lists.{include, setOf}
+use Rattle.lists.specs.Places.{zero-at}
 use Rattle.rows.specs.declared.Row.{Row}
 use Rattle.rows.specs.Rows.{has, hasBit, single, empty}
 use Rattle.rows.specs.Lists.{between}
@@ -22,7 +23,6 @@ use Rattle.annotations.specs.Reading.{domsOf}
 use Rattle.ordering.specs.Reading.{listed, placeIn, parentIn, ReadsType, Reads}
 use Rattle.ordering.specs.declared.Parents.{Parents}
 use Rattle.ancestry.specs.Rows.{declarationAt, typesIn}
-use Rattle.above.specs.Lists.{eqb-flip}
 use Rattle.above.specs.Tables.{rowAt, slotOf}
 use Rattle.above.specs.Steps.{has-empty}
 use Rattle.above.specs.Above.{hasDom, Table, Bounded, Passes}
@@ -61,25 +61,19 @@ pair-words zero h k = one 0 k (omega arith)
 pair-words (suc zero) h k = one 0 k (omega arith)
 pair-words (suc (suc a)) h k = absurd (omega arith)
 
--- behind the first eight numbers of a type all are zero
-zeros : (n i : ℕ) → _≡_ {A = ℕ} (getD (replicate n 0) i 0) 0
-zeros zero i = refl
-zeros (suc n) zero = refl
-zeros (suc n) (suc i) = zeros n i
-
 zero-a : (i n : ℕ) → i ≡ 8 + n → n < 796 → getD pairTable i 0 ≡ 0
 zero-a i n e h =
     ap (λ (x : ℕ). getD pairTable x 0) e
     ∙ List·getD-append rowsOf-a rowsOf-b 0 (8 + n) (omega arith)
     ∙ getD-append-add (1 ∷ 0 ∷ 0 ∷ 0 ∷ 1 ∷ 0 ∷ 0 ∷ 0 ∷ []) (replicate 796 0) n 0
-    ∙ zeros 796 n
+    ∙ zero-at 796 n
 
 zero-b : (i n : ℕ) → i ≡ 804 + (8 + n) → getD pairTable i 0 ≡ 0
 zero-b i n e =
     ap (λ (x : ℕ). getD pairTable x 0) e
     ∙ getD-append-add rowsOf-a rowsOf-b (8 + n) 0
     ∙ getD-append-add (1 ∷ 0 ∷ 0 ∷ 0 ∷ 0 ∷ 0 ∷ 0 ∷ 256 ∷ []) (replicate 796 0) n 0
-    ∙ zeros 796 n
+    ∙ zero-at 796 n
 
 row-zero : (at : ℕ) → ((c : ℕ) → c < 4 → getD pairTable (at + c) 0 ≡ 0) → rowAt pairTable at ≡ empty
 unfolding rowAt

@@ -1,32 +1,13 @@
 -- Laws of tests over lists. Nothing here knows of types or resources.
 use mathlib.Core.Bool.{Bool, true, false, _&&_, _||_}
-use mathlib.Core.List.{List, [], _∷_, _++_}
-use mathlib.Core.Path.{_≡_, refl, sym, ap, ap₂, _∙_}
+use mathlib.Core.List.{List, [], _∷_}
+use mathlib.Core.Path.{_≡_, refl, sym, ap₂, _∙_}
 use Prim.Native.Nat.{ℕ, zero, suc, _<_}
-use borrow.Author.Tests.{eq-eqb, ne-eqb, eqb-true, eqb-false}
-use lib.Dec.{eqb}
-use Rattle.lists.specs.Lists.{any, filter, each}
-use Rattle.lists.specs.Tests.{by}
-use Rattle.rows.specs.Lists.{any-append, filter-append}
+use Rattle.lists.specs.Lists.{any}
+use Rattle.lists.specs.Appending.{any-append}
 use Rattle.ordering.specs.Lists as ordering
 
-pub eqb-flip : (a b : ℕ) → eqb a b ≡ eqb b a
-eqb-flip a b = by (eqb a b) (λ e. e ∙ sym (eq-eqb b a (sym (eqb-true a b e)))) (λ e. e ∙ sym (ne-eqb b a (λ q. eqb-false a b e (sym q))))
-
 module _ {A : Type 0} where
-  -- tests that agree on each element
-  pub any-alike : (f g : A → Bool) (l : List A) → ((x : A) → f x ≡ g x) → any f l ≡ any g l
-  any-alike f g [] e = refl
-  any-alike f g (x ∷ l) e = ap₂ (λ (a b : Bool). a || b) (e x) (any-alike f g l e)
-
-  pub any-each : {B : Type 0} (g : B → Bool) (f : A → List B) (l : List A) → any g (each f l) ≡ any (λ x. any g (f x)) l
-  any-each g f [] = refl
-  any-each g f (x ∷ l) = any-append g (f x) (each f l) ∙ ap (λ (b : Bool). any g (f x) || b) (any-each g f l)
-
-  pub filter-each : {B : Type 0} (h : B → Bool) (f : A → List B) (l : List A) → filter h (each f l) ≡ each (λ x. filter h (f x)) l
-  filter-each h f [] = refl
-  filter-each {B} h f (x ∷ l) = filter-append h (f x) (each f l) ∙ ap (λ (k : List B). filter h (f x) ++ k) (filter-each h f l)
-
   -- one test may be asked of the whole list where it is the same of each element
   pub any-and : (f : A → Bool) (c : Bool) (l : List A) → any (λ x. f x && c) l ≡ (any f l && c)
   any-and f c [] = refl

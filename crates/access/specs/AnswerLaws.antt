@@ -22,11 +22,12 @@ use Rattle.definitions.specs.Answer as rules
 use Rattle.definitions.specs.Answer.{Call, Input, Outcome, Refusal, refusedBy, restOf, sheetOf, bare, short, synthesisRows, overwrite, refusals, refuse, accept, firstRefusal, mapIn, outcome}
 use Rattle.bits.specs.NumberLaws.{length-packTo}
 use Rattle.reading_laws.specs.Statements.{NoneHolds}
-use Rattle.reading_laws.specs.Refusals.{first-passes, all-pass}
+use Rattle.reading_laws.specs.Refusals.{all-pass}
 use Rattle.reading_laws.specs.RoundTrip.{refused-with-3-or-4}
 use Rattle.decoding.specs.Decoding.{turnedBack, decoded}
 use Rattle.decoding.specs.Statements.{Why, unread, fill, words, twice}
 use Rattle.decoding.specs.DecodingLaws.{turned-back-why}
+use Rattle.laws.specs.Alike.{first-holds, first-passed}
 use Rattle.access.specs.declared.Answer.{Answer}
 use Rattle.access.specs.Answers.{outcomeOf, inputOf}
 use Rattle.access.specs.Ending.{bitsFor, ended}
@@ -34,10 +35,6 @@ use Rattle.access.specs.Ending.{bitsFor, ended}
 -- 'Refusals leave both slices untouched'
 abbrev pub untouched : ℕ → List ℕ → List ℕ → Outcome
 untouched n l d = outcomeOf (Answer.Refused n) l d
-
-first-is : (i : Input) (r : Refusal) (l : List Refusal) → r .holds tt ≡ true → firstRefusal i (r ∷ l) ≡ refuse i r
-unfolding firstRefusal
-first-is i r l e = rw (e, firstRefusal)
 
 module _ (call : Call) (s l d : List ℕ) where
   abbrev i : Input
@@ -47,7 +44,7 @@ module _ (call : Call) (s l d : List ℕ) where
   bare-first : (n : ℕ) (test : Unit {0} → Bool) (before after : List Refusal) → NoneHolds before → test tt ≡ true →
       untouched n l d ≡ firstRefusal i (before ++ (bare n test ∷ after))
   unfolding refuse
-  bare-first n test before after h e = sym (all-pass i before (bare n test ∷ after) h ∙ first-is i (bare n test) after e)
+  bare-first n test before after h e = sym (all-pass i before (bare n test ∷ after) h ∙ first-holds i (bare n test) after e)
 
   -- ---- 8, 9 and 10
 
@@ -63,23 +60,23 @@ module _ (call : Call) (s l d : List ℕ) where
   module _ (m : TypeMap) (e : mapIn i ≡ m) where
     no-order : hasOrder m ≡ false → firstRefusal i (eight m ∷ nine m ∷ ten m ∷ []) ≡ ended call m l d
     unfolding ended refuse
-    no-order h = first-is i (eight m) (nine m ∷ ten m ∷ []) (ap not h) ∙ sym (rw h)
+    no-order h = first-holds i (eight m) (nine m ∷ ten m ∷ []) (ap not h) ∙ sym (rw h)
 
     -- an order is no refusal
     up-to-nine : hasOrder m ≡ true → firstRefusal i (eight m ∷ nine m ∷ ten m ∷ []) ≡ firstRefusal i (nine m ∷ ten m ∷ [])
-    up-to-nine h = first-passes i (eight m) (nine m ∷ ten m ∷ []) (ap not h)
+    up-to-nine h = first-passed i (eight m) (nine m ∷ ten m ∷ []) (ap not h)
 
     with-rows : hasOrder m ≡ true → null (synthesisRows call m) ≡ false → firstRefusal i (eight m ∷ nine m ∷ ten m ∷ []) ≡ ended call m l d
     unfolding ended refuse
-    with-rows h k = up-to-nine h ∙ first-is i (nine m) (ten m ∷ []) (ap not k) ∙ sym (rw (h, k))
+    with-rows h k = up-to-nine h ∙ first-holds i (nine m) (ten m ∷ []) (ap not k) ∙ sym (rw (h, k))
 
     up-to-ten : hasOrder m ≡ true → null (synthesisRows call m) ≡ true → firstRefusal i (eight m ∷ nine m ∷ ten m ∷ []) ≡ firstRefusal i (ten m ∷ [])
-    up-to-ten h k = up-to-nine h ∙ first-passes i (nine m) (ten m ∷ []) (ap not k)
+    up-to-ten h k = up-to-nine h ∙ first-passed i (nine m) (ten m ∷ []) (ap not k)
 
     too-short : hasOrder m ≡ true → null (synthesisRows call m) ≡ true → ltb (length l) (size (length (bitsFor call m))) ≡ true →
         firstRefusal i (eight m ∷ nine m ∷ ten m ∷ []) ≡ ended call m l d
     unfolding ended refuse
-    too-short h k q = up-to-ten h k ∙ first-is i (ten m) [] q ∙ sym (rw (h, k, q))
+    too-short h k q = up-to-ten h k ∙ first-holds i (ten m) [] q ∙ sym (rw (h, k, q))
 
     acceptance : List Bool → Outcome
     acceptance bits = outcomeOf (Answer.Accepted (length (pack bits))) (overwrite (pack bits) l) d
@@ -89,7 +86,7 @@ module _ (call : Call) (s l d : List ℕ) where
     unfolding ended firstRefusal accept acceptance pack
     accepted h k q =
         up-to-ten h k
-        ∙ first-passes i (ten m) [] q
+        ∙ first-passed i (ten m) [] q
         ∙ ap (λ (x : TypeMap). acceptance (bitsFor call x)) e
         ∙ ap (λ (x : ℕ). outcomeOf (Answer.Accepted x) (overwrite (pack (bitsFor call m)) l) d) (length-packTo (size (length (bitsFor call m))) (bitsFor call m))
         ∙ sym (rw (h, k, q))

@@ -1,13 +1,13 @@
 -- What the parts of a call leave is what is due.
 use mathlib.Core.Bool.{Bool, true, false, not}
-use mathlib.Core.List.{List, [], _∷_, map}
-use mathlib.Core.Path.{_≡_, refl, sym, ap, _∙_}
+use mathlib.Core.List.{List}
+use mathlib.Core.Path.{_≡_, sym, ap, _∙_}
 use Prim.Native.Nat.{ℕ, _<_}
-use borrow.Author.Tests.{ltb-true}
+use borrow.Author.Tests.{ltb-true, not-true, not-false}
 use lib.Dec.{ltb}
 use lib.ListN.{length, getD, take}
-use Rattle.lists.specs.Lists.{all}
-use Rattle.lists.specs.Tests.{by, and-left, and-right}
+use Rattle.lists.specs.Tests.{by}
+use Rattle.lists.specs.Appending.{map-checked}
 use Rattle.definitions.specs.Bits.{size, pack}
 use Rattle.definitions.specs.Map.{TypeMap}
 use Rattle.definitions.specs.Order.{organizeTypeMap}
@@ -20,14 +20,9 @@ use Rattle.ordering.specs.Organized.{Organized, placesIn}
 use Rattle.diagnosis.specs.Reported.{Reported}
 use Rattle.packing.specs.declared.Listed.{Listed}
 use Rattle.packing.specs.Order.{nameAt, orderNames, Listing}
-use Rattle.decoding.specs.CodeLaws.{not-true, not-false}
 use Rattle.access.specs.declared.Answer.{Answer}
 use Rattle.access.specs.Answers.{outcomeOf}
 use Rattle.access.specs.Ending.{listed, ended, Unordered, answerFor, Ended}
-
-map-same : {A B : Type 0} (ok : A → Bool) (f g : A → B) (l : List A) → all ok l ≡ true → ((x : A) → ok x ≡ true → f x ≡ g x) → map f l ≡ map g l
-map-same ok f g [] h e = refl
-map-same ok f g (x ∷ l) h e = rw (e x (and-left (ok x) (all ok l) h), map-same ok f g l (and-right (ok x) (all ok l) h) e)
 
 -- ---- the parts that both calls have
 
@@ -59,7 +54,7 @@ module _ (p : Parents) (r : Order) (o : Organized p r) where
       orderNames (p .firsts) (p .seconds) (r .items) (r .count) ≡ organizeTypeMap m
   unfolding orderNames
   names-are m e n =
-      map-same (λ t. ltb t (p .count)) (nameAt (p .firsts) (p .seconds)) (λ (t : ℕ). typeAt m t .name) (placesIn r) (o .within) (λ t h. n t (ltb-true t (p .count) h))
+      map-checked (λ t. ltb t (p .count)) (nameAt (p .firsts) (p .seconds)) (λ (t : ℕ). typeAt m t .name) (placesIn r) (o .within) (λ t h. n t (ltb-true t (p .count) h))
       ∙ o .order m e
 
   abbrev written : List Bool

@@ -1,16 +1,16 @@
 -- Where the schedule call accepts, the items are the lines of the map.
 use mathlib.Core.Bool.{Bool, true, false, not}
-use mathlib.Core.List.{List, [], _∷_}
+use mathlib.Core.List.{List, []}
 use mathlib.Core.Logic.{⊎-elim}
 use mathlib.Core.Path.{_≡_, refl, sym, ap, _∙_}
 use Prim.Native.Nat.{ℕ, _≤_}
-use borrow.Author.Tests.{ltb-false}
+use borrow.Author.Tests.{ltb-false, not-false}
 use lib.Dec.{eqb, ltb}
 use lib.ListN.{length}
 use Rattle.lists.specs.Lists.{null}
-use Rattle.lists.specs.Tests.{never}
+use Rattle.lists.specs.Tests.{never, null-nil}
 use Rattle.definitions.specs.Bits.{bitsOf, pack}
-use Rattle.definitions.specs.Records.{Sheet, Row}
+use Rattle.definitions.specs.Records.{Sheet}
 use Rattle.definitions.specs.Parse.{Parsed, done, refused}
 use Rattle.definitions.specs.Reading.{sheet}
 use Rattle.definitions.specs.Checks.{badFill, badWords, somethingTwice}
@@ -29,20 +29,15 @@ use Rattle.reading_laws.specs.Statements.{NoneHolds}
 use Rattle.reading_laws.specs.Refusals.{all-pass}
 use Rattle.reading_laws.specs.Answers.{accepted-exactly}
 use Rattle.reading_laws.specs.RoundTrip.{refused-with-3-or-4}
-use Rattle.decoding.specs.CodeLaws.{not-false}
 use Rattle.access.specs.declared.Answer.{Answer}
 use Rattle.access.specs.Answers.{outcomeOf, scheduleInput}
 use Rattle.access.specs.Lines.{Lists, LinesListed}
-
-null-is : (l : List Row) → null l ≡ true → l ≡ []
-null-is [] e = refl
-null-is (r ∷ l) e = never e refl
 
 -- no row: no type is refused, and each line stands once among the items
 items-listed : (s : Sheet) → Ordered s → null (synthesisRows schedule (typeMapOf s)) ≡ true → MakesLines s (scheduleOf schedule (typeMapOf s) .items)
 unfolding scheduleOf
 items-listed s o e =
-    let a = accepted-is-tested s (o .readable) .0 (rows-are-tested s o .0 (null-is (synthesisRows schedule (typeMapOf s)) e)) in
+    let a = accepted-is-tested s (o .readable) .0 (rows-are-tested s o .0 (null-nil (synthesisRows schedule (typeMapOf s)) e)) in
     record { lines = items-are-lines s (o .readable) a; once = items-once s (o .readable) a }
 
 -- what was not refused by 3 or 4 was read

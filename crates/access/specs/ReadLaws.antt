@@ -10,6 +10,7 @@ use lib.ListN.{length, getD}
 use Rattle.lists.specs.Lists.{In, all, repeats, sort}
 use Rattle.lists.specs.Tests.{and-both, or-false-left, all-of}
 use Rattle.lists.specs.Sorting.{repeats-not, perm-sorted, perm-length, sort-perm, sort-is}
+use Rattle.lists.specs.Places.{getD-in}
 use Rattle.definitions.specs.Bits.{bitsOf}
 use Rattle.definitions.specs.Records.{Name, TypeInfo, Sheet}
 use Rattle.definitions.specs.Orders.{sameName}
@@ -22,7 +23,6 @@ use Rattle.ordering.specs.Lists.{same-list-sym}
 use Rattle.ordering.specs.Reading.{noType, isName}
 use Rattle.parents.specs.Parents.{Readable}
 use Rattle.sorting.specs.Sorting.{byName}
-use Rattle.sorting.specs.SortingLaws.{getD-in}
 use Rattle.decoding.specs.ReadLaws.{limits, few-words, few-types, self-lt}
 
 -- ---- members

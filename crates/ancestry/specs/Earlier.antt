@@ -11,14 +11,15 @@ use lib.Dec.{eqb, ltb}
 use lib.ListN.{length, getD, take, set, length-append, List·getD-append}
 use lib.Seq.{take-append-le, take-append-add, getD-append-add, getD-set-same, getD-set-other, take-all}
 use Rattle.lists.specs.Lists.{In, any, all}
-use Rattle.ordering.specs.Lists.{by, never, and-left, and-right, or-elim, or-left, or-right, all-imp, elem, elem-left, elem-cases, elem-step, elem-at, any-tab-out, tab, below-is}
+use Rattle.ordering.specs.Lists.{all-imp, elem, elem-left, elem-cases, elem-step, elem-at, any-tab-out, tab, below-is}
 use Rattle.ordering.specs.Reading.{Parent, listed, selfIn, Reads}
 use Rattle.ordering.specs.Rounds.{settled, isReady, free, next, round, placed, final, listsSelf, earlier, count-full}
-use Rattle.ordering.specs.Names.{order-found}
+use Rattle.ordering.specs.Names.{whole-order, no-self}
 use Rattle.ordering.specs.Organized.{placesIn, Organized}
 use Rattle.ordering.specs.declared.Parents.{Parents}
 use Rattle.ordering.specs.declared.Order.{Order}
 use Rattle.lists.specs.Tests as tests
+use Rattle.lists.specs.Tests.{by, never, and-right, or-elim, or-left, or-right}
 use Rattle.definitions.specs.Map.{TypeMap}
 use Rattle.ancestry.specs.Rows.{RowOf, Ancestors, Ordered, ParentsBelow, Gathered}
 use Rattle.ancestry.specs.Places.{row-gathered}
@@ -31,8 +32,8 @@ module _ (p : Parents) where
       all-imp (settled p a) (settled p (a ++ b)) (listed p t)
       (λ q s.
       or-elim (selfIn p q) (elem (q .place) a) s
-      (λ h. or-left (selfIn p q) (elem (q .place) (a ++ b)) h)
-      (λ h. or-right (selfIn p q) (elem (q .place) (a ++ b)) (elem-left (q .place) a b h)))
+      (λ h. or-left (elem (q .place) (a ++ b)) h)
+      (λ h. or-right (selfIn p q) (elem-left (q .place) a b h)))
       e
 
   get-elem : (l : List ℕ) (i : ℕ) → i < length l → elem (getD l i 0) l ≡ true
@@ -139,14 +140,12 @@ module _ (p : Parents) where
 -- an order that was found is one to make the rows by
 pub ordered : (p : Parents) (o : Order) (m : TypeMap) → Reads p m → Organized p o → o .found ≡ true → length (o .items) ≡ 64 → Ordered p o
 ordered p o m r g f l =
-    let e = sym (order-found p m r) ∙ sym (g .found m r) ∙ f in
-    let w : length (final p) ≡ p .count = eqb-true _ _ (and-right (not (listsSelf p)) (eqb (length (final p)) (p .count)) e) in
-    let n : not (listsSelf p) ≡ true = and-left (not (listsSelf p)) (eqb (length (final p)) (p .count)) e in
+    let e = sym (g .found m r) ∙ f in
     record {
       places = g .places;
       count = sym (lib.Seq.length-take-le (o .count) (o .items) (omega (arith, g .most, r .most))) ∙ ap length (g .places);
-      whole = w;
-      noSelf = by (listsSelf p) (λ s. never n (rw s)) (λ s. s);
+      whole = whole-order p m r e;
+      noSelf = no-self p m r e;
     }
 
 -- what the code reads at i, and what it may ask of that type

@@ -10,12 +10,14 @@ use lib.ListN.{length, getD}
 use borrow.Author.Tests.{eq-eqb, ne-eqb, eqb-true}
 use Rattle.lists.specs.Lists.{In, any, filter}
 use Rattle.lists.specs.Tests.{same-test, or-cases, or-left, or-right, any-in, any-of, any-none, filter-in, filter-of}
+use Rattle.lists.specs.Lexicographic.{same-numbers, numbers-same}
+use Rattle.lists.specs.Appending.{map-map}
 use Rattle.definitions.specs.Records.{Name, TypeInfo}
 use Rattle.definitions.specs.Orders.{sameName, elemName}
 use Rattle.definitions.specs.Map.{TypeMap, Declaration, Map, declarationOf, mapOf}
 use Rattle.definitions.specs.Items.{parentsOf, ancestors}
 use Rattle.rows.specs.Rows.{hasBit}
-use Rattle.ordering.specs.Lists.{same-list, same-list-refl, map-map, elem, below, below-in, below-is, below-same, filter-below}
+use Rattle.ordering.specs.Lists.{elem, below, below-in, below-is, below-same, filter-below}
 use Rattle.ordering.specs.Reading.{Parent, listed, typeAt, placeIn, parentIn, Reads}
 use Rattle.ordering.specs.Names.{place-same, types-are}
 use Rattle.ordering.specs.declared.Parents.{Parents}
@@ -55,7 +57,7 @@ module _ (p : Parents) (m : TypeMap) (r : Reads p m) where
 
   -- the place of a type's name is its place
   place-at : (n : Name) (a : ℕ) → a < p .count → n ≡ typeAt m a .name → placeIn m n ≡ a
-  place-at n a h e = eqb-true (placeIn m n) a (sym (place-same p m r n a h) ∙ rw e (same-list-refl (typeAt m a .name)))
+  place-at n a h e = eqb-true (placeIn m n) a (sym (place-same p m r n a h) ∙ rw e (numbers-same {l = typeAt m a .name} refl))
 
   pub one-place : (a b : ℕ) → a < p .count → b < p .count → declarationAt m a ≡ declarationAt m b → a ≡ b
   one-place a b h k e =
@@ -81,7 +83,7 @@ module _ (p : Parents) (m : TypeMap) (r : Reads p m) where
       let b = type-of (f .0) in
       let n : P .name ≡ typeAt m (b .0) .name = ap (λ (D : Declaration). D .name) (sym (b .2)) ∙ name-at (b .0) in
       let u = any-of (sameName (P .name)) (typeAt m t .parents) (sym (inherits-at t (P .name)) ∙ f .1) in
-      let z : placeIn m (u .0) ≡ b .0 = place-at (u .0) (b .0) (b .1) (sym (same-list (P .name) (u .0) (u .2)) ∙ n) in (
+      let z : placeIn m (u .0) ≡ b .0 = place-at (u .0) (b .0) (b .1) (sym (same-numbers (P .name) (u .0) (u .2)) ∙ n) in (
         parentIn m (u .0),
         subst (In (parentIn m (u .0))) (sym (r .types t h .parents)) (Memᴰ·map (parentIn m) (u .1)),
         rw z (b .1),
@@ -95,9 +97,9 @@ module _ (p : Parents) (m : TypeMap) (r : Reads p m) where
       let u = Memᴰ·of-map (parentIn m) (typeAt m t .parents) (subst (In q) (r .types t h .parents) i) in
       let z : placeIn m (u .0) ≡ q .place = ap (λ (x : Parent). x .place) (u .2) in
       let s : sameName (u .0) (typeAt m (q .place) .name) ≡ true = place-same p m r (u .0) (q .place) k ∙ eq-eqb _ _ z in
-      let n : u .0 ≡ typeAt m (q .place) .name = same-list (u .0) (typeAt m (q .place) .name) s in
+      let n : u .0 ≡ typeAt m (q .place) .name = same-numbers (u .0) (typeAt m (q .place) .name) s in
       filter-in (λ (Q : Declaration). declarationAt m t .inherits (Q .name)) (type-in (q .place) k)
-      (rw (name-at (q .place), inherits-at t) (any-in (sameName (typeAt m (q .place) .name)) (u .1) (rw n (same-list-refl (typeAt m (q .place) .name)))))
+      (rw (name-at (q .place), inherits-at t) (any-in (sameName (typeAt m (q .place) .name)) (u .1) (rw n (numbers-same {l = (typeAt m (q .place) .name)} refl))))
 
   -- ---- a row and the types in it
 

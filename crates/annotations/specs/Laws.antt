@@ -12,10 +12,12 @@ use lib.Dec.{eqb, ltb}
 use lib.ListN.{length, getD, take, set}
 use lib.Seq.{take-suc, take-suc-set, take-set-le, length-take-le}
 use Rattle.lists.specs.Lists.{any, null, filter, setOf, listBefore}
+use Rattle.lists.specs.Tests.{by, never, or-right, neither}
+use Rattle.lists.specs.Appending.{map-append, filter-append, any-append}
 use Rattle.rows.specs.declared.Row.{Row}
-use Rattle.rows.specs.Rows.{has, either, empty}
-use Rattle.rows.specs.RowLaws.{has-either}
-use Rattle.rows.specs.Lists.{by, never, or-right, neither, map-append, filter-append, any-append, elem, below, elem-between, elem-below, Climbs, set-united}
+use Rattle.rows.specs.Rows.{has, either, single, empty}
+use Rattle.rows.specs.RowLaws.{has-either, has-single}
+use Rattle.rows.specs.Lists.{elem, below, between-same, between-one, elem-between, elem-below, Climbs, set-united}
 use Rattle.definitions.specs.Records.{Dom, AssociatedResource}
 use Rattle.definitions.specs.Orders.{domBefore}
 use Rattle.definitions.specs.Checks.{kindOf, resourcesOf}
@@ -72,7 +74,7 @@ pub member-at : (ws : List ℕ) (n j w : ℕ) → j < n → j < length ws → ge
 member-at [] n j w p q e = absurd (not-suc-le-zero q)
 member-at (v ∷ ws) zero j w p q e = absurd (not-suc-le-zero p)
 member-at (v ∷ ws) (suc n) zero w p q e = rw (eq-eqb v w e)
-member-at (v ∷ ws) (suc n) (suc j) w p q e = or-right (eqb v w) (member (take n ws) w) (member-at ws n j w (le-of-suc-le-suc p) (le-of-suc-le-suc q) e)
+member-at (v ∷ ws) (suc n) (suc j) w p q e = or-right (eqb v w) (member-at ws n j w (le-of-suc-le-suc p) (le-of-suc-le-suc q) e)
 
 pub has-member : (k : ℕ) (ws : List ℕ) (ds : List Row) (w : ℕ) → k ≤ length ws → k ≤ length ds → hasWord (upto k ws ds) w ≡ member (take k ws) w
 has-member zero ws ds w p q = refl
@@ -81,6 +83,12 @@ has-member (suc k) (v ∷ ws) [] w p q = absurd (not-suc-le-zero q)
 has-member (suc k) (v ∷ ws) (d ∷ ds) w p q = ap (λ b. eqb v w || b) (has-member k ws ds w (le-of-suc-le-suc p) (le-of-suc-le-suc q))
 
 -- ---- dom sets
+
+-- one bit is one dom
+pub doms-single : (k : ℕ) → k < 201 → domsOf (single k) ≡ domAt k ∷ []
+unfolding domsOf
+doms-single k h =
+    ap (map domAt) (between-same (has (single k)) (eqb k) 0 201 (λ j a b. has-single k j (omega arith)) ∙ between-one k 0 201 (omega arith) (omega arith))
 
 pub climbing-doms : Climbs domBefore domAt 201
 unfolding domBefore

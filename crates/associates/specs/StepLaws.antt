@@ -21,10 +21,12 @@ use Rattle.making.specs.declared.Making.{Making}
 use Rattle.table.specs.declared.Table.{Table}
 use Rattle.table.specs.Table.{nameAt, declarationAt, tableMap}
 use Rattle.synthetic.specs.Made.{classesOf, firstsOf, Fits, created}
-use Rattle.interpretation.specs.Emit.{State, emitBytes, emit, name-bytes}
+use Rattle.interpretation.specs.Emit.{emitBytes, emit, name-bytes}
 use Rattle.interpretation.specs.Judged.{isUnknown, isOther}
 use Rattle.interpretation.specs.JudgedLaws.{row-bytes}
 use Rattle.duplicates.specs.Held.{heldItems}
+use Rattle.emitting.specs.Emitting.{State}
+use Rattle.emitting.specs.Emitting as emitting
 use Rattle.associates.specs.Step.{Reached, rowsIn, endsIn, failsIn, itemsIn, verdictOf, SteppedBy}
 
 -- ---- the verdict
@@ -103,16 +105,16 @@ counted t T r doms ps new f e =
 
 pub row-one : (limit kind : ℕ) (D : Declaration) (w f s a b : ℕ) (c : Name) (st st′ : State) → D .name ≡ twoWords f s → c ≡ twoWords a b →
     st′ ≡ emitBytes limit st (kind ∷ f ∷ s ∷ a ∷ b ∷ w ∷ []) → st′ ≡ emit limit st (classRow kind D w c ∷ [])
-unfolding emit
+unfolding emitting.emit
 row-one limit kind D w f s a b c st st′ p q e = e ∙ ap (emitBytes limit st) (sym (row-bytes kind D w f s a b c p q))
 
 pub row-none : (limit kind : ℕ) (D : Declaration) (w f s : ℕ) (st st′ : State) → D .name ≡ twoWords f s →
     st′ ≡ emitBytes limit st (kind ∷ f ∷ s ∷ 255 ∷ 255 ∷ w ∷ []) → st′ ≡ emit limit st (classRow kind D w [] ∷ [])
-unfolding emit rowBytes
+unfolding emitting.emit rowBytes
 row-none limit kind D w f s st st′ p e = e ∙ rw (p, name-bytes f s)
 
 pub no-rows : (limit : ℕ) (st : State) → st ≡ emit limit st []
-unfolding emit
+unfolding emitting.emit
 no-rows limit st = refl
 
 pub named-at : (t : Table) (T : ℕ) → declarationAt t T .name ≡ twoWords (getD (t .firsts) T 0) (getD (t .seconds) T 0)

@@ -1,22 +1,20 @@
 -- The steps of the two loops.
-use mathlib.Core.Bool.{Bool, true, false}
-use mathlib.Core.List.{List, [], _∷_, _++_}
+use mathlib.Core.List.{List}
 use mathlib.Core.Path.{_≡_, refl, sym, ap, _∙_, subst}
-use Prim.Native.Nat.{ℕ, zero, suc, _+_, _*_, _≤_, _<_}
+use Prim.Native.Nat.{ℕ, _+_, _*_, _≤_, _<_}
 use native.Mathlib.Omega.{arith}
-use borrow.Author.Tests.{eqb-true, eqb-false, ltb-true, ltb-false}
-use lib.Dec.{eqb, ltb}
-use lib.ListN.{length, getD, replicate, List·getD-append}
-use lib.Seq
+use borrow.Author.Tests.{eqb-true, eqb-false}
+use lib.Dec.{eqb}
+use lib.ListN.{length, getD, replicate}
 use Rattle.lists.specs.Tests.{by}
+use Rattle.lists.specs.Tabulating.{getD-tabulate, places}
 use Rattle.definitions.specs.Records as records
 use Rattle.definitions.specs.Map.{TypeMap}
-use Rattle.fields.specs.Tabulate.{tabulate, places, length-tabulate}
 use Rattle.rows.specs.declared.Row.{Row}
-use Rattle.types.specs.Types.{typeInfoOf, ofTypes}
+use Rattle.types.specs.Types.{typeInfoOf, ofTypes, itemAt}
 use Rattle.types.specs.declared.Types.{Types}
 use Rattle.types.specs.declared.TypeInfo.{TypeInfo}
-use Rattle.store.specs.Store.{rowAt, putRow}
+use Rattle.store.specs.Store.{putRow}
 use Rattle.store.specs.StoreLaws.{row-long, row-keeps, row-there, row-same}
 use Rattle.ordering.specs.Reading.{typeAt, noType}
 use Rattle.above.specs.Tables as tables
@@ -24,22 +22,10 @@ use Rattle.above.specs.Tables.{Passed}
 use Rattle.above.specs.Above.{passed-words}
 use Rattle.giving.specs.Tables.{Filled, filled-table}
 use Rattle.filling.specs.Filling.{Blank, Fills}
-use Rattle.filling.specs.FillingLaws.{blank-zeros, blank-kept, filled-none, filled-more}
-use Rattle.associations.specs.Associations.{itemAt, Blanks, FillsTable, FillsPassed}
+use Rattle.filling.specs.FillingLaws.{blank-zeros, blank-kept, filled-none, filled-more, same-row}
+use Rattle.associations.specs.Associations.{Blanks, FillsTable, FillsPassed}
 
 -- ---- the types
-
--- what stands at a place of a list that is made place by place
-getD-tabulate : {A : Type 0} (f : ℕ → A) (n i : ℕ) (d : A) → i < n → getD (tabulate f n) i d ≡ f i
-unfolding tabulate
-getD-tabulate f zero i d h = absurd (omega arith)
-getD-tabulate f (suc n) i d h = go (ltb i n) refl (getD-tabulate f n i d)
-  where
-    go : (t : Bool) → ltb i n ≡ t → (i < n → getD (tabulate f n) i d ≡ f i) → getD (tabulate f n ++ (f n ∷ [])) i d ≡ f i
-    go true e ih = let l : i < n = omega (arith, ltb-true i n e) in List·getD-append (tabulate f n) (f n ∷ []) d i (omega (arith, length-tabulate f n)) ∙ ih l
-    go false e ih =
-        let q : i ≡ n = omega (arith, ltb-false i n e) in
-        rw q (Seq.getD-at (tabulate f n) (f n) [] d n (length-tabulate f n))
 
 -- the type at a place is that of the map
 pub type-is : (ts : Types) (m : TypeMap) → ofTypes ts ≡ m .types → (a : ℕ) → a < ts .count → typeInfoOf (itemAt ts a) ≡ typeAt m a
@@ -72,10 +58,6 @@ filled-end ts n s u e f =
     record { table = λ m q. filled-table m (ts .count) (itemAt ts) u (subst (λ (k : ℕ). Filled m k (itemAt ts) u) e (f .rows m q)); long = f .long }
 
 -- ---- the words passed on
-
-same-row : (s : List ℕ) (at : ℕ) → tables.rowAt s at ≡ rowAt s at
-unfolding tables.rowAt rowAt
-same-row s at = refl
 
 -- the rows of the first n types
 pub record PassedTo (table rows : List ℕ) (count n : ℕ) (s u : List ℕ) : Type 0 where

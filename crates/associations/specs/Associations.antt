@@ -2,21 +2,16 @@
 use mathlib.Core.List.{List}
 use mathlib.Core.Path.{_≡_}
 use Prim.Native.Nat.{ℕ, _≤_, _<_}
-use lib.ListN.{length, getD}
+use lib.ListN.{length}
 use Rattle.definitions.specs.Map.{TypeMap}
 use Rattle.line_laws.specs.Within.{TypeWithin}
-use Rattle.types.specs.Types.{typeInfoOf, zeroType, ofTypes}
+use Rattle.types.specs.Types.{typeInfoOf, ofTypes, itemAt}
 use Rattle.types.specs.declared.Types.{Types}
-use Rattle.types.specs.declared.TypeInfo.{TypeInfo}
 use Rattle.ordering.specs.Reading.{Reads}
 use Rattle.ordering.specs.declared.Parents.{Parents}
 use Rattle.ancestry.specs.Rows.{Ancestors}
 use Rattle.above.specs.Above.{Table, Passes}
 use Rattle.filling.specs.Filling.{Blank}
-
--- the type at a place, as the code has it
-abbrev pub itemAt : Types → ℕ → TypeInfo
-itemAt ts a = getD (ts .items) a zeroType
 
 -- 'types, N 7 (0 to 64)', each within its bounds
 pub record TypesHeld (ts : Types) : Type 0 where

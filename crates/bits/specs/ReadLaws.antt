@@ -18,6 +18,11 @@ use Rattle.bits.specs.declared.Read.the-variants.{Value, Past}
 use Rattle.bits.specs.Reading.{readAt, pickRead, ofRead}
 use Rattle.bits.specs.NumberLaws.{length-toBits, length-bitsOf, num-lt, num-toBits}
 
+-- whether a value was read
+abbrev pub isDone : {A : Type 0} → Parsed A → Bool
+isDone (done a rest) = true
+isDone (refused r) = false
+
 -- ---- reading at a position
 pub read-in : (s : List ℕ) (p n : ℕ) → p + n ≤ 8 * length s →
     readAt (bitsOf s) p n ≡ Value (num n (drop p (bitsOf s))) (record { at = p + n })

@@ -9,6 +9,7 @@ use lib.Dec.{eqb}
 use lib.ListN.{length, getD, length-append}
 use Rattle.lists.specs.Lists.{all, each}
 use Rattle.lists.specs.Tests.{by, never}
+use Rattle.lists.specs.Appending.{each-append}
 use Rattle.bits.specs.Writing.{Wrote}
 use Rattle.bits.specs.WriteLaws.{wrote-none, wrote-then}
 use Rattle.rows.specs.declared.Row.{Row}
@@ -29,7 +30,7 @@ use Rattle.synthetic.specs.MadeLaws.{Stage, stage-start, stage-taken, stage-ski
 use Rattle.facts.specs.Facts.{byteAt, marksIn, tableIn}
 use Rattle.facts.specs.FactLaws.{marks-in, virtual-in, derive-in, tag-in}
 use Rattle.made_parents.specs.ParentLaws.{rest-next}
-use Rattle.packing.specs.PackingLaws.{each-append, marks-most, wrote-long}
+use Rattle.packing.specs.PackingLaws.{marks-most, wrote-long}
 use Rattle.packing.specs.Room.{Room}
 use Rattle.class_marks.specs.Classes.{OneClass, Gives, Adds}
 use Rattle.class_marks.specs.declared.Classes.{Classes}

@@ -10,18 +10,18 @@ use lib.Dec.{eqb, ltb}
 use lib.ListN.{length, getD, length-set}
 use lib.Seq.{getD-set-same, getD-set-other}
 use Rattle.lists.specs.Tests.{by, same-test, and-left, and-right, and-both}
+use Rattle.lists.specs.Tabulating.{tabulate, places, tabulate-more}
+use Rattle.lists.specs.Appending.{any-append}
 use Rattle.definitions.specs.Records as records
 use Rattle.definitions.specs.Orders.{sameName, dotted}
 use Rattle.definitions.specs.Making.{isResourceVariant}
 use Rattle.fields.specs.Fields.{twoWords, nameOf}
-use Rattle.fields.specs.Tabulate.{tabulate, places, tabulate-more}
-use Rattle.types.specs.Types.{variantOf, typeInfoOf, zeroType, ofTypes}
+use Rattle.types.specs.Types.{variantOf, typeInfoOf, zeroType, ofTypes, itemAt}
 use Rattle.types.specs.declared.TypeInfo.{TypeInfo}
 use Rattle.types.specs.declared.Types.{Types}
 use Rattle.rows.specs.declared.Row.{Row}
 use Rattle.rows.specs.Rows.{has, hasBit, limb}
-use Rattle.rows.specs.RowLaws.{bit-either, bit-one, bit-none}
-use Rattle.rows.specs.Lists.{any-append}
+use Rattle.rows.specs.RowLaws.{bit-either, bit-one, bit-none, part-past}
 use Rattle.annotations.specs.Reading.{domAt}
 use Rattle.classes.specs.Classes.{rowOf, withBit, noteResource, noteName, NameHeld, Added, Notes, Noted}
 
@@ -40,16 +40,9 @@ has-part : (l : List ℕ) (i k : ℕ) → k < 256 → has (rowOf l i) k ≡ hasB
 unfolding has hasBit
 has-part l i k h = rw (part-of l i (k / 64) (omega arith))
 
-no-part : (x : Row) (j : ℕ) → 4 ≤ j → limb x j ≡ 0
-no-part x zero h = absurd (omega arith)
-no-part x (suc zero) h = absurd (omega arith)
-no-part x (suc (suc zero)) h = absurd (omega arith)
-no-part x (suc (suc (suc zero))) h = absurd (omega arith)
-no-part x (suc (suc (suc (suc j)))) h = refl
-
 has-not : (x : Row) (k : ℕ) → 256 ≤ k → has x k ≡ false
 unfolding has hasBit
-has-not x k h = rw (no-part x (k / 64) (omega arith)) (bit-none (k % 64))
+has-not x k h = rw (part-past x (k / 64) (omega arith)) (bit-none (k % 64))
 
 pub bit-long : (l : List ℕ) (i k : ℕ) → length (withBit l i k) ≡ length l
 unfolding withBit
@@ -244,9 +237,6 @@ noted-more ts t l r d f =
 -- the first n of the types
 abbrev pub firstTypes : Types → ℕ → List records.TypeInfo
 firstTypes ts n = places typeInfoOf zeroType (ts .items) n
-
-abbrev pub itemAt : Types → ℕ → TypeInfo
-itemAt ts i = getD (ts .items) i zeroType
 
 pub noted-none : (ts : Types) (l : List ℕ) → length l ≡ 1600 → ((i : ℕ) → getD l i 0 ≡ 0) → Noted (firstTypes ts 0) l
 unfolding places tabulate

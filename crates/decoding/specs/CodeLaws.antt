@@ -1,8 +1,8 @@
 -- The code's tests are those of the definitions, in their order.
-use mathlib.Core.Bool.{Bool, true, false, not, cond, _||_}
+use mathlib.Core.Bool.{Bool, true, false, cond, _||_}
 use mathlib.Core.List.{List}
 use mathlib.Core.Logic.{_⊎_, inl, inr, ⊎-elim}
-use mathlib.Core.Path.{_≡_, refl, sym, ap, _∙_}
+use mathlib.Core.Path.{_≡_, sym, ap, _∙_}
 use Prim.Native.Nat.{ℕ}
 use lib.Dec.{eqb}
 use lib.ListN.{drop}
@@ -32,15 +32,6 @@ use Rattle.sorting.specs.Sorting.{byName}
 use Rattle.decoding.specs.Decoding.{Decoding, turnedBack, whole, tested, decoded}
 use Rattle.decoding.specs.Answers.{firstOf, behind}
 use Rattle.decoding.specs.DecodingLaws.{was-read, not-read, seven, five, six, passed}
-
--- the test of the code is the other way round
-pub not-true : (b : Bool) → not b ≡ true → b ≡ false
-not-true true h = sym h
-not-true false h = refl
-
-pub not-false : (b : Bool) → not b ≡ false → b ≡ true
-not-false true h = refl
-not-false false h = sym h
 
 -- ---- the lists of a sheet, each read behind the one before
 

@@ -1,13 +1,13 @@
 -- What holds of every sheet that was read.
-use mathlib.Core.Bool.{Bool, true, false}
-use mathlib.Core.List.{List, [], _∷_}
+use mathlib.Core.Bool.{Bool, false}
+use mathlib.Core.List.{List}
 use mathlib.Core.Path.{_≡_, refl}
 use Prim.Native.Nat.{ℕ, _≤_, _<_}
-use native.Mathlib.Omega.{arith}
 use lib.Dec.{eqb}
 use lib.ListN.{length}
-use Rattle.lists.specs.Lists.{any, sameList, placeOf}
-use Rattle.lists.specs.Tests.{by, never, any-in}
+use Rattle.lists.specs.Lists.{sameList}
+use Rattle.lists.specs.Tests.{any-in}
+use Rattle.lists.specs.Places.{place-lt}
 use Rattle.definitions.specs.Records.{Sheet}
 use Rattle.definitions.specs.Parse.{done}
 use Rattle.definitions.specs.Reading.{sheet}
@@ -16,13 +16,6 @@ use Rattle.definitions.specs.Map.{numberOf}
 use Rattle.definitions.specs.Legal.{WithinLimits}
 use Rattle.reading_laws.specs.Rules.{words-exactly}
 use Rattle.reading_laws.specs.RoundTrip.{read-exactly}
-
-place-lt : {A : Type 0} (f : A → Bool) (l : List A) → any f l ≡ true → placeOf f l < length l
-place-lt f [] e = never e refl
-place-lt f (x ∷ l) e =
-    by (f x)
-    (λ p. rw p (omega arith))
-    (λ p. let h : placeOf f l < length l = place-lt f l (rw p at e) in rw p (omega arith))
 
 -- ---- words that passed 5
 

@@ -7,10 +7,11 @@ use native.Mathlib.Omega.{arith}
 use lib.ListN.{replicate, set, getD-replicate}
 use lib.Seq.{getD-set-other}
 use Rattle.lists.specs.Lists.{ascends}
+use Rattle.lists.specs.Tests.{never}
 use Rattle.rows.specs.declared.Row.{Row}
 use Rattle.rows.specs.Rows.{has, hasBit, none, either, common, without, single, empty}
 use Rattle.rows.specs.RowLaws.{words-below}
-use Rattle.rows.specs.Lists.{never, between}
+use Rattle.rows.specs.Lists.{between}
 use Rattle.definitions.specs.Records.{Name, AssociatedResource, associate}
 use Rattle.definitions.specs.Orders.{nameBefore}
 use Rattle.annotations.specs.Reading.{domsOf}

@@ -8,13 +8,14 @@ use native.Mathlib.Omega.{arith}
 use lib.Bits.{bitAnd, bitOr, bitXor, and-zero-r, and-comm, and-self, xor-zero-r, xor-self}
 use lib.ListN.{length, getD, set}
 use Rattle.lists.specs.Lists.{all, filter}
+use Rattle.lists.specs.Tests.{by, never, and-left, and-right, neither, and-both}
+use Rattle.lists.specs.Appending.{any-append, all-append}
 use Rattle.rows.specs.declared.Row.{Row}
 use Rattle.rows.specs.Rows.{has, none, common, without}
 use Rattle.rows.specs.RowLaws.{Small, has-common, has-without, has-none, some-there, all-zero, small-common, small-without}
-use Rattle.rows.specs.Lists.{by, never, and-left, and-right, neither, any-append}
 use Rattle.dedup.specs.declared.Entry.{Entry}
 use Rattle.dedup.specs.declared.Entries.{Entries}
-use Rattle.dedup.specs.Lists.{all-append, all-filter, many, many-most, many-or, many-some}
+use Rattle.dedup.specs.Lists.{all-filter, many, many-most, many-or, many-some}
 use Rattle.dedup.specs.Entries.{inter, diff, stands, unlessEmpty, merge, join, Sound, covers, Apart, nil, cons, Full}
 
 pub covers-append : (a b : List Entry) (w : ℕ) → covers (a ++ b) w ≡ (covers a w || covers b w)
@@ -117,8 +118,9 @@ pub merge-full : (l : List Entry) (n : Entry) → Full (merge l n)
 unfolding merge unlessEmpty
 merge-full [] n = all-filter stands (n ∷ [])
 merge-full (a ∷ l) n =
-    all-append stands (unlessEmpty (diff a n)) (unlessEmpty (inter a n) ++ merge l (diff n a)) (all-filter stands (diff a n ∷ []))
-    (all-append stands (unlessEmpty (inter a n)) (merge l (diff n a)) (all-filter stands (inter a n ∷ [])) (merge-full l (diff n a)))
+    all-append stands (unlessEmpty (diff a n)) (unlessEmpty (inter a n) ++ merge l (diff n a))
+    ∙ and-both (all-filter stands (diff a n ∷ []))
+    (all-append stands (unlessEmpty (inter a n)) (merge l (diff n a)) ∙ and-both (all-filter stands (inter a n ∷ [])) (merge-full l (diff n a)))
 
 -- ---- an empty newcomer changes nothing
 
@@ -218,13 +220,6 @@ pub record PlaceOf (l : Entries) (n : Entry) (r : ℕ) : Type 0 where
   pub most : r ≤ l .count
   pub same : r < l .count → getD (l .items) r zeros .words ≡ n .words
   pub first : r < l .count → stands (getD (l .items) 0 zeros) ≡ true
-
-pub rows-equal : (x y : Row) → x .a ≡ y .a → x .b ≡ y .b → x .c ≡ y .c → x .d ≡ y .d → x ≡ y
-rows-equal x y p q r s =
-    ap (λ (z : ℕ). record { a = z; b = x .b; c = x .c; d = x .d }) p
-    ∙ ap (λ (z : ℕ). record { a = y .a; b = z; c = x .c; d = x .d }) q
-    ∙ ap (λ (z : ℕ). record { a = y .a; b = y .b; c = z; d = x .d }) r
-    ∙ ap (λ (z : ℕ). record { a = y .a; b = y .b; c = y .c; d = z }) s
 
 pub standing-is : (e : Entry) → (length (unlessEmpty e) ≡ 0 → ⊥) → stands e ≡ true
 unfolding unlessEmpty

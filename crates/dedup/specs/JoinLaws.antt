@@ -8,9 +8,9 @@ use native.Mathlib.Omega.{arith}
 use lib.Bits.{or-zero-r}
 use lib.ListN.{length, take, drop, getD, set, drop-of-length-le}
 use lib.Seq.{drop-cons, getD-take, take-set-lt, length-take-le}
+use Rattle.lists.specs.Tests.{by, neither}
 use Rattle.rows.specs.declared.Row.{Row}
 use Rattle.rows.specs.Rows.{either, empty}
-use Rattle.rows.specs.Lists.{by, neither}
 use Rattle.definitions.specs.Inherited.{dedupOnto}
 use Rattle.dedup.specs.declared.Entry.{Entry}
 use Rattle.dedup.specs.declared.Entries.{Entries}

@@ -1,19 +1,19 @@
 -- Laws of lists and of their orders. Nothing here knows of types or resources.
-use mathlib.Core.Bool.{Bool, true, false, _&&_, _||_}
-use mathlib.Core.List.{List, [], _∷_, _++_}
+use mathlib.Core.Bool.{Bool, true, false, _||_}
+use mathlib.Core.List.{List, [], _∷_}
 use mathlib.Core.Path.{_≡_, refl, sym, ap, _∙_}
 use Prim.Native.Nat.{ℕ, zero, suc, _+_, _<_, _≤_}
-use native.Mathlib.Nat.{not-suc-le-zero, le-of-suc-le-suc}
 use native.Mathlib.Omega.{arith}
-use borrow.Author.Tests.{eq-eqb, ne-eqb, eqb-true, eqb-false, lt-ltb, le-ltb, ltb-true}
-use lib.Dec.{eqb, ltb}
+use borrow.Author.Tests.{ne-eqb, eqb-true, eqb-false}
+use lib.Dec.{eqb}
 use lib.ListN.{length, getD}
 use Rattle.lists.specs.Lists.{all, filter, ascends, listBefore}
-use Rattle.rows.specs.Lists.{by, never, and-left, and-right, between, Climbs}
-
-pub all-append : {A : Type 0} (f : A → Bool) (a b : List A) → all f a ≡ true → all f b ≡ true → all f (a ++ b) ≡ true
-all-append f [] b p q = q
-all-append f (x ∷ a) b p q = rw (and-left (f x) (all f a) p) (all-append f a b (and-right (f x) (all f a) p) q)
+use Rattle.lists.specs.Tests.{by, not-so}
+use Rattle.lists.specs.Strict.{asymmetric}
+use Rattle.lists.specs.Sorting.{ascends-sorted}
+use Rattle.lists.specs.Lexicographic.{list-strict}
+use Rattle.lists.specs.Places.{sorted-places}
+use Rattle.rows.specs.Lists.{between, Climbs}
 
 pub all-filter : {A : Type 0} (f : A → Bool) (l : List A) → all f (filter f l) ≡ true
 all-filter f [] = refl
@@ -81,65 +81,13 @@ filter-one f w i (suc n) p q t =
 
 -- ---- the order of lists of numbers
 
-pub before-flat : (a : List ℕ) → listBefore a a ≡ false
-before-flat [] = refl
-before-flat (x ∷ a) = rw (le-ltb x x (omega arith), eq-eqb x x refl) (before-flat a)
-
--- by the first elements
-heads : {C : Type 0} (x y : ℕ) (b : Bool) → (ltb x y || (eqb x y && b)) ≡ true → (x < y → C) → (x ≡ y → b ≡ true → C) → C
-heads x y b e f g =
-    by (ltb x y)
-    (λ p. f (ltb-true x y p))
-    (λ p.
-    let q : (eqb x y && b) ≡ true = rw p at e in
-    g (eqb-true x y (and-left (eqb x y) b q)) (and-right (eqb x y) b q))
-
-pub before-down : (a b : List ℕ) → listBefore a b ≡ true → listBefore b a ≡ false
-before-down [] [] e = refl
-before-down [] (y ∷ b) e = refl
-before-down (x ∷ a) [] e = never e refl
-before-down (x ∷ a) (y ∷ b) e =
-    heads x y (listBefore a b) e
-    (λ p. rw (le-ltb y x (omega arith), ne-eqb y x (λ q. absurd (omega arith))))
-    (λ p q. rw (le-ltb y x (omega arith)) (rw (before-down a b q) (mathlib.Core.Bool.and-false (eqb y x))))
-
-pub before-trans : (a b c : List ℕ) → listBefore a b ≡ true → listBefore b c ≡ true → listBefore a c ≡ true
-before-trans [] [] c e f = f
-before-trans [] (y ∷ b) [] e f = never f refl
-before-trans [] (y ∷ b) (z ∷ c) e f = refl
-before-trans (x ∷ a) [] c e f = never e refl
-before-trans (x ∷ a) (y ∷ b) [] e f = never f refl
-before-trans (x ∷ a) (y ∷ b) (z ∷ c) e f =
-    heads x y (listBefore a b) e
-    (λ p. heads y z (listBefore b c) f (λ q. rw (lt-ltb x z (omega arith))) (λ q t. rw (lt-ltb x z (omega arith))))
-    (λ p s.
-    heads y z (listBefore b c) f
-    (λ q. rw (lt-ltb x z (omega arith)))
-    (λ q t. rw (eq-eqb x z (omega arith), before-trans a b c s t) (mathlib.Core.Bool.or-true (ltb x z))))
-
-module _ {A : Type 0} (before : A → A → Bool) (trans : (a b c : A) → before a b ≡ true → before b c ≡ true → before a c ≡ true) where
-  first-before : (d x : A) (l : List A) (j : ℕ) → ascends before (x ∷ l) ≡ true → j < length l → before x (getD l j d) ≡ true
-  first-before d x [] j e h = absurd (not-suc-le-zero h)
-  first-before d x (y ∷ l) zero e h = and-left (before x y) (ascends before (y ∷ l)) e
-  first-before d x (y ∷ l) (suc j) e h =
-      trans x y (getD l j d) (and-left (before x y) (ascends before (y ∷ l)) e)
-      (first-before d y l j (and-right (before x y) (ascends before (y ∷ l)) e) (le-of-suc-le-suc h))
-
-  rest-ascends : (x : A) (l : List A) → ascends before (x ∷ l) ≡ true → ascends before l ≡ true
-  rest-ascends x [] e = refl
-  rest-ascends x (y ∷ l) e = and-right (before x y) (ascends before (y ∷ l)) e
-
-  pub ascends-up : (d : A) (l : List A) (i j : ℕ) → ascends before l ≡ true → i < j → j < length l → before (getD l i d) (getD l j d) ≡ true
-  ascends-up d [] i j e h q = absurd (not-suc-le-zero q)
-  ascends-up d (x ∷ l) i zero e h q = absurd (not-suc-le-zero h)
-  ascends-up d (x ∷ l) zero (suc j) e h q = first-before d x l j e (le-of-suc-le-suc q)
-  ascends-up d (x ∷ l) (suc i) (suc j) e h q = ascends-up d l i j (rest-ascends x l e) (le-of-suc-le-suc h) (le-of-suc-le-suc q)
-
 -- lists of numbers that ascend, by place
 pub climbing : (l : List (List ℕ)) → ascends listBefore l ≡ true → Climbs listBefore (λ i. getD l i []) (length l)
 climbing l e =
+    let up : (i j : ℕ) → i < j → j < length l → listBefore (getD l i []) (getD l j []) ≡ true =
+    sorted-places (λ a b. listBefore a b ≡ true) l [] (ascends-sorted list-strict l e) in
     record {
-      up = λ i j h q. ascends-up listBefore before-trans [] l i j e h q;
-      down = λ i j h q. before-down (getD l i []) (getD l j []) (ascends-up listBefore before-trans [] l i j e h q);
-      flat = λ i h. before-flat (getD l i []);
+      up = up;
+      down = λ i j h q. not-so (asymmetric list-strict (getD l i []) (getD l j []) (up i j h q));
+      flat = λ i h. list-strict .irreflexive (getD l i []);
     }

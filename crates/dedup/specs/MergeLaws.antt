@@ -7,7 +7,7 @@ use native.Mathlib.Nat.{add-zero}
 use native.Mathlib.Omega.{arith}
 use lib.ListN.{length, take, drop, set, getD, length-append, length-set, drop-of-length-le}
 use lib.Seq.{take-suc-set, take-set-le, drop-cons, getD-take, length-take-le}
-use Rattle.rows.specs.Lists.{by}
+use Rattle.lists.specs.Tests.{by}
 use Rattle.dedup.specs.declared.Entry.{Entry}
 use Rattle.dedup.specs.Entries.{inter, diff, stands, unlessEmpty, merge}
 use Rattle.dedup.specs.EntryLaws.{share-nothing}

@@ -1,7 +1,7 @@
 -- The dedup of entries, read, is the definitions' dedup of what was read.
 use mathlib.Core.Bool.{Bool, true, false, _&&_, _||_, not}
 use mathlib.Core.List.{List, [], _∷_, _++_, map, append-nil}
-use mathlib.Core.Option.{none, some}
+use mathlib.Core.Option.{some}
 use mathlib.Core.Path.{_≡_, refl, sym, ap, ap₂, _∙_}
 use Prim.Native.Nat.{ℕ, _<_}
 use native.Mathlib.Omega.{arith}
@@ -10,10 +10,12 @@ use lib.Bits.{bitOr}
 use lib.Dec.{eqb}
 use lib.ListN.{getD, length, drop}
 use Rattle.lists.specs.Lists.{any, all, null, filter, setOf, ascends}
+use Rattle.lists.specs.Tests.{by, never, and-left, and-right, or-left, or-right, neither, eqb-flip}
+use Rattle.lists.specs.Appending.{map-append, map-map, filter-map, any-map, any-alike}
 use Rattle.rows.specs.declared.Row.{Row}
 use Rattle.rows.specs.Rows.{has, either, common, without, empty, hasBit}
 use Rattle.rows.specs.RowLaws.{has-common, has-without, has-either, has-none, some-there, bit-either}
-use Rattle.rows.specs.Lists.{by, never, and-left, and-right, or-left, or-right, neither, map-append, map-map, filter-map, any-map, elem, below, between-none, map-between, filter-between, elem-between, set-either}
+use Rattle.rows.specs.Lists.{elem, below, between-none, map-between, filter-between, elem-between, set-either}
 use Rattle.definitions.specs.Records.{Name, Dom, AssociatedResource, associate}
 use Rattle.definitions.specs.Orders.{nameBefore, domBefore}
 use Rattle.definitions.specs.Annotations.{hasWord, domsIn, united, shared, less, someIf, overlapOf, intersection, difference}
@@ -28,18 +30,11 @@ use Rattle.dedup.specs.Reading.{resourcesAt, namesAt, read, readAll, rea
 
 -- ---- words and dom sets of resources by a table
 
-abbrev at : (ℕ → Row) → ℕ → AssociatedResource
+abbrev pub at : (ℕ → Row) → ℕ → AssociatedResource
 at D w = record { word = w; doms = domsOf (D w) }
 
 any-elem : (w : ℕ) (l : List ℕ) → any (λ v. eqb v w) l ≡ elem w l
-any-elem w [] = refl
-any-elem w (v ∷ l) = ap₂ (λ (a b : Bool). a || b) (same v w) (any-elem w l)
-  where
-    same : (v w : ℕ) → eqb v w ≡ eqb w v
-    same v w =
-        by (eqb v w)
-        (λ e. e ∙ sym (borrow.Author.Tests.eq-eqb w v (sym (borrow.Author.Tests.eqb-true v w e))))
-        (λ e. e ∙ sym (borrow.Author.Tests.ne-eqb w v (λ q. borrow.Author.Tests.eqb-false v w e (sym q))))
+any-elem w l = any-alike (λ v. eqb v w) (eqb w) (λ v. eqb-flip v w) l
 
 has-at : (D : ℕ → Row) (r : Row) (w : ℕ) → w < 200 → hasWord (resourcesAt D r) w ≡ has r w
 unfolding resourcesAt
@@ -169,8 +164,8 @@ pub record United (D G E : ℕ → Row) (l : List Entry) (n : Entry) : Type 0 wh
 onward : (D G E : ℕ → Row) (a : Entry) (l : List Entry) (n : Entry) → ((w : ℕ) → has (a .words) w ≡ true → covers l w ≡ false) → United D G E (a ∷ l) n → United D G E l (diff n a)
 onward D G E a l n h u =
     record {
-      kept = λ w b c e. u .kept w b (or-right (has (a .words) w) (covers l w) c) (still w c ∙ sym (has-diff n a w) ∙ e);
-      both = λ w b c e. u .both w b (or-right (has (a .words) w) (covers l w) c) (still w c ∙ sym (has-diff n a w) ∙ e);
+      kept = λ w b c e. u .kept w b (or-right (has (a .words) w) c) (still w c ∙ sym (has-diff n a w) ∙ e);
+      both = λ w b c e. u .both w b (or-right (has (a .words) w) c) (still w c ∙ sym (has-diff n a w) ∙ e);
       new = λ w b c e.
           let q : (has (n .words) w && not (has (a .words) w)) ≡ true = sym (has-diff n a w) ∙ e in
           u .new w b (rw (not-right (has (n .words) w) (has (a .words) w) q) c) (and-left _ _ q);
@@ -187,17 +182,12 @@ pub same-tables : (names : List Name) (D E : ℕ → Row) (l : List Entry) → (
 same-tables names D E [] h = refl
 same-tables names D E (e ∷ l) h =
     ap₂ (λ (x : InheritedAnnotation) (y : List InheritedAnnotation). x ∷ y)
-    (read-tables names D E e (λ w b t. h w b (or-left (has (e .words) w) (covers l w) t)))
-    (same-tables names D E l (λ w b t. h w b (or-right (has (e .words) w) (covers l w) t)))
+    (read-tables names D E e (λ w b t. h w b (or-left (covers l w) t)))
+    (same-tables names D E l (λ w b t. h w b (or-right (has (e .words) w) t)))
 
 listed : (names : List Name) (E : ℕ → Row) (e : Entry) → readAll names E (unlessEmpty e) ≡ toList (readSome names E e)
 unfolding unlessEmpty readSome
 listed names E e = by (stands e) (λ p. rw p) (λ p. rw p)
-
-dedup-none : (l : List InheritedAnnotation) → dedupOne l none ≡ l
-unfolding dedupOne
-dedup-none [] = refl
-dedup-none (e ∷ l) = refl
 
 module _ (names : List Name) (asc : ascends nameBefore names ≡ true) (D G E : ℕ → Row) where
   -- a newcomer meets the first entry
@@ -208,10 +198,10 @@ module _ (names : List Name) (asc : ascends nameBefore names ≡ true) (D G E : 
   merge-step a l n s t u i =
       map-append (read names E) (unlessEmpty (diff a n)) (unlessEmpty (inter a n) ++ merge l (diff n a))
       ∙ ap₂ (λ (x y : List InheritedAnnotation). x ++ y)
-      (listed names E (diff a n) ∙ ap toList (sym (rest-is names asc D G E a n s (λ w b x y. u .kept w b (or-left (has (a .words) w) (covers l w) x) y))))
+      (listed names E (diff a n) ∙ ap toList (sym (rest-is names asc D G E a n s (λ w b x y. u .kept w b (or-left (covers l w) x) y))))
       (map-append (read names E) (unlessEmpty (inter a n)) (merge l (diff n a))
       ∙ ap₂ (λ (x y : List InheritedAnnotation). x ++ y)
-      (listed names E (inter a n) ∙ ap toList (sym (both-is names asc D G E a n s (λ w b x y. u .both w b (or-left (has (a .words) w) (covers l w) x) y))))
+      (listed names E (inter a n) ∙ ap toList (sym (both-is names asc D G E a n s (λ w b x y. u .both w b (or-left (covers l w) x) y))))
       (i ∙ ap (dedupOne (readAll names D l)) (sym (rest-is names asc G D G n a t (λ w b x y. refl)))))
 
   -- a newcomer that may have nothing left meets entries with words

@@ -9,7 +9,8 @@ use borrow.Author.Tests.{ltb-true, not-false}
 use lib.Dec.{ltb}
 use lib.ListN.{length, getD, set, length-set}
 use Rattle.lists.specs.Lists.{all, each, firstOf}
-use Rattle.ordering.specs.Lists.{by, never, or-false-left, or-false-right, firstOf-nil, tab, all-tab-not, any-tab-out, each-tab-nil, elem, below-in}
+use Rattle.lists.specs.Tests.{by, never, or-false-left, or-false-right}
+use Rattle.ordering.specs.Lists.{firstOf-nil, tab, all-tab-not, any-tab-out, each-tab-nil, elem, below-in}
 use Rattle.ordering.specs.Reading.{Parent, parentAt, howMany, listed, selfIn}
 use Rattle.ordering.specs.Rounds.{settled, isReady, free, next, final, final-rests}
 use Rattle.ordering.specs.declared.Parents.{Parents}

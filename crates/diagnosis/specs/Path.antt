@@ -9,7 +9,8 @@ use lib.Dec.{eqb}
 use lib.ListN.{length, getD, set}
 use lib.Seq.{getD-set-same, getD-set-other}
 use Rattle.lists.specs.Lists.{any}
-use Rattle.ordering.specs.Lists.{by, never, or-elim, or-false-both, any-none, firstOf-none, tab, all-tab-in, all-tab-of, any-tab-out, elem, below-one, below-split, each-tab-none}
+use Rattle.lists.specs.Tests.{by, never, or-elim, or-false-both}
+use Rattle.ordering.specs.Lists.{any-none, firstOf-none, tab, all-tab-in, all-tab-of, any-tab-out, elem, below-one, below-split, each-tab-none}
 use Rattle.ordering.specs.Reading.{Parent, parentAt, howMany, listed, selfIn}
 use Rattle.ordering.specs.Rounds.{settled, isReady, placed, stays, was, earlier}
 use Rattle.ordering.specs.declared.Parents.{Parents}
@@ -82,7 +83,7 @@ module _ (p : Parents) where
       (λ i l.
       let r = parent-in k t i n e l in
       ap not
-      (or-false-both _ _ (ap not (lt-ltb _ _ (earlier p k (parentAt p (8 * t + i) .place) r .0)))
+      (or-false-both (ap not (lt-ltb _ _ (earlier p k (parentAt p (8 * t + i) .place) r .0)))
       (by (getD on (parentAt p (8 * t + i) .place) false) (λ u. never r (c _ u)) (λ u. u))))) in
       rw (firstOf-none (bad p on) (tab (λ j. parentAt p (8 * t + j)) (howMany p t)) f)
       (each-tab-none (λ j. parentAt p (8 * t + j)) (λ (x : Parent). rows d p on (x .place)) (howMany p t)

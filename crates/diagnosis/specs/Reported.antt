@@ -14,8 +14,9 @@ use Rattle.definitions.specs.Packing.{rowBytes}
 use Rattle.definitions.specs.Answer.{overwrite}
 use Rattle.ordering.specs.Reading.{Reads}
 use Rattle.ordering.specs.declared.Parents.{Parents}
+use Rattle.emitting.specs.Emitting.{State, emit-all}
 use Rattle.diagnosis.specs.Rows.{bytes, orderRows}
-use Rattle.diagnosis.specs.Emit.{State, emit, emit-all}
+use Rattle.diagnosis.specs.Emit.{emit}
 use Rattle.diagnosis.specs.Same.{rows-are}
 
 -- the first rows up to the limit at the start of the slice and no other byte, how many these are, and whether there are more
@@ -37,7 +38,7 @@ each-take f g (suc n) (x ∷ a) (y ∷ b) e =
 
 module _ (p : Parents) (limit : ℕ) (old new : List ℕ) (n : ℕ) (h : 6 * limit ≤ length old) (e : _≡_ {A = State} (new, n) (emit limit (old, 0) (orderRows p))) where
   done : _≡_ {A = State} (new, n) (overwrite (each bytes (take limit (orderRows p))) old, min (limit + 1) (length (orderRows p)))
-  done = e ∙ emit-all limit old (orderRows p) h
+  done = e ∙ emit-all bytes (λ r. refl) limit old (orderRows p) h
 
   pub total : n ≡ min (limit + 1) (length (orderRows p))
   total = ap (λ (w : State). w .1) done

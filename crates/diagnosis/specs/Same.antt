@@ -8,6 +8,8 @@ use lib.Dec.{eqb, ltb}
 use lib.ListN.{length, getD, set, length-set, length-replicate}
 use borrow.Author.Tests.{eqb-true, eqb-false, lt-ltb, ltb-true, ltb-false, not-false, not-true}
 use Rattle.lists.specs.Lists.{any, null, filter, each, firstOf}
+use Rattle.lists.specs.Tests.{by, never, or-false-right}
+use Rattle.lists.specs.Appending.{each-map, map-each, map-map, filter-map, null-map, map-same, first-alike}
 use Rattle.definitions.specs.Records.{Name, TypeInfo}
 use Rattle.definitions.specs.Records as records
 use Rattle.definitions.specs.Orders.{elemName}
@@ -16,7 +18,7 @@ use Rattle.definitions.specs.Order.{isSelf}
 use Rattle.definitions.specs.OrderRows as rules
 use Rattle.definitions.specs.OrderRows.{typeNamed, isBad, badRow, findCyclesOrBadTypes}
 use Rattle.definitions.specs.Packing.{nameBytes, rowBytes}
-use Rattle.ordering.specs.Lists.{by, never, or-false-right, filter-same, each-same, any-not, each-map, map-each, map-map, map-same, filter-map, firstOf-map, firstOf-same, firstOf-holds, firstOf-nil, null-map, elem, below, below-all-lt}
+use Rattle.ordering.specs.Lists.{filter-same, each-same, any-not, firstOf-map, firstOf-holds, firstOf-nil, elem, below, below-all-lt}
 use Rattle.ordering.specs.Reading.{Parent, listed, selfIn, typeAt, placeIn, firstWord, secondWord, parentIn, isName, Reads}
 use Rattle.ordering.specs.Rounds.{placed, final}
 use Rattle.ordering.specs.Names.{unplaced, place-same, types-are, named-yes, named-no, self-is, self-lists, passes-are, last-waiting}
@@ -52,7 +54,7 @@ module _ (p : Parents) (m : TypeMap) (r : Reads p m) where
       ap (λ (l : List Name). map rowBytes (map (rules.parentRow 1 (typeAt m t)) l))
       (filter-same isName (isSelf m) (λ n. selfIn p (parentIn m n)) (typeAt m t .parents) (r .types t h .names) (self-is p m r))
       ∙ map-map rowBytes (rules.parentRow 1 (typeAt m t)) (filter (λ n. selfIn p (parentIn m n)) (typeAt m t .parents))
-      ∙ map-same (λ n. rowBytes (rules.parentRow 1 (typeAt m t) n)) (λ n. bytes (parentRow 1 p t (parentIn m n))) (filter (λ n. selfIn p (parentIn m n)) (typeAt m t .parents)) (λ n. row-is 1 t n h)
+      ∙ map-same (λ n. rowBytes (rules.parentRow 1 (typeAt m t) n)) (λ n. bytes (parentRow 1 p t (parentIn m n))) (filter (λ n. selfIn p (parentIn m n)) (typeAt m t .parents)) (λ n i. row-is 1 t n h)
       ∙ sym (map-map (λ q. bytes (parentRow 1 p t q)) (parentIn m) (filter (λ n. selfIn p (parentIn m n)) (typeAt m t .parents)))
       ∙ ap (map (λ q. bytes (parentRow 1 p t q))) (sym (filter-map (selfIn p) (parentIn m) (typeAt m t .parents)) ∙ ap (filter (selfIn p)) (sym (r .types t h .parents)))
       ∙ sym (map-map bytes (parentRow 1 p t) (filter (selfIn p) (listed p t)))
@@ -151,7 +153,7 @@ module _ (p : Parents) (m : TypeMap) (r : Reads p m) where
       let ns : List Name = firstOf (isBad m way) ps in
       let e : firstOf (bad p on) (listed p t) ≡ map (parentIn m) ns =
       ap (firstOf (bad p on)) (r .types t h .parents) ∙ firstOf-map (bad p on) (parentIn m) ps
-      ∙ ap (map (parentIn m)) (firstOf-same (λ n. bad p on (parentIn m n)) (isBad m way) ps (λ n. sym (bad-is on way w n))) in
+      ∙ ap (map (parentIn m)) (first-alike (λ n. bad p on (parentIn m n)) (isBad m way) (λ n. sym (bad-is on way w n)) ps) in
       answers way t ns (each (λ n. each (findCyclesOrBadTypes k m way) (typeNamed m n)) ps) (each (λ (q : Parent). rows k p on (q .place)) (listed p t))
       (λ z.
       later-rows k (rows-found k) on way (length-set flags t true ∙ l) w ps (firstOf-nil (isBad m way) ps z)

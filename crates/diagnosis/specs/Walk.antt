@@ -8,8 +8,10 @@ use borrow.Author.Tests.{lt-ltb, ltb-true, ltb-false, not-false}
 use lib.Dec.{ltb}
 use lib.ListN.{length, getD, set, getD-replicate, length-replicate, List·getD-eq-default}
 use Rattle.lists.specs.Lists.{any, null, each, firstOf, placeOf, filter}
-use Rattle.ordering.specs.Lists.{by, never, or-false-left, or-false-right, firstOf-placed, firstOf-beyond, firstOf-nil, any-tab-out, tab, tab-length, tab-at, filter-tab-yes, filter-tab-no, map-append, null-nil, each-append, elem, below, below-all, below-yes, below-no}
-use Rattle.ordering.specs.Reading.{Parent, parentAt, howMany, listed, Valid, placesOf, selfIn}
+use Rattle.lists.specs.Tests.{by, never, or-false-left, or-false-right, null-nil}
+use Rattle.lists.specs.Appending.{map-append, each-append}
+use Rattle.ordering.specs.Lists.{firstOf-placed, firstOf-beyond, firstOf-nil, any-tab-out, tab, tab-at, filter-tab-yes, filter-tab-no, elem, below, below-all, below-yes, below-no}
+use Rattle.ordering.specs.Reading.{Parent, parentAt, howMany, listed, Valid, placesOf, selfIn, listed-length}
 use Rattle.ordering.specs.Rounds.{round, placed, listsSelf, rests, earlier}
 use Rattle.ordering.specs.declared.Parents.{Parents}
 use Rattle.ordering.specs.declared.Placed.{Placed}
@@ -31,10 +33,6 @@ pub record At (p : Parents) (out : Placed) (t : ℕ) (path : List Bool) : Type 0
   pub here : getD path t false ≡ false
   pub left : elem t (placesOf out) ≡ false
   pub others : (x : ℕ) → getD path x false ≡ true → elem x (placesOf out) ≡ false
-
-pub listed-length : (p : Parents) (t : ℕ) → length (listed p t) ≡ howMany p t
-unfolding listed
-listed-length p t = tab-length (λ i. parentAt p (8 * t + i)) (howMany p t)
 
 pub listed-at : (p : Parents) (t i : ℕ) (d : Parent) → i < howMany p t → getD (listed p t) i d ≡ parentAt p (8 * t + i)
 unfolding listed

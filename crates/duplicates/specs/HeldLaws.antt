@@ -9,10 +9,10 @@ use borrow.Author.Tests.{ne-eqb, eq-eqb, eqb-true, eqb-false, lt-ltb, le-ltb}
 use lib.Dec.{eqb, ltb}
 use lib.ListN.{length, getD, set, length-set}
 use lib.Seq
-use Rattle.lists.specs.Lists.{any, null, keep, sameList, filter}
+use Rattle.lists.specs.Lists.{any, null, keep, sameList}
 use Rattle.lists.specs.Tests.{by, never, not-so}
 use Rattle.lists.specs.Lexicographic.{same-numbers}
-use Rattle.rows.specs.Lists.{any-append, filter-append}
+use Rattle.lists.specs.Appending.{any-append}
 use Rattle.rows.specs.declared.Row.{Row}
 use Rattle.definitions.specs.Records.{Name, Mark, Item, synthesized, extension}
 use Rattle.definitions.specs.Orders.{sameName, lookUp, dotted}
@@ -20,10 +20,9 @@ use Rattle.definitions.specs.Map.{Declaration}
 use Rattle.definitions.specs.Making.{declared, createSyntheticResource, extensionLine, sameItem}
 use Rattle.definitions.specs.Synthesis.{withMaking}
 use Rattle.fields.specs.Fields.{optional, twoWords}
-use Rattle.fields.specs.Tabulate.{tabulate}
 use Rattle.table.specs.declared.Table.{Table}
 use Rattle.table.specs.Table.{nameAt, declarationAt, tableMap, Sound, Finds, typeAt}
-use Rattle.table.specs.TableLaws.{declared-at}
+use Rattle.table.specs.TableLaws.{declared-at, none-there}
 use Rattle.synthetic.specs.Made.{Fits, created}
 use Rattle.store.specs.Store.{rowAt, putRow}
 use Rattle.store.specs.StoreLaws.{row-long, row-keeps, row-there, row-same}
@@ -173,17 +172,12 @@ module _ (s : List ℕ) (n word : ℕ) (doms : Row) (ps : ℕ) where
 tail-longer : (b d w : ℕ) → (d ≡ 255 → ⊥) → sameName (optional b) (optional d ++ (w ∷ [])) ≡ false
 tail-longer b d w h = rw (ne-eqb d 255 h) (by (eqb b 255) (λ e. rw e) (λ e. rw e (and-false (eqb b d))))
 
-no-match : {A : Type 0} (f : A → Bool) (g : ℕ → A) (n : ℕ) → ((i : ℕ) → f (g i) ≡ false) → filter f (tabulate g n) ≡ []
-unfolding tabulate
-no-match f g zero h = refl
-no-match f g (suc n) h = rw (filter-append f (tabulate g n) (g n ∷ []), no-match f g n h, h n)
-
 -- a name of three words is not declared
 pub three-words : (t : Table) (place word : ℕ) → (getD (t .seconds) place 0 ≡ 255 → ⊥) → declared (tableMap t) (dotted (nameAt t place) word) ≡ []
 unfolding tableMap lookUp declarationAt
 three-words t place word h =
-    no-match (λ (D : Declaration). sameName (D .name) (dotted (nameAt t place) word)) (declarationAt t) (t .count)
-    (λ i.
+    none-there (λ (D : Declaration). sameName (D .name) (dotted (nameAt t place) word)) (declarationAt t) (t .count)
+    (λ i _.
     ap (λ x. eqb (getD (t .firsts) i 0) (getD (t .firsts) place 0) && x) (tail-longer (getD (t .seconds) i 0) (getD (t .seconds) place 0) word h)
     ∙ and-false (eqb (getD (t .firsts) i 0) (getD (t .firsts) place 0)))
 

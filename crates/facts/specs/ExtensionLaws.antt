@@ -9,14 +9,13 @@ use lib.Dec.{eqb, ltb}
 use lib.ListN.{length, getD, set, length-set}
 use lib.Seq
 use Rattle.lists.specs.Tests.{by}
+use Rattle.lists.specs.Tabulating.{tabulate, places, tabulate-same, tabulate-in}
 use Rattle.fields.specs.Fields.{twoWords, ofNames}
 use Rattle.fields.specs.FieldLaws.{length-ofNames}
-use Rattle.fields.specs.Tabulate.{tabulate, places, tabulate-same}
 use Rattle.types.specs.Extensions.{extensionOf, zeroExtension, ofExtensions}
 use Rattle.types.specs.TypeLaws.{length-ofExtensions}
 use Rattle.types.specs.declared.Extension.{Extension}
 use Rattle.types.specs.declared.Extensions.{Extensions}
-use Rattle.lookups.specs.TableLaws.{tabulate-in}
 use Rattle.facts.specs.Facts.{byteAt, eightFrom, extensionIn, extensionsIn}
 use Rattle.facts.specs.FactLaws.{
   extensions-count,

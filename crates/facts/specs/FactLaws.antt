@@ -7,12 +7,11 @@ use native.Mathlib.Omega.{arith}
 use borrow.Author.Tests.{lt-ltb}
 use lib.Dec.{eqb, ltb}
 use lib.ListN.{getD}
-use Rattle.fields.specs.Tabulate.{tabulate}
+use Rattle.lists.specs.Tabulating.{getD-tabulate}
 use Rattle.definitions.specs.Records.{Name}
 use Rattle.fields.specs.Fields.{twoWords}
 use Rattle.types.specs.Extensions.{zeroExtension}
 use Rattle.table.specs.Table.{zeroMarks, nameAt, Finds}
-use Rattle.lookups.specs.TableLaws.{tabulate-at}
 use Rattle.facts.specs.Facts.{byteAt, marksIn, eightFrom, extensionIn, extensionsIn, tableIn}
 
 -- ---- the head
@@ -33,29 +32,29 @@ extensions-in f = refl
 
 pub first-in : (f : List ℕ) (i : ℕ) → i < 65 → getD (tableIn f .firsts) i 0 ≡ byteAt f (20 * i)
 unfolding tableIn
-first-in f i h = tabulate-at (λ k. byteAt f (20 * k)) 65 i 0 h
+first-in f i h = getD-tabulate (λ k. byteAt f (20 * k)) 65 i 0 h
 
 pub second-in : (f : List ℕ) (i : ℕ) → i < 65 → getD (tableIn f .seconds) i 0 ≡ byteAt f (20 * i + 1)
 unfolding tableIn
-second-in f i h = tabulate-at (λ k. byteAt f (20 * k + 1)) 65 i 0 h
+second-in f i h = getD-tabulate (λ k. byteAt f (20 * k + 1)) 65 i 0 h
 
 pub variant-in : (f : List ℕ) (i : ℕ) → i < 65 → getD (tableIn f .variants) i 0 ≡ byteAt f (20 * i + 2)
 unfolding tableIn
-variant-in f i h = tabulate-at (λ k. byteAt f (20 * k + 2)) 65 i 0 h
+variant-in f i h = getD-tabulate (λ k. byteAt f (20 * k + 2)) 65 i 0 h
 
 pub virtual-in : (f : List ℕ) (i : ℕ) → i < 65 → getD (tableIn f .virtuals) i false ≡ eqb (byteAt f (20 * i + 3)) 1
 unfolding tableIn
-virtual-in f i h = tabulate-at (λ k. eqb (byteAt f (20 * k + 3)) 1) 65 i false h
+virtual-in f i h = getD-tabulate (λ k. eqb (byteAt f (20 * k + 3)) 1) 65 i false h
 
 pub trait-in : (f : List ℕ) (i : ℕ) → i < 65 → getD (tableIn f .traits) i false ≡ eqb (byteAt f (20 * i + 4)) 1
 unfolding tableIn
-trait-in f i h = tabulate-at (λ k. eqb (byteAt f (20 * k + 4)) 1) 65 i false h
+trait-in f i h = getD-tabulate (λ k. eqb (byteAt f (20 * k + 4)) 1) 65 i false h
 
 -- ---- their marks
 
 pub marks-in : (f : List ℕ) (i : ℕ) → i < 65 → getD (tableIn f .marks) i zeroMarks ≡ marksIn f i
 unfolding tableIn
-marks-in f i h = tabulate-at (marksIn f) 65 i zeroMarks h
+marks-in f i h = getD-tabulate (marksIn f) 65 i zeroMarks h
 
 pub marks-count : (f : List ℕ) (i : ℕ) → marksIn f i .count ≡ byteAt f (20 * i + 5)
 unfolding marksIn
@@ -63,11 +62,11 @@ marks-count f i = refl
 
 pub derive-in : (f : List ℕ) (i k : ℕ) → k < 7 → getD (marksIn f i .derives) k 0 ≡ byteAt f (20 * i + 6 + k)
 unfolding marksIn
-derive-in f i k h = tabulate-at (λ n. byteAt f (20 * i + 6 + n)) 7 k 0 h
+derive-in f i k h = getD-tabulate (λ n. byteAt f (20 * i + 6 + n)) 7 k 0 h
 
 pub tag-in : (f : List ℕ) (i k : ℕ) → k < 7 → getD (marksIn f i .tags) k 0 ≡ byteAt f (20 * i + 13 + k)
 unfolding marksIn
-tag-in f i k h = tabulate-at (λ n. byteAt f (20 * i + 13 + n)) 7 k 0 h
+tag-in f i k h = getD-tabulate (λ n. byteAt f (20 * i + 13 + n)) 7 k 0 h
 
 -- ---- the extensions
 
@@ -77,7 +76,7 @@ extensions-count f = refl
 
 pub extension-in : (f : List ℕ) (j : ℕ) → j < 32 → getD (extensionsIn f .items) j zeroExtension ≡ extensionIn f j
 unfolding extensionsIn
-extension-in f j h = tabulate-at (extensionIn f) 32 j zeroExtension h
+extension-in f j h = getD-tabulate (extensionIn f) 32 j zeroExtension h
 
 pub extension-first : (f : List ℕ) (j : ℕ) → extensionIn f j .name .first ≡ byteAt f (1300 + 20 * j)
 unfolding extensionIn
@@ -97,7 +96,7 @@ parents-count f j = refl
 
 eight-at : (f : List ℕ) (p k : ℕ) → k < 8 → getD (eightFrom f p) k 0 ≡ byteAt f (p + k)
 eight-at f p k h =
-    tabulate-at (λ n. cond (ltb n 8) (byteAt f (p + n)) 0) 15 k 0 (omega arith)
+    getD-tabulate (λ n. cond (ltb n 8) (byteAt f (p + n)) 0) 15 k 0 (omega arith)
     ∙ ap (λ b. cond b (byteAt f (p + k)) 0) (lt-ltb k 8 h)
 
 pub parent-first : (f : List ℕ) (j k : ℕ) → k < 8 → getD (extensionIn f j .parents .first) k 0 ≡ byteAt f (1300 + 20 * j + 4 + k)

@@ -4,7 +4,7 @@ use mathlib.Core.List.{List}
 use Prim.Native.Nat.{ℕ, _+_, _*_}
 use lib.Dec.{eqb, ltb}
 use lib.ListN.{getD}
-use Rattle.fields.specs.Tabulate.{tabulate}
+use Rattle.lists.specs.Tabulating.{tabulate}
 use Rattle.records.specs.declared.Marks.{Marks}
 use Rattle.types.specs.declared.Extension.{Extension}
 use Rattle.types.specs.declared.Extensions.{Extensions}

@@ -4,14 +4,14 @@ use mathlib.Core.Path.{_≡_, refl, sym, ap, _∙_, subst}
 use Prim.Native.Nat.{ℕ, _≤_, _<_}
 use native.Mathlib.Omega.{arith}
 use lib.ListN.{length, getD}
+use Rattle.lists.specs.Tabulating.{tabulate-same}
 use Rattle.definitions.specs.Records as records
-use Rattle.fields.specs.Tabulate.{places, tabulate-same}
 use Rattle.types.specs.Types.{typeInfoOf, zeroType, ofTypes}
 use Rattle.types.specs.Extensions.{ofExtensions}
 use Rattle.types.specs.declared.Types.{Types}
 use Rattle.types.specs.declared.Extensions.{Extensions}
 use Rattle.lookups.specs.Listable.{Listable, Filled, Tabled}
-use Rattle.lookups.specs.TableLaws.{tabulate-in, table-is}
+use Rattle.lookups.specs.TableLaws.{table-is}
 use Rattle.facts.specs.Facts.{byteAt, extensionIn, extensionsIn, tableIn}
 use Rattle.facts.specs.FactLaws.{resource-in, count-in, extensions-in}
 use Rattle.facts.specs.Laying.{FewExtensions, Headed, TypesLaid}

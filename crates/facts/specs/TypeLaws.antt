@@ -9,8 +9,8 @@ use lib.Dec.{eqb}
 use lib.ListN.{length, getD, set}
 use lib.Seq
 use Rattle.lists.specs.Tests.{by}
+use Rattle.lists.specs.Tabulating.{tabulate, tabulate-same}
 use Rattle.definitions.specs.Map.{declarationOf}
-use Rattle.fields.specs.Tabulate.{tabulate, tabulate-same}
 use Rattle.records.specs.Marks.{markAs, ofMarks}
 use Rattle.records.specs.MarkLaws.{length-ofMarks}
 use Rattle.records.specs.declared.Marks.{Marks}

@@ -1,17 +1,20 @@
 -- Laws of the fields.
-use mathlib.Core.Bool.{Bool, true, false, _&&_}
+use mathlib.Core.Bool.{Bool, true, false, _&&_, cond, and-true}
 use mathlib.Core.List.{List, [], _∷_, _++_}
 use mathlib.Core.Path.{_≡_, refl, sym, ap, ap₂, _∙_}
 use Prim.Native.Nat.{ℕ, zero, suc, _+_, _^_, _≤_, _<_}
 use native.Mathlib.Omega.{arith}
-use borrow.Author.Tests.{leb-true, ltb-true, ne-eqb}
+use borrow.Author.Tests.{leb-true, ltb-true, eqb-true, eqb-false, eq-eqb, ne-eqb}
 use lib.Dec.{leb, ltb, eqb}
 use lib.ListN.{length, getD, set, drop}
 use lib.Seq
+use Rattle.lists.specs.Lists.{sameList}
+use Rattle.lists.specs.Tabulating.{tabulate-set, length-tabulate}
+use Rattle.lists.specs.Tests.{and-left, and-right}
+use Rattle.definitions.specs.Orders.{sameName}
 use Rattle.definitions.specs.Parse.{Parsed, done, refused, Parser, next, pure, refuse, choose, field, allowed, between, repeatOnto, repeat, counted}
 use Rattle.definitions.specs.Reading.{wordField}
 use Rattle.fields.specs.ParseLaws.{repeat-length}
-use Rattle.fields.specs.Tabulate.{tabulate, tabulate-set, length-tabulate}
 use Rattle.fields.specs.Fields.{ofByte, ofWordIfFlag, twoWords, nameOf, ofNames}
 use Rattle.fields.specs.declared.ByteRead.{ByteRead}
 use Rattle.fields.specs.declared.Name.{Name}
@@ -35,16 +38,21 @@ pub word-lt : (W : ℕ) (bs : List Bool) (v : ℕ) (rest : List Bool) → wordFi
 unfolding wordField
 word-lt W bs v rest e = ltb-true v W (allowed-holds 8 (λ w. ltb w W) bs v rest e)
 
-both : (a b : Bool) → a && b ≡ true → (a ≡ true) × (b ≡ true)
-both true true h = (refl, refl)
-both true false h = let z : _≡_ {A = ℕ} 0 1 = cc in absurd (omega arith)
-both false b h = let z : _≡_ {A = ℕ} 0 1 = cc in absurd (omega arith)
-
 -- a count is between its limits
 pub between-in : (n least most : ℕ) (bs : List Bool) (v : ℕ) (rest : List Bool) → between n least most bs ≡ done v rest → (least ≤ v) × (v ≤ most)
 between-in n least most bs v rest e =
-    let h = both (leb least v) (leb v most) (allowed-holds n (λ v. leb least v && leb v most) bs v rest e) in
-    (leb-true least v (h .0), leb-true v most (h .1))
+    let h = allowed-holds n (λ v. leb least v && leb v most) bs v rest e in
+    (leb-true least v (and-left (leb least v) (leb v most) h), leb-true v most (and-right (leb least v) (leb v most) h))
+
+-- names of words and of 255 are equal where both bytes are
+pub same-words : (a b c d : ℕ) → sameName (twoWords a b) (twoWords c d) ≡ (eqb a c && eqb b d)
+same-words a b c d = ap (λ (t : Bool). eqb a c && t) (go (eqb b 255) (eqb d 255) refl refl)
+  where
+    go : (p q : Bool) → eqb b 255 ≡ p → eqb d 255 ≡ q → sameList eqb (cond p [] (b ∷ [])) (cond q [] (d ∷ [])) ≡ eqb b d
+    go true true e f = sym (eq-eqb b d (eqb-true b 255 e ∙ sym (eqb-true d 255 f)))
+    go true false e f = sym (ne-eqb b d (λ g. eqb-false d 255 f (sym g ∙ eqb-true b 255 e)))
+    go false true e f = sym (ne-eqb b d (λ g. eqb-false b 255 e (g ∙ eqb-true d 255 f)))
+    go false false e f = and-true (eqb b d)
 
 -- one name more
 pub names-more : (t : Names) (n : Name) → t .count < length (t .first) → t .count < length (t .second) →

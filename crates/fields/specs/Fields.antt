@@ -4,8 +4,8 @@ use mathlib.Core.List.{List, [], _∷_}
 use Prim.Native.Nat.{ℕ}
 use lib.Dec.{eqb}
 use lib.ListN.{drop, getD}
+use Rattle.lists.specs.Tabulating.{tabulate}
 use Rattle.definitions.specs.Parse.{Parsed, done, refused}
-use Rattle.fields.specs.Tabulate.{tabulate}
 use Rattle.fields.specs.declared.Field.{Field}
 use Rattle.fields.specs.declared.ByteRead.{ByteRead}
 use Rattle.fields.specs.declared.Name.{Name}

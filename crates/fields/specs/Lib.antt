@@ -1,4 +1,3 @@
-pub mod Tabulate
 pub mod ParseLaws
 pub mod Fields
 pub mod FieldLaws

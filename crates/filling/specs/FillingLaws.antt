@@ -9,15 +9,16 @@ use lib.Bits.{bitOr}
 use lib.Dec.{eqb, ltb}
 use lib.Seq.{getD-set-same, getD-set-other}
 use lib.ListN.{length, getD, set, replicate, length-set}
-use Rattle.lists.specs.Tests.{by}
+use Rattle.lists.specs.Tests.{by, eqb-flip}
 use Rattle.lists.specs.Lists.{each}
+use Rattle.lists.specs.Places.{zero-at}
+use Rattle.lists.specs.Appending.{any-append}
 use Rattle.definitions.specs.Records.{Resource}
 use Rattle.definitions.specs.Items.{hasWord}
 use Rattle.fields.specs.Fields.{optional}
 use Rattle.rows.specs.declared.Row.{Row}
 use Rattle.rows.specs.Rows.{has, hasBit, limb}
-use Rattle.rows.specs.RowLaws.{bit-either, bit-one, one-shifted}
-use Rattle.rows.specs.Lists.{any-append}
+use Rattle.rows.specs.RowLaws.{bit-either, bit-one, one-shifted, part-past}
 use Rattle.types.specs.Types.{typeInfoOf}
 use Rattle.types.specs.declared.TypeInfo.{TypeInfo}
 use Rattle.store.specs.Store.{rowAt}
@@ -25,7 +26,6 @@ use Rattle.store.specs.StoreLaws.{row-same}
 use Rattle.ordering.specs.Reading.{typeAt}
 use Rattle.definitions.specs.Map.{TypeMap}
 use Rattle.above.specs.Above.{placeOfDom, hasDom}
-use Rattle.above.specs.Lists.{eqb-flip}
 use Rattle.above.specs.Steps.{has-empty}
 use Rattle.above.specs.Tables as tables
 use Rattle.giving.specs.Giving.{DomPlace, resourcesIf, givenBy, WordsGiven, DomsGiven}
@@ -43,13 +43,6 @@ part-at s at (suc zero) h = refl
 part-at s at (suc (suc zero)) h = refl
 part-at s at (suc (suc (suc zero))) h = refl
 part-at s at (suc (suc (suc (suc j)))) h = absurd (omega arith)
-
-part-past : (r : Row) (j : ℕ) → 4 ≤ j → limb r j ≡ 0
-part-past r zero h = absurd (omega arith)
-part-past r (suc zero) h = absurd (omega arith)
-part-past r (suc (suc zero)) h = absurd (omega arith)
-part-past r (suc (suc (suc zero))) h = absurd (omega arith)
-part-past r (suc (suc (suc (suc j)))) h = refl
 
 has-part : (r : Row) (i : ℕ) → has r i ≡ hasBit (limb r (i / 64)) (i % 64)
 unfolding has hasBit
@@ -148,7 +141,7 @@ adds-more s u v at us vs f g =
 
 -- ---- the rows of a type
 
-same-row : (s : List ℕ) (at : ℕ) → tables.rowAt s at ≡ rowAt s at
+pub same-row : (s : List ℕ) (at : ℕ) → tables.rowAt s at ≡ rowAt s at
 unfolding tables.rowAt rowAt
 same-row s at = refl
 
@@ -181,11 +174,6 @@ fills-all s a t n u e b f =
     are = given-are true t ∙ ap (λ (k : ℕ). each (resourcesIf true) (firstOnes (t .annotations .items) k)) (sym e)
 
 -- ---- empty rows
-
-zero-at : (n i : ℕ) → _≡_ {A = ℕ} (getD (replicate n 0) i 0) 0
-zero-at zero i = refl
-zero-at (suc n) zero = refl
-zero-at (suc n) (suc i) = zero-at n i
 
 -- in a table of zeros all are
 pub blank-zeros : (n a : ℕ) → Blank (replicate n 0) a

@@ -5,12 +5,12 @@ use mathlib.Core.Path.{_≡_}
 use Prim.Native.Nat.{ℕ, _<_}
 use lib.Dec.{eqb}
 use lib.ListN.{getD}
+use Rattle.lists.specs.Tabulating.{tabulate}
 use Rattle.definitions.specs.Records.{Resource}
 use Rattle.definitions.specs.Records as records
 use Rattle.definitions.specs.Checks.{resourcesOf}
 use Rattle.definitions.specs.Map.{declarationOf}
 use Rattle.definitions.specs.Items.{associateOf, owned, given, hasWord}
-use Rattle.fields.specs.Tabulate.{tabulate}
 use Rattle.fields.specs.Fields.{optional}
 use Rattle.records.specs.declared.Annotation.{Annotation}
 use Rattle.types.specs.Types.{typeInfoOf}

@@ -4,40 +4,27 @@ use mathlib.Core.List.{List, [], _∷_, _++_, map}
 use mathlib.Core.Path.{_≡_, refl, sym, ap, _∙_, subst}
 use Prim.Native.Nat.{ℕ, zero, suc, _+_, _≤_, _<_}
 use native.Mathlib.Omega.{arith}
-use borrow.Author.Tests.{eq-eqb, ne-eqb, eqb-true}
+use borrow.Author.Tests.{eq-eqb, ne-eqb}
 use lib.Dec.{eqb}
 use lib.ListN.{length, getD}
 use Rattle.lists.specs.Lists.{In, any, each}
 use Rattle.lists.specs.Tests.{by, never}
+use Rattle.lists.specs.Tabulating.{tabulate-in, map-tabulate, tabulate, places, length-tabulate}
+use Rattle.lists.specs.Appending.{any-append, filter-append}
 use Rattle.definitions.specs.Records.{Resource}
 use Rattle.definitions.specs.Records as records
 use Rattle.definitions.specs.Map.{declarationOf}
 use Rattle.definitions.specs.Items.{owned, given, ofWord, hasWord}
 use Rattle.line_laws.specs.Within.{AnnotationWithin, TypeWithin}
-use Rattle.fields.specs.Tabulate.{tabulate, places, length-tabulate}
 use Rattle.fields.specs.Fields.{twoWords, ofNames}
 use Rattle.records.specs.Annotations.{resourceOf, annotationAs, annotationOf, zeroAnnotation, ofAnnotations}
 use Rattle.records.specs.declared.Annotation.{Annotation}
 use Rattle.types.specs.Types.{typeInfoOf}
 use Rattle.types.specs.declared.TypeInfo.{TypeInfo}
-use Rattle.rows.specs.Lists.{any-append, filter-append}
 use Rattle.above.specs.Above.{placeOfDom, hasDom}
 use Rattle.giving.specs.Giving.{counted, resourcesIf, listedAt, listedTo, DomPlace, givenBy}
 
 -- ---- what an annotation lists
-
-tabulate-in : {A : Type 0} (f : ℕ → A) (n i : ℕ) → i < n → In (f i) (tabulate f n)
-unfolding tabulate
-tabulate-in f zero i h = absurd (omega arith)
-tabulate-in f (suc n) i h =
-    by (eqb i n)
-    (λ e. mathlib.Core.List.Memᴰ·append-right (tabulate f n) (mathlib.Core.List.List·Memᴰ·head (ap f (eqb-true i n e))))
-    (λ e. mathlib.Core.List.Memᴰ·append-left (f n ∷ []) (tabulate-in f n i (omega (arith, borrow.Author.Tests.eqb-false i n e))))
-
-map-tabulate : {A B : Type 0} (f : A → B) (g : ℕ → A) (n : ℕ) → map f (tabulate g n) ≡ tabulate (λ i. f (g i)) n
-unfolding tabulate
-map-tabulate f g zero = refl
-map-tabulate {A} {B} f g (suc n) = Rattle.rows.specs.Lists.map-append f (tabulate g n) (g n ∷ []) ∙ ap (λ (l : List B). l ++ (f (g n) ∷ [])) (map-tabulate f g n)
 
 listed-is : (a : Annotation) → map resourceOf (ofNames (record { count = a .count; first = a .words; second = a .doms })) ≡ listedTo a (a .count)
 unfolding ofNames
@@ -119,10 +106,6 @@ listed-below a e w i h = w .resource (listedAt a i) (subst (In (listedAt a i)) (
 
 -- ---- the annotations of a type
 
-pub each-more : {A B : Type 0} (f : A → List B) (l : List A) (x : A) → each f (l ++ x ∷ []) ≡ each f l ++ f x
-each-more f [] x = mathlib.Core.List.append-nil (f x)
-each-more {A} {B} f (y ∷ l) x = ap (λ (k : List B). f y ++ k) (each-more f l x) ∙ sym (mathlib.Core.List.append-assoc (f y) (each f l) (f x))
-
 -- the annotation at i, and the first n as the definitions have them
 abbrev pub itemAt : List Annotation → ℕ → Annotation
 itemAt l i = getD l i zeroAnnotation
@@ -140,8 +123,8 @@ given-are true t = refl
 given-are false t = refl
 
 module _ (t : TypeInfo) (w : TypeWithin 200 (typeInfoOf t)) where
-  pub at-most : t .annotations .count ≤ 12
-  at-most = omega (arith, w .annotations, ap length (annotations-are t), length-tabulate (λ i. annotationOf (itemAt (t .annotations .items) i)) (t .annotations .count))
+  pub annotations-few : t .annotations .count ≤ 12
+  annotations-few = omega (arith, w .annotations, ap length (annotations-are t), length-tabulate (λ i. annotationOf (itemAt (t .annotations .items) i)) (t .annotations .count))
 
   pub item-within : (i : ℕ) → i < t .annotations .count → AnnotationWithin 200 (annotationOf (itemAt (t .annotations .items) i))
   item-within i h = w .annotation (annotationOf (itemAt (t .annotations .items) i)) (subst (In (annotationOf (itemAt (t .annotations .items) i))) (sym (annotations-are t)) (tabulate-in (λ (j : ℕ). annotationOf (itemAt (t .annotations .items) j)) (t .annotations .count) i h))

@@ -6,12 +6,12 @@ use Prim.Native.Nat.{ℕ, zero, suc, _<_}
 use native.Mathlib.Omega.{arith}
 use lib.ListN.{replicate}
 use Rattle.lists.specs.Tests.{cons-elim}
+use Rattle.lists.specs.Tabulating.{tabulate, places}
 use Rattle.definitions.specs.Records.{Resource}
 use Rattle.definitions.specs.Records as records
 use Rattle.definitions.specs.Map.{declarationOf}
 use Rattle.definitions.specs.Items.{owned, given, hasWord}
 use Rattle.line_laws.specs.Within.{WordsWithin, AnnotationWithin, TypeWithin}
-use Rattle.fields.specs.Tabulate.{tabulate, places}
 use Rattle.fields.specs.Fields.{ofNames}
 use Rattle.records.specs.Annotations.{annotationAs, annotationOf, ofAnnotations}
 use Rattle.records.specs.Marks.{ofMarks}
@@ -56,10 +56,10 @@ pub sample-owned : owned (declarationOf (typeInfoOf sample)) ≡ resource 199 (1
 unfolding owned declarationOf typeInfoOf ofAnnotations places tabulate annotationOf annotationAs ofNames
 sample-owned = refl
 
-no-dom : WordsWithin 200 0 1 []
+pub no-dom : WordsWithin 200 0 1 []
 no-dom = record { least = omega arith; most = omega arith; below = λ w i. absurd (List·Memᴰ·not-nil i) }
 
-one-dom : (d : ℕ) → d < 200 → WordsWithin 200 0 1 (d ∷ [])
+pub one-dom : (d : ℕ) → d < 200 → WordsWithin 200 0 1 (d ∷ [])
 one-dom d h = record { least = omega arith; most = omega arith; below = λ w i. cons-elim i (λ e. rw e h) (λ j. absurd (List·Memᴰ·not-nil j)) }
 
 within-1 : AnnotationWithin 200 (records.associate (resource 199 (199 ∷ []) ∷ resource 0 [] ∷ []))

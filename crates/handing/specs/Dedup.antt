@@ -2,15 +2,14 @@
 use mathlib.Core.Bool.{Bool, true, _&&_, not}
 use mathlib.Core.List.{List, [], _∷_, _++_}
 use mathlib.Core.Option.{Option, none, some}
-use mathlib.Core.Path.{_≡_, refl}
+use mathlib.Core.Path.{_≡_, refl, _∙_}
 use Rattle.lists.specs.Lists.{all, null, include, setOf}
-use Rattle.lists.specs.Tests.{and-both}
-use Rattle.rows.specs.Lists.{by, and-left, and-right}
+use Rattle.lists.specs.Tests.{and-both, by, and-left, and-right}
+use Rattle.lists.specs.Appending.{all-append}
 use Rattle.definitions.specs.Records.{Name, AnnotationInfo}
 use Rattle.definitions.specs.Orders.{nameBefore}
 use Rattle.definitions.specs.Annotations.{intersection, difference}
 use Rattle.definitions.specs.Inherited.{InheritedAnnotation, underParents, sharedEntry, restEntry, toList, dedupOne, dedupOnto}
-use Rattle.dedup.specs.Lists.{all-append}
 
 -- there are names, all of them in S
 abbrev pub someIn : (Name → Bool) → List Name → Bool
@@ -46,7 +45,7 @@ module _ (S : Name → Bool) where
 
   both-in : (a b : List Name) → someIn S a ≡ true → someIn S b ≡ true → someIn S (a ++ b) ≡ true
   both-in [] b h k = k
-  both-in (x ∷ a) b h k = and-both {a = S x} {b = all S (a ++ b)} (and-left (S x) (all S a) h) (all-append S a b (and-right (S x) (all S a) h) (and-right (not (null b)) (all S b) k))
+  both-in (x ∷ a) b h k = and-both {a = S x} {b = all S (a ++ b)} (and-left (S x) (all S a) h) (all-append S a b ∙ and-both (and-right (S x) (all S a) h) (and-right (not (null b)) (all S b) k))
 
   under-in : (ps : List Name) (o : Option AnnotationInfo) → someIn S ps ≡ true → all (isFrom S) (toList (underParents ps o)) ≡ true
   under-in ps none h = refl
@@ -62,8 +61,10 @@ module _ (S : Name → Bool) where
       let a : isFrom S e ≡ true = and-left (isFrom S e) (all (isFrom S) l) h in
       let b : isFrom S n ≡ true = and-left (isFrom S n) true k in
       all-append (isFrom S) (toList (restEntry e n)) (toList (sharedEntry e n) ++ dedupOne l (restEntry n e))
+      ∙ and-both
       (under-in (e .parents) (difference (e .annotation) (n .annotation)) a)
       (all-append (isFrom S) (toList (sharedEntry e n)) (dedupOne l (restEntry n e))
+      ∙ and-both
       (under-in (setOf nameBefore (e .parents ++ n .parents)) (intersection (e .annotation) (n .annotation)) (set-in nameBefore (e .parents ++ n .parents) (both-in (e .parents) (n .parents) a b)))
       (one-from l (restEntry n e) (and-right (isFrom S e) (all (isFrom S) l) h) (under-in (n .parents) (difference (n .annotation) (e .annotation)) b)))
 

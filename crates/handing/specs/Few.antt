@@ -8,10 +8,10 @@ use borrow.Author.Tests.{eqb-true, ne-eqb}
 use lib.Dec.{eqb}
 use lib.ListN.{length, length-map}
 use Rattle.lists.specs.Lists.{In}
-use Rattle.lists.specs.Tests.{any-in, any-of}
+use Rattle.lists.specs.Tests.{any-in, any-of, by, never, and-left, and-right, eqb-flip}
+use Rattle.lists.specs.Appending.{any-map}
 use Rattle.rows.specs.Rows.{hasBit}
-use Rattle.rows.specs.Lists.{by, never, and-left, and-right, elem, below, between, between-same, between-none, any-map}
-use Rattle.inheritance.specs.OwnLaws.{eqb-turned}
+use Rattle.rows.specs.Lists.{elem, below, between, between-same, between-none}
 use Rattle.dedup.specs.declared.Entry.{Entry}
 use Rattle.ordering.specs.Lists.{tab-length}
 use Rattle.ordering.specs.Reading.{Parent, parentAt, howMany, listed}
@@ -60,7 +60,7 @@ module _ (p : Parents) (t : ℕ) (l : List Entry) (h : FromParents p t l) (e : E
         few-among (map (λ (q : Parent). q .place) (listed p t)) (hasBit (e .parents)) 0 n
             (λ i b.
             let x = any-of (λ (q : Parent). eqb (q .place) i) (listed p t) (h .only e k i b) in
-            any-map (eqb i) (λ (q : Parent). q .place) (listed p t) ∙ any-in (λ (q : Parent). eqb i (q .place)) (x .1) (eqb-turned i (x .0 .place) ∙ x .2)),
+            any-map (eqb i) (λ (q : Parent). q .place) (listed p t) ∙ any-in (λ (q : Parent). eqb i (q .place)) (x .1) (eqb-flip i (x .0 .place) ∙ x .2)),
       )
 
   -- they are types

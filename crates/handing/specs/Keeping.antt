@@ -6,8 +6,8 @@ use Prim.Native.Nat.{ℕ, zero, suc, _+_, _*_, _<_}
 use native.Mathlib.Omega.{arith}
 use lib.ListN.{length, length-map}
 use Rattle.lists.specs.Lists.{In, all, each}
+use Rattle.lists.specs.Tests.{and-left, and-right}
 use Rattle.rows.specs.Rows.{hasBit}
-use Rattle.rows.specs.Lists.{and-left, and-right}
 use Rattle.definitions.specs.Records.{TypeInfo, Sheet}
 use Rattle.definitions.specs.Map.{TypeMap, typeMapOf}
 use Rattle.definitions.specs.Inherited.{InheritedAnnotation, dedup, handedOn}
@@ -20,7 +20,7 @@ use Rattle.dedup.specs.declared.Inherited.{Inherited}
 use Rattle.dedup.specs.Reading.{inheritedOf}
 use Rattle.store.specs.Store.{Stores}
 use Rattle.ordering.specs.Lists.{tab, tab-length, tab-split, all-tab-of}
-use Rattle.ordering.specs.Reading.{Parent, parentAt, howMany, listed, typeAt}
+use Rattle.ordering.specs.Reading.{Parent, parentAt, howMany, listed, typeAt, listed-length}
 use Rattle.ordering.specs.declared.Parents.{Parents}
 use Rattle.held_map.specs.HeldMap.{HeldMap}
 use Rattle.held_laws.specs.HeldLaws.{parents-are}
@@ -60,17 +60,13 @@ got-all m (f ∷ fs) (P ∷ Ps) e a =
     h
     (got-all m fs Ps (omega (arith, e)) (and-right f (all (λ f. f) fs) a))
 
-pub length-listed : (p : Parents) (t : ℕ) → length (listed p t) ≡ howMany p t
-unfolding listed
-length-listed p t = tab-length (λ i. parentAt p (8 * t + i)) (howMany p t)
-
 -- with all flags every listed parent hands on
 all-handed : (s : Sheet) (ts : Types) (es : Extensions) (p : Parents) (t : ℕ) → HeldMap s ts es p → t < p .count
     → handedTo (typeMapOf s) p t 255 ≡ each (handedOn (typeMapOf s)) (listedParents (typeMapOf s) (typeAt (typeMapOf s) t))
 all-handed s ts es p t h l =
     let m = typeMapOf s in
     got-all m (tab (hasBit 255) (howMany p t)) (listedParents m (typeAt m t))
-    (tab-length (hasBit 255) (howMany p t) ∙ sym (ap length (parents-are s ts es p h t l) ∙ length-map (listed p t) (λ (q : Parent). typeAt m (q .place)) ∙ length-listed p t))
+    (tab-length (hasBit 255) (howMany p t) ∙ sym (ap length (parents-are s ts es p h t l) ∙ length-map (listed p t) (λ (q : Parent). typeAt m (q .place)) ∙ listed-length p t))
     (all-tab-of (hasBit 255) (λ f. f) (howMany p t) (λ i k. eight i (omega (arith, k, h .reads .types t l .most))))
 
 -- ---- stored

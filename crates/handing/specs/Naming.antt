@@ -9,13 +9,14 @@ use borrow.Author.Tests.{eq-eqb, eqb-true, lt-ltb}
 use lib.Dec.{eqb}
 use lib.ListN.{length, getD}
 use Rattle.lists.specs.Lists.{In, all, null, ascends}
-use Rattle.lists.specs.Tests.{any-in, null-not, all-in}
+use Rattle.lists.specs.Tests.{any-in, null-not, all-in, by, never, and-left, and-right, eqb-flip}
+use Rattle.lists.specs.Appending.{all-map, null-map}
 use Rattle.rows.specs.Rows.{hasBit}
 use Rattle.rows.specs.RowLaws.{bit-one}
-use Rattle.rows.specs.Lists.{by, never, and-left, and-right, elem, below, between-same, elem-between, elem-below}
+use Rattle.rows.specs.Lists.{elem, below, between-same, elem-between, elem-below}
 use Rattle.definitions.specs.Records.{Name}
 use Rattle.definitions.specs.Orders.{sameName, nameBefore}
-use Rattle.inheritance.specs.OwnLaws.{ascending-is, eqb-turned}
+use Rattle.inheritance.specs.OwnLaws.{ascending-is}
 use Rattle.dedup.specs.Reading.{namesAt}
 use Rattle.ordering.specs.Lists as lists
 use Rattle.handing.specs.Dedup.{someIn}
@@ -25,7 +26,7 @@ pub names-one : (names : List Name) (i : ℕ) → i < length names → namesAt n
 unfolding namesAt
 names-one names i h =
     ap (map (λ k. getD names k []))
-    (between-same (hasBit (2 ^ i)) (λ k. elem k (i ∷ [])) 0 (length names) (λ k a b. bit-one i k ∙ eqb-turned i k ∙ sym (or-false (eqb k i)))
+    (between-same (hasBit (2 ^ i)) (λ k. elem k (i ∷ [])) 0 (length names) (λ k a b. bit-one i k ∙ eqb-flip i k ∙ sym (or-false (eqb k i)))
     ∙ ascending-is (i ∷ []) (length names) refl alone)
   where
     alone : (w : ℕ) → elem w (i ∷ []) ≡ true → w < length names
@@ -66,7 +67,7 @@ unfolding namesAt
 some-bit S names ps h =
     let z : null (below (hasBit ps) (length names)) ≡ false =
     by (null (below (hasBit ps) (length names)))
-    (λ e. never h (rw (lists.null-map (λ i. getD names i []) (below (hasBit ps) (length names)), e)))
+    (λ e. never h (rw (null-map (λ i. getD names i []) (below (hasBit ps) (length names)), e)))
     (λ e. e) in
     let x = null-not (below (hasBit ps) (length names)) z in
     let e = in-elem (x .0) (below (hasBit ps) (length names)) (x .1) in
@@ -78,11 +79,11 @@ unfolding namesAt
 bit-named S names ps i h l b =
     let l₀ = below (hasBit ps) (length names) in
     let a : all S (map (λ i. getD names i []) l₀) ≡ true = and-right (not (null (map (λ i. getD names i []) l₀))) _ h in
-    lists.all-in (λ k. S (getD names k [])) l₀ i (sym (lists.all-map S (λ i. getD names i []) l₀) ∙ a)
+    lists.all-in (λ k. S (getD names k [])) l₀ i (sym (all-map S (λ i. getD names i []) l₀) ∙ a)
     (elem-between (hasBit ps) i 0 (length names) (omega arith) (omega arith) ∙ b)
 
 -- two places that have one number as their name
 pub one-number : (n i k : ℕ) → i < n → k < n → sameName (getD (numbers 0 n) i []) (getD (numbers 0 n) k []) ≡ true → eqb k i ≡ true
 one-number n i k h l e =
     let z : sameName (i ∷ []) (k ∷ []) ≡ true = rw (numbers-at n i h, numbers-at n k l) at e in
-    eqb-turned k i ∙ and-left (eqb i k) true z
+    eqb-flip k i ∙ and-left (eqb i k) true z

@@ -2,15 +2,17 @@
 use mathlib.Core.Bool.{Bool, true}
 use mathlib.Core.List.{List, [], _∷_, _++_, map, append-nil, append-assoc}
 use mathlib.Core.Path.{_≡_, refl, sym, ap, ap₂, _∙_}
-use Prim.Native.Nat.{ℕ, zero, suc, _+_, _*_, _<_, _≤_, _^_}
+use Prim.Native.Nat.{ℕ, suc, _+_, _*_, _<_, _≤_, _^_}
 use native.Mathlib.Numerals.{add-one}
 use native.Mathlib.Omega.{arith}
 use lib.Dec.{eqb}
-use lib.ListN.{length, getD}
+use lib.ListN.{length, getD, List·getD-map}
 use Rattle.lists.specs.Lists.{In, any, all, ascends, sort}
-use Rattle.lists.specs.Tests.{any-in, any-of, all-in}
+use Rattle.lists.specs.Tests.{any-in, any-of, all-in, by, and-both}
+use Rattle.lists.specs.Appending.{map-map, all-append, all-map}
+use Rattle.lists.specs.Tabulating.{places, tabulate}
+use Rattle.lists.specs.Lexicographic.{numbers-same}
 use Rattle.rows.specs.Rows.{hasBit}
-use Rattle.rows.specs.Lists.{by, map-append, map-map}
 use Rattle.definitions.specs.Records.{Name, TypeInfo, Sheet}
 use Rattle.definitions.specs.Records as records
 use Rattle.definitions.specs.Orders.{sameName, nameBefore}
@@ -20,7 +22,6 @@ use Rattle.definitions.specs.Synthesis.{onlyIf}
 use Rattle.synthesis_laws.specs.Statements.{Ordered}
 use Rattle.synthesis_laws.specs.Handing.{handed-step}
 use Rattle.visit_laws.specs.Trail.{gotFrom}
-use Rattle.fields.specs.Tabulate.{places, tabulate}
 use Rattle.records.specs.Annotations.{ofAnnotations}
 use Rattle.types.specs.Types.{typeInfoOf}
 use Rattle.types.specs.declared.Types.{Types}
@@ -40,7 +41,7 @@ use Rattle.own_associates.specs.Owning as owning
 use Rattle.own_associates.specs.Owning.{OwnOf}
 use Rattle.own_associates.specs.declared.OwnAssociates.{OwnAssociates}
 use Rattle.ordering.specs.Lists as lists
-use Rattle.ordering.specs.Lists.{tab}
+use Rattle.ordering.specs.Lists.{tab, map-tab}
 use Rattle.ordering.specs.Reading.{Parent, parentAt, howMany, listed, noType, typeAt}
 use Rattle.ordering.specs.declared.Parents.{Parents}
 use Rattle.ancestry.specs.Gathering.{parent-below}
@@ -103,12 +104,6 @@ takes-nothing h ts st place good fits a z =
 
 -- ---- a parent that is stored
 
-getD-map : {A B : Type 0} (f : A → B) (l : List A) (i : ℕ) (d : A) → getD (map f l) i (f d) ≡ f (getD l i d)
-getD-map f [] zero d = refl
-getD-map f [] (suc i) d = refl
-getD-map f (x ∷ l) zero d = refl
-getD-map f (x ∷ l) (suc i) d = getD-map f l i d
-
 length-names : (m : TypeMap) → length (namesOf m) ≡ length (m .types)
 length-names m = lib.ListN.length-map (m .types) (λ (T : TypeInfo). T .name)
 
@@ -119,7 +114,7 @@ hands-is s ts es p h st a l g =
     let m = typeMapOf s in
     let n : length (namesOf m) ≡ p .count = length-names m ∙ sym (h .reads .count) in
     let z : namesAt (namesOf m) (2 ^ a) ≡ typeAt m a .name ∷ [] =
-    names-one (namesOf m) a (omega (arith, n, l)) ∙ ap (λ (x : Name). x ∷ []) (getD-map (λ (T : TypeInfo). T .name) (m .types) a noType) in
+    names-one (namesOf m) a (omega (arith, n, l)) ∙ ap (λ (x : Name). x ∷ []) (List·getD-map (λ (T : TypeInfo). T .name) (m .types) a noType) in
     let k : a < ts .count = omega (arith, l, count-parents s ts es p h) in
     let o : Ordered s = record { readable = h .readable; order = h .order } in
     ap (λ (ps : List Name). handsUnder ps (typeInfoOf (itemAt ts a)) (inheritedOf (namesOf m) (g .list))) z
@@ -146,10 +141,6 @@ got-step m p t flags i =
     rw add-one
     (got-snoc m (tab (hasBit flags) i) (tab (λ j. typeAt m (placeAt p t j)) i) (hasBit flags i) (typeAt m (placeAt p t i))
     (lists.tab-length (hasBit flags) i ∙ sym (lists.tab-length (λ j. typeAt m (placeAt p t j)) i)))
-
-map-tab : {A B : Type 0} (f : A → B) (g : ℕ → A) (n : ℕ) → map f (tab g n) ≡ tab (λ i. f (g i)) n
-map-tab f g zero = refl
-map-tab {A} {B} f g (suc n) = map-append f (tab g n) (g n ∷ []) ∙ ap (λ (l : List B). l ++ (f (g n) ∷ [])) (map-tab f g n)
 
 -- the names of the listed parents
 abbrev namedBy : Parents → ℕ → List Name → Name → Bool
@@ -180,8 +171,8 @@ parent-in p t i g l e = lists.any-tab-at (λ i. parentAt p (8 * t + i)) g (howMa
 -- what a parent hands on stands under it
 under-from : (S : Name → Bool) (n : Name) (T : TypeInfo) (l : List InheritedAnnotation) → S n ≡ true → all (isFrom S) (handsUnder (n ∷ []) T l) ≡ true
 under-from S n T l e =
-    Rattle.dedup.specs.Lists.all-append (isFrom S) (map (λ a. record { annotation = asAssociate a; parents = n ∷ [] }) (ownAssociates T)) (map (under′ (n ∷ [])) l)
-    (own (ownAssociates T)) (rest l)
+    all-append (isFrom S) (map (λ a. record { annotation = asAssociate a; parents = n ∷ [] }) (ownAssociates T)) (map (under′ (n ∷ [])) l)
+    ∙ and-both (own (ownAssociates T)) (rest l)
   where
     own : (k : List records.AnnotationInfo) → all (isFrom S) (map (λ a. record { annotation = asAssociate a; parents = n ∷ [] }) k) ≡ true
     own [] = refl
@@ -211,7 +202,7 @@ module _ (p : Parents) (ts : Types) (st : List ℕ) (t flags i : ℕ) (out r : I
             let S = namedBy p t names in
             let z : namesAt names (2 ^ a) ≡ getD names a [] ∷ [] = names-one names a (omega (arith, n, q .low)) in
             let e : S (getD names a []) ≡ true =
-            parent-in p t i (λ (x : Parent). sameName (getD names a []) (getD names (x .place) [])) l (lists.same-list-refl (getD names a [])) in
+            parent-in p t i (λ (x : Parent). sameName (getD names a []) (getD names (x .place) [])) l (numbers-same {l = (getD names a [])} refl) in
             rw (k .dedup (q .list) (q .fits) (q .holds) names asc, z)
             (onto-from S (inheritedOf names out) (handsUnder (getD names a [] ∷ []) (typeInfoOf (itemAt ts a)) (inheritedOf names (q .list))) (c .parents names asc n)
             (under-from S (getD names a []) (typeInfoOf (itemAt ts a)) (inheritedOf names (q .list)) e));
@@ -259,7 +250,7 @@ reading : (p : Parents) (t : ℕ) (r : Inherited) (names : List Name) (e : Entry
 unfolding inheritedOf read
 reading p t r names e k a =
     all-in (λ (x : Entry). isFrom (namedBy p t names) (read names (tableOf (r .doms)) x)) {x = e} {l = entriesOf (r .list)}
-    (sym (lists.all-map (isFrom (namedBy p t names)) (read names (tableOf (r .doms))) (entriesOf (r .list))) ∙ a) k
+    (sym (all-map (isFrom (namedBy p t names)) (read names (tableOf (r .doms))) (entriesOf (r .list))) ∙ a) k
 
 -- the entries of r have the listed parents
 from-by : (p : Parents) (t : ℕ) (r : Inherited) → ((q : Parent) → In q (listed p t) → q .place < 64)

@@ -2,15 +2,16 @@
 use mathlib.Core.Bool.{Bool, true, false, _&&_, _||_, not, or-false, and-true, and-false}
 use mathlib.Core.List.{List, [], _∷_, _++_}
 use mathlib.Core.Path.{_≡_, refl, sym, ap, ap₂, _∙_}
-use Prim.Native.Nat.{ℕ, zero, suc, _+_, _*_, _%_, _^_, _≤_, _<_}
+use Prim.Native.Nat.{ℕ, _+_, _*_, _%_, _^_, _≤_, _<_}
 use native.Mathlib.Omega.{arith}
 use borrow.Author.Tests.{ne-eqb, eq-eqb}
 use lib.Bits.{bitOr}
 use lib.Dec.{eqb}
 use Rattle.lists.specs.Lists.{all}
+use Rattle.lists.specs.Appending.{all-append}
 use Rattle.rows.specs.Rows.{hasBit}
 use Rattle.rows.specs.RowLaws.{bit-either, bit-one, bit-none, one-shifted}
-use Rattle.ordering.specs.Lists.{tab, tab-step, all-append}
+use Rattle.ordering.specs.Lists.{tab, tab-step, tab-same}
 use Rattle.ordering.specs.declared.Parents.{Parents}
 use Rattle.hearing.specs.declared.Flags.{Flags}
 use Rattle.hearing.specs.Hearing.{handsAt, WithFlag, FlagsTo, WithOk}
@@ -29,11 +30,6 @@ ok-yes ok t a b e f h = rw (e, f) (record { bits = λ k. shifted ok t k h ∙ ap
 
 pub ok-no : (ok t : ℕ) (w : Bool) → w ≡ false → WithOk ok t w ok
 ok-no ok t w e = rw e (record { bits = λ k. sym (ap (λ (c : Bool). hasBit ok k || c) (and-false (eqb t k)) ∙ or-false (hasBit ok k)) })
-
--- tables that agree below n
-pub tab-same : {A : Type 0} (f g : ℕ → A) (n : ℕ) → ((i : ℕ) → i < n → f i ≡ g i) → tab f n ≡ tab g n
-tab-same f g zero h = refl
-tab-same f g (suc n) h = ap₂ (λ l x. l ++ (x ∷ [])) (tab-same f g n (λ i l. h i (omega arith))) (h n (omega arith))
 
 module _ (p : Parents) (t fresh ok : ℕ) where
   pub flags-none : FlagsTo p t fresh ok 0 (record { row = 0; «all» = true })

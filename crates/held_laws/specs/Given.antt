@@ -1,35 +1,25 @@
 -- What the types of a held map own and what their ancestors give keeps to the bounds that the rows ask.
-use mathlib.Core.List.{List, [], _∷_, _++_, List·Memᴰ·head, List·Memᴰ·append-cases}
+use mathlib.Core.List.{_++_, List·Memᴰ·append-cases}
 use mathlib.Core.Logic.{⊎-elim}
-use mathlib.Core.Path.{_≡_, refl}
 use Prim.Native.Nat.{ℕ, _<_}
-use native.Mathlib.Omega.{arith}
 use lib.ListN.{length}
 use Rattle.lists.specs.Lists.{In, each}
-use Rattle.definitions.specs.Records.{Dom, Resource, TypeInfo, Sheet}
+use Rattle.definitions.specs.Records.{Resource, TypeInfo, Sheet}
 use Rattle.definitions.specs.Map.{typeMapOf, declarationOf, mapOf}
 use Rattle.definitions.specs.Items.{owned, given, ancestors}
-use Rattle.line_laws.specs.Within.{WordsWithin, ResourceWithin}
-use Rattle.line_laws.specs.Ancestors.{ancestor-type}
+use Rattle.line_laws.specs.Within.{ResourceWithin}
 use Rattle.line_laws.specs.Associating.{owned-of, above-is, given-is}
 use Rattle.line_laws.specs.Bounds.{gives-within, own-within}
-use Rattle.annotations.specs.Reading.{domAt}
 use Rattle.types.specs.declared.Types.{Types}
 use Rattle.types.specs.declared.Extensions.{Extensions}
 use Rattle.ordering.specs.Reading.{typeAt}
 use Rattle.ordering.specs.declared.Parents.{Parents}
-use Rattle.above.specs.Above.{placeOfDom, Bounded}
+use Rattle.above.specs.Above.{Bounded}
+use Rattle.above.specs.Bounds.{bounded-if}
 use Rattle.held_map.specs.HeldMap.{HeldMap}
+use Rattle.laws.specs.Rounds.{ancestor-type}
 use Rattle.held_laws.specs.HeldLaws.{type-in}
 use Rattle.held_laws.specs.Limits.{resource-more}
-
-dom-within : (d : Dom) → WordsWithin 200 0 1 d → (placeOfDom d < 201) × (domAt (placeOfDom d) ≡ d)
-dom-within [] w = (omega arith, refl)
-dom-within (d ∷ []) w = (omega (arith, w .below d (List·Memᴰ·head refl)), refl)
-dom-within (d ∷ e ∷ l) w = absurd (omega (arith, w .most))
-
-pub bounded-if : (us : List Resource) → ((u : Resource) → In u us → ResourceWithin 200 u) → Bounded us
-bounded-if us h = record { word = λ u i. h u i .word; dom = λ u i. dom-within (u .dom) (h u i .dom) }
 
 module _ (s : Sheet) (ts : Types) (es : Extensions) (p : Parents) (h : HeldMap s ts es p) where
   more : {u : Resource} → ResourceWithin (length (s .words)) u → ResourceWithin 200 u

@@ -1,16 +1,16 @@
 -- What follows from `HeldMap s ts es p`: how many types there are, which stand at which place, their names and their parents, and that there is an order.
-use mathlib.Core.Bool.{true, false, _&&_, not}
+use mathlib.Core.Bool.{true, false}
 use mathlib.Core.List.{List, map, Memᴰ·map}
 use mathlib.Core.Path.{_≡_, sym, ap, _∙_, subst}
 use Prim.Native.Nat.{ℕ, _≤_, _<_}
 use native.Mathlib.Omega.{arith}
-use borrow.Author.Tests.{eqb-true}
-use lib.Dec.{eqb}
 use lib.ListN.{length, getD}
 use Rattle.lists.specs.Lists.{In, ascends}
-use Rattle.lists.specs.Tests.{by, never, and-left, and-right}
-use Rattle.lists.specs.Sorting.{perm-length}
+use Rattle.lists.specs.Sorting.{perm-length, sorted-ascends}
 use Rattle.lists.specs.Members as members
+use Rattle.lists.specs.Tabulating.{length-places, getD-places}
+use Rattle.lists.specs.Appending.{map-map, each-single}
+use Rattle.lists.specs.Places.{getD-in, sorted-places}
 use Rattle.definitions.specs.Records.{Name, TypeInfo, Sheet}
 use Rattle.definitions.specs.Orders.{nameBefore}
 use Rattle.definitions.specs.Checks.{namesTwice}
@@ -18,21 +18,18 @@ use Rattle.definitions.specs.Map.{typeMapOf}
 use Rattle.definitions.specs.Synthesis.{listedParents}
 use Rattle.definitions.specs.OrderRows.{typeNamed}
 use Rattle.laws.specs.Orders.{names-once, types-perm, types-is, types-apart, types-ascend}
-use Rattle.fields.specs.Tabulate.{length-places}
 use Rattle.types.specs.Types.{typeInfoOf, zeroType, ofTypes}
 use Rattle.types.specs.declared.Types.{Types}
 use Rattle.types.specs.declared.Extensions.{Extensions}
-use Rattle.ordering.specs.Lists.{map-map}
 use Rattle.ordering.specs.Reading.{Parent, listed, noType, typeAt, placeIn, parentIn}
 use Rattle.ordering.specs.Rounds.{final, listsSelf}
-use Rattle.ordering.specs.Names.{order-found, named-yes}
+use Rattle.ordering.specs.Names.{whole-order, no-self, named-yes}
 use Rattle.ordering.specs.Organized.{placesIn, Organized}
 use Rattle.ordering.specs.declared.Parents.{Parents}
 use Rattle.ordering.specs.declared.Order.{Order}
 use Rattle.ancestry.specs.Rows.{ParentsBelow, Ordered}
 use Rattle.ancestry.specs.Earlier.{all-below}
 use Rattle.held_map.specs.HeldMap.{HeldMap}
-use Rattle.held_laws.specs.Places.{getD-in, sorted-places, sorted-ascends, each-single, places-at}
 
 module _ (s : Sheet) (ts : Types) (es : Extensions) (p : Parents) (h : HeldMap s ts es p) where
   -- ---- how many
@@ -54,7 +51,7 @@ module _ (s : Sheet) (ts : Types) (es : Extensions) (p : Parents) (h : HeldMap s
 
   pub type-at : (i : ℕ) → i < ts .count → typeInfoOf (getD (ts .items) i zeroType) ≡ typeAt (typeMapOf s) i
   unfolding ofTypes
-  type-at i l = sym (places-at typeInfoOf zeroType (ts .items) (ts .count) i noType l) ∙ ap (λ (k : List TypeInfo). getD k i noType) (h .types)
+  type-at i l = sym (getD-places typeInfoOf zeroType (ts .items) (ts .count) i noType l) ∙ ap (λ (k : List TypeInfo). getD k i noType) (h .types)
 
   pub type-in-map : (i : ℕ) → i < ts .count → In (typeAt (typeMapOf s) i) (typeMapOf s .types)
   type-in-map i l = getD-in (typeMapOf s .types) noType i (omega (arith, count-types))
@@ -64,17 +61,14 @@ module _ (s : Sheet) (ts : Types) (es : Extensions) (p : Parents) (h : HeldMap s
 
   -- ---- the order
 
-  found : (not (listsSelf p) && eqb (length (final p)) (p .count)) ≡ true
-  found = sym (order-found p (typeMapOf s) (h .reads)) ∙ h .order
-
-  pub no-self : listsSelf p ≡ false
-  no-self = by (listsSelf p) (λ e. never (and-left (not (listsSelf p)) (eqb (length (final p)) (p .count)) found) (rw e)) (λ e. e)
+  pub none-self : listsSelf p ≡ false
+  none-self = no-self p (typeMapOf s) (h .reads) (h .order)
 
   pub all-placed : length (final p) ≡ p .count
-  all-placed = eqb-true _ _ (and-right (not (listsSelf p)) (eqb (length (final p)) (p .count)) found)
+  all-placed = whole-order p (typeMapOf s) (h .reads) (h .order)
 
   pub parents-below : (t : ℕ) → t < p .count → ParentsBelow p t
-  parents-below t l = all-below p all-placed no-self t l
+  parents-below t l = all-below p all-placed none-self t l
 
   -- an order that was found has every type
   pub ordered : (o : Order) → Organized p o → o .found ≡ true → Ordered p o
@@ -84,7 +78,7 @@ module _ (s : Sheet) (ts : Types) (es : Extensions) (p : Parents) (h : HeldMap s
         places = g .places;
         count = omega (arith, g .most, n, all-placed, lib.ListN.length-take (o .count) (o .items));
         whole = all-placed;
-        noSelf = no-self;
+        noSelf = none-self;
       }
 
   -- ---- the parents of a type

@@ -8,13 +8,13 @@ use native.Mathlib.Omega.{arith}
 use lib.ListN.{replicate}
 use Rattle.lists.specs.Lists.{insert, sort, include, setOf}
 use Rattle.lists.specs.Tests.{cons-elim}
+use Rattle.lists.specs.Tabulating.{tabulate, places}
 use Rattle.definitions.specs.Records as records
 use Rattle.definitions.specs.Orders.{nameBefore, bytesBefore}
 use Rattle.definitions.specs.Checks.{resourceBytes, selfBytes, badWords, namesTwice, keysTwice, wordsTwice, annotationsTwice, sameAnnotation, somethingTwice}
 use Rattle.definitions.specs.Map.{typeMapOf, numberOf}
 use Rattle.definitions.specs.Order.{isSelf, ready, pass, passes, lastPass, inheritsSelf, hasOrder}
 use Rattle.line_laws.specs.Within.{WordsWithin, ResourceWithin, AnnotationWithin, TypeWithin, ExtensionWithin, Within}
-use Rattle.fields.specs.Tabulate.{tabulate, places}
 use Rattle.fields.specs.Fields.{ofNames}
 use Rattle.records.specs.Annotations.{annotationAs, annotationOf, ofAnnotations}
 use Rattle.records.specs.Marks.{ofMarks}

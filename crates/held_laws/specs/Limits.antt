@@ -10,13 +10,13 @@ use lib.Dec.{eqb}
 use lib.ListN.{length, getD}
 use Rattle.lists.specs.Lists.{In, any, repeats}
 use Rattle.lists.specs.Tests.{by, or-false-left, or-false-right, any-not}
+use Rattle.lists.specs.Tabulating.{length-tabulate, length-places, places-in, tabulate-in}
 use Rattle.definitions.specs.Records.{Name, Resource, Sheet}
 use Rattle.definitions.specs.Records as records
 use Rattle.definitions.specs.Orders.{sameName}
 use Rattle.definitions.specs.Checks.{resourcesOf, namesTwice, keysTwice, wordsTwice, annotationsTwice, somethingTwice}
 use Rattle.definitions.specs.Map.{typeMapOf}
 use Rattle.line_laws.specs.Within.{WordsWithin, NameWithin, ResourceWithin, AnnotationWithin, TypeWithin, ExtensionWithin}
-use Rattle.fields.specs.Tabulate.{length-tabulate, length-places}
 use Rattle.fields.specs.Fields.{optional, twoWords, nameOf, ofNames}
 use Rattle.fields.specs.declared.Name as fields
 use Rattle.records.specs.Annotations.{annotationOf, zeroAnnotation, ofAnnotations}
@@ -31,11 +31,10 @@ use Rattle.types.specs.declared.Extensions.{Extensions}
 use Rattle.ordering.specs.Reading.{typeAt}
 use Rattle.ordering.specs.declared.Parents.{Parents}
 use Rattle.giving.specs.Giving.{counted, listedAt}
-use Rattle.giving.specs.GivingLaws.{counts-yes, few}
+use Rattle.giving.specs.GivingLaws.{counts-yes, few, annotations-few}
 use Rattle.own_associates.specs.Associates.{DomFits, AssociateRead}
 use Rattle.own_associates.specs.Owning.{IsOne, AllFit}
 use Rattle.held_map.specs.HeldMap.{HeldMap}
-use Rattle.held_laws.specs.Places.{places-in, tabulate-in}
 use Rattle.held_laws.specs.HeldLaws.{type-at, type-in}
 
 -- ---- what is below W is below anything from W on
@@ -97,10 +96,6 @@ module _ (x : TypeInfo) (w : TypeWithin 200 (typeInfoOf x)) where
   unfolding typeInfoOf ofNames
   parents-few = omega (arith, w .parents, length-tabulate (λ i. twoWords (getD (x .parents .first) i 0) (getD (x .parents .second) i 0)) (x .parents .count))
 
-  pub annotations-few : x .annotations .count ≤ 12
-  unfolding typeInfoOf ofAnnotations
-  annotations-few = omega (arith, w .annotations, length-places annotationOf zeroAnnotation (x .annotations .items) (x .annotations .count))
-
   pub marks-few : x .marks .count ≤ 7
   unfolding typeInfoOf ofMarks
   marks-few = omega (arith, w .marks, length-tabulate (λ i. markAs (getD (x .marks .derives) i 0) (getD (x .marks .tags) i 0)) (x .marks .count))
@@ -117,7 +112,7 @@ module _ (x : TypeInfo) (w : TypeWithin 200 (typeInfoOf x)) where
   pub all-fit : any (λ (a : records.Annotation). repeats (λ (u v : Resource). eqb (u .word) (v .word)) (resourcesOf a)) (typeInfoOf x .annotations) ≡ false → AllFit x
   all-fit once =
       record {
-        few = annotations-few;
+        few = annotations-few x w;
         each = λ i l.
             let a = getD (x .annotations .items) i zeroAnnotation in
             let j = annotation-in i l in

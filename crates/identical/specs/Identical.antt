@@ -9,16 +9,16 @@ use lib.Dec.{eqb}
 use lib.ListN.{length}
 use Rattle.lists.specs.Lists.{sameList}
 use Rattle.lists.specs.Tests.{by, never, not-so, and-right}
+use Rattle.lists.specs.Tabulating.{tabulate, tabulate-more, length-tabulate}
 use Rattle.definitions.specs.Orders.{sameName}
 use Rattle.fields.specs.Fields.{optional, twoWords}
-use Rattle.fields.specs.Tabulate.{tabulate, tabulate-more, length-tabulate}
 use Rattle.definitions.specs.Records.{Item, Mark, makelistMark, deriveMark}
 use Rattle.definitions.specs.Making.{sameMark, sameItem}
 use Rattle.making.specs.declared.Parent.{Parent}
 use Rattle.making.specs.declared.Making.{Making}
 use Rattle.making.specs.Making.{threeWords, parentOf, parentsOf, markAs, marksOf, itemOf}
 use Rattle.fields.specs.Fields.{nameOf}
-use Rattle.table.specs.TableLaws.{words-same}
+use Rattle.fields.specs.FieldLaws.{same-words}
 
 -- ---- parents
 
@@ -36,7 +36,7 @@ tail-same s t s′ t′ h h′ =
     (λ e.
     by (eqb s′ 255)
     (λ f. rw (e, f, ne-eqb s s′ (λ z. eqb-false s 255 e (z ∙ eqb-true s′ 255 f)), ap (λ x. eqb x 255) (h′ (eqb-true s′ 255 f))))
-    (λ f. rw (e, f) (words-same s t s′ t′)))
+    (λ f. rw (e, f) (same-words s t s′ t′)))
 
 -- the second word, which may be held as the third
 abbrev second : ℕ → ℕ → ℕ

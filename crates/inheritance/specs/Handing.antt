@@ -8,9 +8,11 @@ use borrow.Author.Tests.{eqb-true}
 use lib.Dec.{eqb}
 use lib.ListN.{length, getD}
 use Rattle.lists.specs.Lists.{each}
+use Rattle.lists.specs.Tests.{by, never, eqb-flip}
+use Rattle.lists.specs.Appending.{map-map}
 use Rattle.rows.specs.Rows.{has, hasBit, single}
 use Rattle.rows.specs.RowLaws.{has-single}
-use Rattle.rows.specs.Lists.{by, never, map-map, elem, between-same}
+use Rattle.rows.specs.Lists.{elem, between-same}
 use Rattle.definitions.specs.Records.{Name, TypeInfo}
 use Rattle.definitions.specs.Map.{TypeMap}
 use Rattle.definitions.specs.OrderRows.{typeNamed}
@@ -19,7 +21,7 @@ use Rattle.annotations.specs.declared.AnnotationInfo.{AnnotationInfo}
 use Rattle.annotations.specs.Reading.{infoOf}
 use Rattle.dedup.specs.Reading.{namesAt, under′}
 use Rattle.inheritance.specs.Own.{handed}
-use Rattle.inheritance.specs.OwnLaws.{ascending-is, eqb-turned}
+use Rattle.inheritance.specs.OwnLaws.{ascending-is}
 
 -- a row of 64 is the first part of a row of 256
 low : (i k : ℕ) → i < 64 → k < 64 → has (single i) k ≡ hasBit (2 ^ i) k
@@ -34,7 +36,7 @@ low i k p q =
 -- the row of one type
 bit-one : (i k : ℕ) → i < 64 → k < 64 → hasBit (2 ^ i) k ≡ eqb k i
 unfolding hasBit
-bit-one i k p q = sym (low i k p q) ∙ has-single i k (omega arith) ∙ eqb-turned i k
+bit-one i k p q = sym (low i k p q) ∙ has-single i k (omega arith) ∙ eqb-flip i k
 
 pub names-one : (names : List Name) (i : ℕ) → i < length names → length names ≤ 64 → namesAt names (2 ^ i) ≡ getD names i [] ∷ []
 unfolding namesAt

@@ -1,6 +1,6 @@
 -- An own associate, read from a row of words and a table of dom sets.
-use mathlib.Core.Bool.{true, false, _||_, cond, or-false}
-use mathlib.Core.List.{List, [], _∷_, _++_, map}
+use mathlib.Core.Bool.{true, false, cond}
+use mathlib.Core.List.{List, [], _∷_, _++_, map, map-id}
 use mathlib.Core.Logic.{_⊎_, ⊎-elim}
 use mathlib.Core.Option.{some}
 use mathlib.Core.Path.{_≡_, refl, sym, ap, ap₂, _∙_}
@@ -8,15 +8,18 @@ use Prim.Native.Nat.{ℕ, zero, suc, _+_, _<_, _≤_}
 use native.Mathlib.Numerals.{add-one}
 use native.Mathlib.Nat.{not-suc-le-zero, le-of-suc-le-suc}
 use native.Mathlib.Omega.{arith}
-use borrow.Author.Tests.{eq-eqb, ne-eqb, eqb-true, eqb-false, lt-ltb, le-ltb, ltb-true}
+use borrow.Author.Tests.{eq-eqb, ne-eqb, eqb-true, eqb-false, ltb-true}
 use lib.Dec.{eqb, ltb}
 use lib.ListN.{length, getD, take, set}
 use lib.Seq.{take-suc, getD-set-same, getD-set-other, getD-take, length-take-le}
 use Rattle.lists.specs.Lists.{ascends, include, setOf}
+use Rattle.lists.specs.Tests.{eqb-flip, by, never, or-left, or-right, and-left, and-right}
+use Rattle.lists.specs.Appending.{map-append}
+use Rattle.lists.specs.Places.{any-taken}
 use Rattle.rows.specs.declared.Row.{Row}
 use Rattle.rows.specs.Rows.{has, either, single, none, empty}
 use Rattle.rows.specs.RowLaws.{has-either, has-single, has-none}
-use Rattle.rows.specs.Lists.{by, never, or-left, or-right, any-append, elem, below, between-same, Climbs, set-places}
+use Rattle.rows.specs.Lists.{elem, below, between-same, set-places, climbing-numbers}
 use Rattle.definitions.specs.Records.{Name, AssociatedResource, associate}
 use Rattle.definitions.specs.Inherited.{InheritedAnnotation, dedupOne, dedupOnto, asAssociate}
 use Rattle.annotations.specs.declared.AnnotationInfo.{AnnotationInfo}
@@ -30,25 +33,10 @@ use Rattle.inheritance.specs.Own.{wordsIn, rowsIn, Own, rowFor, WordsOf,
 
 -- ---- ascending words
 
-ltb-trans : (a b c : ℕ) → ltb a b ≡ true → ltb b c ≡ true → ltb a c ≡ true
-ltb-trans a b c p q = lt-ltb a c (omega (arith, ltb-true a b p, ltb-true b c q))
-
-climbing-numbers : (n : ℕ) → Climbs ltb (λ i. i) n
-climbing-numbers n =
-    record {
-      up = λ i j h q. lt-ltb i j h;
-      down = λ i j h q. le-ltb j i (omega arith);
-      flat = λ i q. le-ltb i i (omega arith);
-    }
-
 map-same : {A : Type 0} (g h : ℕ → A) (l : List ℕ) → ((w : ℕ) → elem w l ≡ true → g w ≡ h w) → map g l ≡ map h l
 map-same g h [] e = refl
 map-same g h (w ∷ l) e =
-    ap₂ (λ x k. x ∷ k) (e w (or-left (eqb w w) (elem w l) (eq-eqb w w refl))) (map-same g h l (λ v t. e v (or-right (eqb v w) (elem v l) t)))
-
-map-id : (l : List ℕ) → map (λ (i : ℕ). i) l ≡ l
-map-id [] = refl
-map-id (x ∷ l) = ap (λ k. x ∷ k) (map-id l)
+    ap₂ (λ x k. x ∷ k) (e w (or-left (elem w l) (eq-eqb w w refl))) (map-same g h l (λ v t. e v (or-right (eqb v w) t)))
 
 -- what ascends is its own set
 set-ascending : (l : List ℕ) → ascends ltb l ≡ true → setOf ltb l ≡ l
@@ -56,8 +44,8 @@ unfolding setOf include
 set-ascending [] e = refl
 set-ascending (x ∷ []) e = refl
 set-ascending (x ∷ y ∷ l) e =
-    let p : ltb x y ≡ true = Rattle.rows.specs.Lists.and-left (ltb x y) (ascends ltb (y ∷ l)) e in
-    rw (set-ascending (y ∷ l) (Rattle.rows.specs.Lists.and-right (ltb x y) (ascends ltb (y ∷ l)) e), p)
+    let p : ltb x y ≡ true = and-left (ltb x y) (ascends ltb (y ∷ l)) e in
+    rw (set-ascending (y ∷ l) (and-right (ltb x y) (ascends ltb (y ∷ l)) e), p)
 
 pub ascending-is : (l : List ℕ) (n : ℕ) → ascends ltb l ≡ true → ((w : ℕ) → elem w l ≡ true → w < n) → below (λ w. elem w l) n ≡ l
 ascending-is l n e h =
@@ -67,8 +55,8 @@ ascending-is l n e h =
 first-apart : (x : ℕ) (l : List ℕ) (w : ℕ) → ascends ltb (x ∷ l) ≡ true → elem w l ≡ true → eqb w x ≡ false
 first-apart x [] w e t = never t refl
 first-apart x (y ∷ l) w e t =
-    let p : x < y = ltb-true x y (Rattle.rows.specs.Lists.and-left (ltb x y) (ascends ltb (y ∷ l)) e) in
-    ne-eqb w x (λ q. absurd (omega (arith, above y l w (Rattle.rows.specs.Lists.and-right (ltb x y) (ascends ltb (y ∷ l)) e) t)))
+    let p : x < y = ltb-true x y (and-left (ltb x y) (ascends ltb (y ∷ l)) e) in
+    ne-eqb w x (λ q. absurd (omega (arith, above y l w (and-right (ltb x y) (ascends ltb (y ∷ l)) e) t)))
   where
     above : (y : ℕ) (l : List ℕ) (w : ℕ) → ascends ltb (y ∷ l) ≡ true → elem w (y ∷ l) ≡ true → y ≤ w
     above y [] w e t = by (eqb w y) (λ q. omega (arith, eqb-true w y q)) (λ q. never (rw q at t) refl)
@@ -77,11 +65,11 @@ first-apart x (y ∷ l) w e t =
         (λ q. omega (arith, eqb-true w y q))
         (λ q.
         let r : elem w (z ∷ l) ≡ true = rw q at t in
-        omega (arith, ltb-true y z (Rattle.rows.specs.Lists.and-left (ltb y z) (ascends ltb (z ∷ l)) e), above z l w (Rattle.rows.specs.Lists.and-right (ltb y z) (ascends ltb (z ∷ l)) e) r))
+        omega (arith, ltb-true y z (and-left (ltb y z) (ascends ltb (z ∷ l)) e), above z l w (and-right (ltb y z) (ascends ltb (z ∷ l)) e) r))
 
 rest : (x : ℕ) (l : List ℕ) → ascends ltb (x ∷ l) ≡ true → ascends ltb l ≡ true
 rest x [] e = refl
-rest x (y ∷ l) e = Rattle.rows.specs.Lists.and-right (ltb x y) (ascends ltb (y ∷ l)) e
+rest x (y ∷ l) e = and-right (ltb x y) (ascends ltb (y ∷ l)) e
 
 -- resources in two arrays, by the words
 pairs-are : (ws : List ℕ) (ds : List Row) → length ws ≡ length ds → ascends ltb ws ≡ true
@@ -97,15 +85,6 @@ pairs-are (v ∷ ws) (d ∷ ds) e a =
 
 -- ---- one word more
 
-pub eqb-turned : (v w : ℕ) → eqb v w ≡ eqb w v
-eqb-turned v w =
-    by (eqb v w)
-    (λ e. e ∙ sym (eq-eqb w v (sym (eqb-true v w e))))
-    (λ e. e ∙ sym (ne-eqb w v (λ q. eqb-false v w e (sym q))))
-
-elem-step : (ws : List ℕ) (i w : ℕ) → i < length ws → elem w (take (i + 1) ws) ≡ (elem w (take i ws) || eqb w (getD ws i 0))
-elem-step ws i w h = rw (add-one, take-suc ws i 0 h, any-append (eqb w) (take i ws) (getD ws i 0 ∷ []), or-false)
-
 -- the row holds the first i words
 abbrev pub Holds : List ℕ → Row → ℕ → Type 0
 Holds ws row i = (w : ℕ) → has row w ≡ elem w (take i ws)
@@ -117,7 +96,7 @@ holds-none ws w = has-none empty w refl
 pub holds-step : (ws : List ℕ) (row : Row) (i : ℕ) → i < length ws → getD ws i 0 < 200 → Holds ws row i → Holds ws (either row (single (getD ws i 0))) (i + 1)
 holds-step ws row i h l u w =
     has-either row (single (getD ws i 0)) w
-    ∙ rw (u w, has-single (getD ws i 0) w (omega arith), elem-step ws i w h, eqb-turned (getD ws i 0) w)
+    ∙ rw (u w, has-single (getD ws i 0) w (omega arith), any-taken (eqb w) ws i 0 h, eqb-flip (getD ws i 0) w)
 
 elem-bound : (ws : List ℕ) (n w : ℕ) → ((i : ℕ) → i < n → getD ws i 0 < 200) → elem w (take n ws) ≡ true → w < 200
 elem-bound ws zero w h e = never e refl
@@ -141,8 +120,8 @@ row-snoc (x ∷ ws) (y ∷ ds) v d w e =
 
 elem-at : (l : List ℕ) (i : ℕ) → i < length l → elem (getD l i 0) l ≡ true
 elem-at [] i h = absurd (not-suc-le-zero h)
-elem-at (x ∷ l) zero h = or-left (eqb x x) (elem x l) (eq-eqb x x refl)
-elem-at (x ∷ l) (suc i) h = or-right (eqb (getD l i 0) x) (elem (getD l i 0) l) (elem-at l i (le-of-suc-le-suc h))
+elem-at (x ∷ l) zero h = or-left (elem x l) (eq-eqb x x refl)
+elem-at (x ∷ l) (suc i) h = or-right (eqb (getD l i 0) x) (elem-at l i (le-of-suc-le-suc h))
 
 new-apart : (l : List ℕ) (i : ℕ) → ascends ltb l ≡ true → i < length l → elem (getD l i 0) (take i l) ≡ false
 new-apart [] i e h = absurd (not-suc-le-zero h)
@@ -170,7 +149,7 @@ module _ (D : List Row) (ws : List ℕ) (ds : List Row) where
       let g : rowFor (take (i + 1) ws) (take (i + 1) ds) w ≡ cond (elem w (take i ws)) (rowFor (take i ws) (take i ds) w) (cond (eqb w v) d empty) =
       rw (add-one, take-suc ws i 0 (omega arith), take-suc ds i empty (omega arith))
       (row-snoc (take i ws) (take i ds) v d w (length-take-le i ws (omega arith) ∙ sym (length-take-le i ds (omega arith)))) in
-      rw (elem-step ws i w (omega arith), g)
+      rw (any-taken (eqb w) ws i 0 (omega arith), g)
       (by (eqb w v)
       (λ e.
       let y : w ≡ v = eqb-true w v e in
@@ -238,7 +217,7 @@ pub onto-step : (f : AnnotationInfo → InheritedAnnotation) (own : List Annotat
     → dedupOne (dedupOnto out (map f (take i own))) (some (f (getD own i zeros))) ≡ dedupOnto out (map f (take (i + 1) own))
 unfolding dedupOnto
 onto-step f own i out h =
-    rw (add-one, take-suc own i zeros h, Rattle.rows.specs.Lists.map-append f (take i own) (getD own i zeros ∷ []), onto-append out (map f (take i own)) (f (getD own i zeros) ∷ []))
+    rw (add-one, take-suc own i zeros h, map-append f (take i own) (getD own i zeros ∷ []), onto-append out (map f (take i own)) (f (getD own i zeros) ∷ []))
 
 pub joins-parent-by : (h f r : Inherited) (own : List AnnotationInfo) (count : ℕ) (p : Inherited) (parent : ℕ) → JoinsOwns h own count parent f → JoinsAll f p parent r
     → JoinsParent h own count p parent r

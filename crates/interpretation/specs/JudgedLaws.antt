@@ -9,9 +9,10 @@ use lib.Dec.{eqb, ltb, leb}
 use lib.ListN.{getD, length}
 use Rattle.lists.specs.Lists.{null, all, filter, firstOf}
 use Rattle.lists.specs.Tests.{by, never}
+use Rattle.emitting.specs.Emitting as emitting
 use Rattle.rows.specs.declared.Row.{Row}
 use Rattle.rows.specs.Rows.{has}
-use Rattle.rows.specs.Lists.{between, map-map}
+use Rattle.rows.specs.Lists.{between}
 use Rattle.annotations.specs.Reading.{domAt, domsOf}
 use Rattle.definitions.specs.Records.{Name}
 use Rattle.definitions.specs.Orders.{dotted}
@@ -131,7 +132,7 @@ row-bytes kind D w f s a b c p q = rw (p, q, name-bytes f s, name-bytes a b)
 pub row-step : (limit kind : ℕ) (D : Declaration) (w f s a b : ℕ) (c : Name) (rest : List Name) (buf buf′ : List ℕ) (n n′ : ℕ) → D .name ≡ twoWords f s → c ≡ twoWords a b →
     (buf′, n′) ≡ emitBytes limit (buf, n) (kind ∷ f ∷ s ∷ a ∷ b ∷ w ∷ []) →
     emit limit (buf, n) (map (classRow kind D w) (c ∷ rest)) ≡ emit limit (buf′, n′) (map (classRow kind D w) rest)
-unfolding emit
+unfolding emitting.emit
 row-step limit kind D w f s a b c rest buf buf′ n n′ p q e =
     ap (λ bs. emit limit (emitBytes limit (buf, n) bs) (map (classRow kind D w) rest)) (row-bytes kind D w f s a b c p q)
     ∙ ap (λ z. emit limit z (map (classRow kind D w) rest)) (sym e)
@@ -171,5 +172,5 @@ module _ (t : Table) (place : ℕ) (doms : Row) (word limit : ℕ) (buf₀ : Lis
 
   pub written-end : (k : ℕ) (buf : List ℕ) (n : ℕ) → 201 ≤ k → Written t place doms word limit k buf₀ n₀ buf n →
       (buf, n) ≡ emit limit (buf₀, n₀) (map (classRow 4 (declarationAt t place) word) (filter (isUnknown t) (classesOf doms word)))
-  unfolding emit
+  unfolding emitting.emit
   written-end k buf n h w = ap (λ l. emit limit (buf, n) (map (classRow 4 (declarationAt t place) word) l)) (sym (classes-end (isUnknown t) doms word k h)) ∙ w .rows

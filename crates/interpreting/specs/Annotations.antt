@@ -6,6 +6,7 @@ use Prim.Native.Nat.{ℕ, _+_, _*_, _≤_, _<_}
 use lib.Dec.{eqb}
 use lib.ListN.{length, getD}
 use Rattle.lists.specs.Lists.{null, filter}
+use Rattle.lists.specs.Tabulating.{tabulate}
 use Rattle.rows.specs.declared.Row.{Row}
 use Rattle.rows.specs.Rows.{has, empty}
 use Rattle.definitions.specs.Records.{Name}
@@ -13,7 +14,6 @@ use Rattle.definitions.specs.Checks.{resourcesOf}
 use Rattle.definitions.specs.Inherited.{InheritedAnnotation}
 use Rattle.definitions.specs.Synthesis as definitions
 use Rattle.definitions.specs.Synthesis.{interpretAll}
-use Rattle.fields.specs.Tabulate.{tabulate}
 use Rattle.annotations.specs.declared.AnnotationInfo.{AnnotationInfo}
 use Rattle.annotations.specs.Reading.{infoOf}
 use Rattle.dedup.specs.declared.Entry.{Entry}

@@ -1,5 +1,5 @@
 -- The annotations of a type, one after the other.
-use mathlib.Core.Bool.{Bool, true, false, _&&_, not, and-assoc, and-true}
+use mathlib.Core.Bool.{Bool, true, false, _&&_, not, and-assoc, and-true, Bool·not-not}
 use mathlib.Core.List.{List, [], _∷_, _++_, append-nil, append-assoc}
 use mathlib.Core.Path.{_≡_, refl, sym, ap, ap₂, _∙_}
 use Prim.Native.Nat.{ℕ, _+_, _≤_}
@@ -11,6 +11,7 @@ use Rattle.definitions.specs.Checks.{resourcesOf}
 use Rattle.definitions.specs.Map.{Map, Declaration}
 use Rattle.definitions.specs.Inherited.{InheritedAnnotation}
 use Rattle.definitions.specs.Synthesis.{Interpreted, interpreted, behindRows, interpretWords, interpretAll}
+use Rattle.definitions.specs.Packing.{rowBytes}
 use Rattle.dedup.specs.declared.Entry.{Entry}
 use Rattle.dedup.specs.declared.Inherited.{Inherited}
 use Rattle.dedup.specs.Entries.{entriesOf}
@@ -19,10 +20,11 @@ use Rattle.own_associates.specs.declared.OwnAssociates.{OwnAssociates}
 use Rattle.table.specs.declared.Table.{Table}
 use Rattle.table.specs.Table.{declarationAt, tableMap}
 use Rattle.synthetic.specs.Made.{namesIn}
-use Rattle.interpretation.specs.Emit.{emit, emit-append}
+use Rattle.interpretation.specs.Emit.{emit}
 use Rattle.duplicates.specs.Held.{Makings, heldItems, Holding}
 use Rattle.associates.specs.StepLaws.{no-rows}
 use Rattle.associates.specs.Step.{Reached, itemsHeld}
+use Rattle.emitting.specs.Emitting.{emit-append}
 use Rattle.interpreting.specs.Entry.{size, interpretEntry, EntryDone}
 use Rattle.interpreting.specs.Annotations.{TypeReached, typeNames, ownEntriesIn, interpretedOf, Added, Room, interpretedAt, TypeDone}
 
@@ -42,10 +44,6 @@ null-append : {A : Type 0} (a b : List A) → null (a ++ b) ≡ (null a && null 
 null-append [] b = refl
 null-append (x ∷ a) b = refl
 
-not-not : (b : Bool) → not (not b) ≡ b
-not-not true = refl
-not-not false = refl
-
 module _ (t : Table) (T limit : ℕ) where
   pub added-none : (s : TypeReached) (b : List ℕ) → Holding t T (s .made) → Added t T limit [] 0 s b s b
   unfolding interpretAll
@@ -64,7 +62,7 @@ module _ (t : Table) (T limit : ℕ) where
         rows =
             y .rows
             ∙ ap₂ (λ z (w : Interpreted). emit limit z (w .rows)) (x .rows) f
-            ∙ sym (emit-append limit (b, s .rows) (i .rows) (j .rows))
+            ∙ sym (emit-append rowBytes limit (b, s .rows) (i .rows) (j .rows))
             ∙ ap (λ (w : Interpreted). emit limit (b, s .rows) (w .rows)) (sym e);
         items = y .items ∙ ap (λ (w : Interpreted). w .items) f ∙ sym (ap (λ (w : Interpreted). w .items) e);
         clean =
@@ -96,7 +94,7 @@ module _ (t : Table) (T limit : ℕ) where
       record {
         rows = d .rows ∙ ap (λ (w : Interpreted). emit limit (b, s .rows) (w .rows)) f;
         items = d .items ∙ ap (λ (w : Interpreted). w .items) f;
-        clean = h ∙ ap (λ z. s .clean && not z) (d .failed) ∙ ap (λ z. s .clean && z) (not-not (null (interpretEntry t T e doms (itemsHeld t T (s .made)) .rows))) ∙ ap (λ (w : Interpreted). s .clean && null (w .rows)) f;
+        clean = h ∙ ap (λ z. s .clean && not z) (d .failed) ∙ ap (λ z. s .clean && z) (Bool·not-not (null (interpretEntry t T e doms (itemsHeld t T (s .made)) .rows))) ∙ ap (λ (w : Interpreted). s .clean && null (w .rows)) f;
         holding = d .holding;
         count = d .count;
       }

@@ -9,18 +9,18 @@ use borrow.Author.Tests.{eqb-true}
 use lib.Dec.{eqb}
 use lib.ListN.{getD, getD-replicate, set, replicate}
 use lib.Seq
-use Rattle.lists.specs.Tests.{by, never}
+use Rattle.lists.specs.Tests.{by, never, or-left}
+use Rattle.lists.specs.Tabulating.{tabulate, places}
 use Rattle.rows.specs.declared.Row.{Row}
 use Rattle.rows.specs.Rows.{has, hasBit, single, either, empty}
 use Rattle.rows.specs.RowLaws.{has-either, has-single, small-either, small-single}
-use Rattle.rows.specs.Lists.{between, or-left}
+use Rattle.rows.specs.Lists.{between}
 use Rattle.annotations.specs.declared.AnnotationInfo.{AnnotationInfo}
 use Rattle.annotations.specs.Reading.{domsOf, resourcesIn, infoOf}
 use Rattle.definitions.specs.Records.{synthesized, extension, makelistMark}
 use Rattle.definitions.specs.Orders.{lookUp}
 use Rattle.definitions.specs.Making.{extensionParents, marksOf, allVirtual, createSyntheticResource, extensionLine, sameItem}
 use Rattle.definitions.specs.Synthesis.{classRow, isDuplicate, withMaking, interpretWords, interpretAll}
-use Rattle.fields.specs.Tabulate.{tabulate, places}
 use Rattle.records.specs.Marks.{ofMarks}
 use Rattle.types.specs.Extensions.{ofExtensions}
 use Rattle.dedup.specs.declared.Entry.{Entry}
@@ -140,8 +140,8 @@ inherited-good =
       };
       clean = λ w b c.
           others w b
-          (λ e. never (or-left (has words w) false (rw e there-1)) c)
-          (λ e. never (or-left (has words w) false (rw e there-199)) c);
+          (λ e. never (or-left {a = has words w} false (rw e there-1)) c)
+          (λ e. never (or-left {a = has words w} false (rw e there-199)) c);
     }
   where
     there-1 : has words 1 ≡ true

@@ -9,27 +9,29 @@ use borrow.Author.Tests.{eqb-true, eqb-false, not-true}
 use lib.Dec.{eqb}
 use lib.ListN.{length}
 use Rattle.lists.specs.Lists.{null, filter, firstOf}
-use Rattle.lists.specs.Tests.{by, never}
+use Rattle.lists.specs.Tests.{by, never, and-left, and-right}
 use Rattle.rows.specs.declared.Row.{Row}
 use Rattle.rows.specs.Rows.{has}
-use Rattle.rows.specs.Lists.{between, and-left, and-right}
-use Rattle.annotations.specs.Reading.{domsOf}
+use Rattle.rows.specs.Lists.{between}
 use Rattle.definitions.specs.Records.{Name, AssociatedResource, Item}
 use Rattle.definitions.specs.Map.{Declaration}
 use Rattle.definitions.specs.Synthesis.{judge, isDuplicate, Interpreted, interpreted, behindRows, interpretWords}
+use Rattle.definitions.specs.Packing.{rowBytes}
 use Rattle.dedup.specs.declared.Entry.{Entry}
 use Rattle.dedup.specs.Lists.{many}
 use Rattle.dedup.specs.Reading.{resourcesAt, tableOf}
+use Rattle.dedup.specs.ReadingLaws.{at}
 use Rattle.table.specs.declared.Table.{Table}
 use Rattle.table.specs.Table.{declarationAt, tableMap}
 use Rattle.synthetic.specs.Made.{classesOf, namesIn, firstsOf, created}
 use Rattle.synthetic.specs.MadeLaws.{between-step, between-end}
-use Rattle.interpretation.specs.Emit.{emit, emit-append}
+use Rattle.interpretation.specs.Emit.{emit}
 use Rattle.interpretation.specs.Judged.{isUnknown, isOther}
 use Rattle.duplicates.specs.Held.{Holding}
 use Rattle.associates.specs.Step.{Reached, rowsIn, failsIn, itemsHeld, verdictOf, Stepped}
 use Rattle.associates.specs.StepLaws.{no-rows}
 use Rattle.associates.specs.Words.{from, words-step}
+use Rattle.emitting.specs.Emitting.{emit-append}
 use Rattle.interpreting.specs.Entry.{interpretEntry, size, EntryDone}
 
 -- ---- how many words there are
@@ -47,9 +49,6 @@ many-upto f w (suc n) h =
     (λ q. omega (arith, many-upto f w n (omega (arith, eqb-false w (suc n) q))))
 
 -- ---- the words from w on
-
-abbrev at : (ℕ → Row) → ℕ → AssociatedResource
-at D w = record { word = w; doms = domsOf (D w) }
 
 unfoldable pub resourcesFrom : (ℕ → Row) → Row → ℕ → List AssociatedResource
 resourcesFrom D r w = map (at D) (between (has r) w (200 - w))
@@ -177,7 +176,7 @@ module _ (t : Table) (T : ℕ) (e : Entry) (doms : List Row) where
           same = k ∙ o .same;
           rows =
               ap (λ z. emit limit z l) (st .rows)
-              ∙ sym (emit-append limit (b′, p .rows) rs l)
+              ∙ sym (emit-append rowBytes limit (b′, p .rows) rs l)
               ∙ ap (λ (i : Interpreted). emit limit (b′, p .rows) (i .rows)) x
               ∙ o .rows;
           items = ap (λ (i : Interpreted). i .items) x ∙ o .items;

@@ -7,15 +7,13 @@ use native.Mathlib.Nat.{not-suc-le-zero, le-of-suc-le-suc}
 use native.Mathlib.Omega.{arith}
 use lib.ListN.{length, take, getD}
 use lib.Seq
-use borrow.Author.Tests.{eqb-true, eqb-false}
-use lib.Dec.{eqb}
-use Rattle.lists.specs.Tests.{by}
+use Rattle.lists.specs.Tabulating.{getD-tabulate, tabulate, length-tabulate}
+use Rattle.lists.specs.Appending.{map-append}
 use Rattle.rows.specs.declared.Row.{Row}
 use Rattle.rows.specs.Rows.{has, hasBit}
-use Rattle.rows.specs.Lists.{below, map-append, map-between}
+use Rattle.rows.specs.Lists.{below, map-between}
 use Rattle.definitions.specs.Records.{Name}
 use Rattle.definitions.specs.Checks.{resourcesOf}
-use Rattle.fields.specs.Tabulate.{tabulate, length-tabulate}
 use Rattle.dedup.specs.declared.Entry.{Entry}
 use Rattle.dedup.specs.declared.Inherited.{Inherited}
 use Rattle.dedup.specs.Lists.{many, many-or, many-most}
@@ -30,32 +28,13 @@ use Rattle.interpreting.specs.Annotations.{typeNames}
 
 -- ---- names
 
-tabulated : {A : Type 0} (f : ℕ → A) (n i : ℕ) (d : A) → i < n → getD (tabulate f n) i d ≡ f i
-unfolding tabulate
-tabulated f zero i d h = absurd (omega arith)
-tabulated f (suc n) i d h =
-    by (eqb i n)
-    (λ q.
-    let e : i ≡ n = eqb-true i n q in
-    rw e (ap (λ (k : ℕ). getD (tabulate f n ++ (f n ∷ [])) k d) (sym (length-tabulate f n)) ∙ last (tabulate f n) (f n) d))
-    (λ q. first (tabulate f n) (f n ∷ []) i d (omega (arith, length-tabulate f n, eqb-false i n q)) ∙ tabulated f n i d (omega (arith, eqb-false i n q)))
-  where
-    last : {A : Type 0} (l : List A) (x d : A) → getD (l ++ (x ∷ [])) (length l) d ≡ x
-    last [] x d = refl
-    last (y ∷ l) x d = last l x d
-
-    first : {A : Type 0} (l k : List A) (i : ℕ) (d : A) → i < length l → getD (l ++ k) i d ≡ getD l i d
-    first [] k i d h = absurd (not-suc-le-zero h)
-    first (y ∷ l) k zero d h = refl
-    first (y ∷ l) k (suc i) d h = first l k i d (le-of-suc-le-suc h)
-
 -- the types at the places of a row are those that the table gives
 pub names-in : (t : Table) (ps : ℕ) → namesAt (typeNames t) ps ≡ namesIn t ps
 unfolding namesAt namesIn typeNames
 names-in t ps =
     ap (λ (n : ℕ). map (λ i. getD (tabulate (nameAt t) (t .count)) i []) (below (hasBit ps) n)) (length-tabulate (nameAt t) (t .count))
     ∙ map-between (hasBit ps) (hasBit ps) (λ i. getD (tabulate (nameAt t) (t .count)) i []) (nameAt t) 0 (t .count) (λ k p q. refl)
-    (λ k p q e. tabulated (nameAt t) (t .count) k [] (omega arith))
+    (λ k p q e. getD-tabulate (nameAt t) (t .count) k [] (omega arith))
 
 pub read-resources : (names : List Name) (D : ℕ → Row) (e : Entry) → resourcesOf (read names D e .annotation) ≡ resourcesAt D (e .words)
 unfolding read

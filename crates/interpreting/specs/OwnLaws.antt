@@ -1,6 +1,6 @@
 -- An own associate as an entry: its words as a row of bits, its dom sets by word, and no parents.
 use mathlib.Core.Bool.{Bool, true}
-use mathlib.Core.List.{List, [], _∷_, _++_, map}
+use mathlib.Core.List.{List, [], _∷_, _++_, map, head-eq-of-cons-eq}
 use mathlib.Core.Path.{_≡_, refl, sym, ap, _∙_, subst}
 use Prim.Native.Nat.{ℕ, zero, suc, _+_, _≤_, _<_}
 use native.Mathlib.Numerals.{add-one}
@@ -11,10 +11,10 @@ use lib.ListN.{length, take, getD}
 use lib.Seq
 use Rattle.lists.specs.Lists.{filter}
 use Rattle.lists.specs.Tests.{by, never}
+use Rattle.lists.specs.Appending.{filter-alike, map-append, map-map, filter-append, filter-map}
 use Rattle.rows.specs.declared.Row.{Row}
 use Rattle.rows.specs.Rows.{has, either, empty}
-use Rattle.rows.specs.RowLaws.{bit-none}
-use Rattle.rows.specs.Lists.{between, below, between-same, between-none, elem, map-append, map-map, filter-append, filter-map}
+use Rattle.rows.specs.Lists.{between, below, between-same, elem}
 use Rattle.definitions.specs.Records.{associate}
 use Rattle.definitions.specs.Checks.{kindOf, resourcesOf}
 use Rattle.definitions.specs.Inherited.{InheritedAnnotation, asAssociate, dedupOne}
@@ -34,13 +34,8 @@ use Rattle.types.specs.declared.TypeInfo.{TypeInfo}
 use Rattle.own_associates.specs.declared.OwnAssociates.{OwnAssociates}
 use Rattle.own_associates.specs.Owning.{listed, OwnOf}
 use Rattle.table.specs.declared.Table.{Table}
-use Rattle.synthetic.specs.Made.{namesIn, Fits}
+use Rattle.synthetic.specs.Made.{Fits}
 use Rattle.interpreting.specs.Annotations.{asOwn, isPlain, plainOf, ownEntriesIn}
-
--- no parents
-pub no-parents : (t : Table) → namesIn t 0 ≡ []
-unfolding namesIn
-no-parents t = rw (between-none (Rattle.rows.specs.Rows.hasBit 0) 0 (t .count) (λ k. bit-none k))
 
 -- the number of words is the length of their list
 many-between : (f : ℕ → Bool) (i n : ℕ) → length (between f i n) + many f i ≡ many f (i + n)
@@ -82,13 +77,6 @@ before = record { list = record { count = 0; items = [] }; doms = noDoms }
 abbrev behind : Entry → List Row → Inherited
 behind n E = record { list = record { count = 1; items = n ∷ [] }; doms = E }
 
-head-same : {A : Type 0} {x y : A} {k l : List A} → x ∷ k ≡ y ∷ l → x ≡ y
-head-same {A} {x} {y} e = ap (λ l. first x l) e
-  where
-    first : A → List A → A
-    first d [] = d
-    first d (z ∷ l) = z
-
 plain-same : (a : AnnotationInfo) → a .kind ≡ 1 → infoOf a ≡ asAssociate (infoOf a)
 unfolding infoOf
 plain-same a k = rw k
@@ -101,7 +89,7 @@ module _ (a : AnnotationInfo) (row : Row) (E : List Row) (o : Own a) (s : WordsO
       let g = nothing-by before refl refl .good in
       let j = joins-by (before .list) (behind n E .list) n (g .kept) (own-sound a row 0 o s) (sym (join-none (before .list) n refl)) (omega arith) in
       let q = joins-own-by before a 0 row (behind n E) g o s j d .dedup [] refl in
-      ap (λ (x : InheritedAnnotation). x .annotation) (head-same q)
+      ap (λ (x : InheritedAnnotation). x .annotation) (head-eq-of-cons-eq q)
 
   -- an Associate has the resources of its entry
   pub own-resources : a .kind ≡ 1 → resourcesOf (infoOf a) ≡ resourcesAt (tableOf E) row
@@ -162,14 +150,10 @@ plain-info : (a : AnnotationInfo) → eqb (kindOf (infoOf a)) 1 ≡ isPlain a
 unfolding infoOf
 plain-info a = kind-same (a .kind) (a .tag) (resourcesIn a)
 
-filter-same : {A : Type 0} (f g : A → Bool) (l : List A) → ((x : A) → f x ≡ g x) → filter f l ≡ filter g l
-filter-same f g [] h = refl
-filter-same f g (x ∷ l) h = rw (h x, filter-same f g l h)
-
 pub own-entries : (t : TypeInfo) (o : OwnAssociates) → OwnOf t o → ownEntriesIn o ≡ ownEntries (typeInfoOf t)
 unfolding ownEntries
 own-entries t o h =
     rw (← h .reads)
-    (ap (map asOwn) (filter-same isPlain (λ a. eqb (kindOf (infoOf a)) 1) (listed o) (λ a. sym (plain-info a)))
+    (ap (map asOwn) (filter-alike isPlain (λ a. eqb (kindOf (infoOf a)) 1) (λ a. sym (plain-info a)) (listed o))
     ∙ sym (map-map (λ x. record { annotation = x; parents = [] }) infoOf (filter (λ a. eqb (kindOf (infoOf a)) 1) (listed o)))
     ∙ ap (map (λ x. record { annotation = x; parents = [] })) (sym (filter-map (λ x. eqb (kindOf x) 1) infoOf (listed o))))

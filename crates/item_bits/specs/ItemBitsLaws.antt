@@ -1,5 +1,5 @@
 -- Laws of the items that are counted and written.
-use mathlib.Core.Bool.{Bool, true, false, _&&_, not}
+use mathlib.Core.Bool.{Bool, true, false, _&&_}
 use mathlib.Core.List.{List, [], _∷_, _++_, append-nil, map-append}
 use mathlib.Core.Path.{_≡_, refl, sym, ap, _∙_}
 use Prim.Native.Nat.{ℕ, zero, suc, _+_, _*_, _≤_, _<_}
@@ -8,11 +8,12 @@ use lib.ListN.{length, getD, take, length-append}
 use lib.Dec.{eqb}
 use lib.Seq
 use Rattle.lists.specs.Lists.{each, keep}
+use Rattle.lists.specs.Tabulating.{tabulate, length-tabulate}
+use Rattle.lists.specs.Appending.{each-append}
 use Rattle.definitions.specs.Records.{Name, Mark, Item, synthesized, extension}
 use Rattle.definitions.specs.Making.{extensionLine, extensionParents, marksOf, allVirtual}
 use Rattle.definitions.specs.Bits.{toBits}
 use Rattle.definitions.specs.Packing.{nameBits, parentBits, markBits, countedBits, itemBits}
-use Rattle.fields.specs.Tabulate.{tabulate, length-tabulate}
 use Rattle.making.specs.Making as making
 use Rattle.making.specs.MakingLaws.{length-parentsOf}
 use Rattle.making.specs.declared.Parents.{Parents}
@@ -27,7 +28,7 @@ use Rattle.made.specs.Made.{ownItems, itemsMade}
 use Rattle.facts.specs.Facts.{byteAt, tableIn}
 use Rattle.facts.specs.FactLaws.{virtual-in, trait-in}
 use Rattle.packing.specs.Head.{headBits}
-use Rattle.packing.specs.PackingLaws.{each-append, making-is, making-long, marks-most}
+use Rattle.packing.specs.PackingLaws.{making-is, making-long, marks-most}
 use Rattle.item_bits.specs.Counts.{Counts, ownAt, inheritedItems}
 use Rattle.item_bits.specs.declared.Counted.{Counted}
 
@@ -140,13 +141,3 @@ counts-made t T r x own last a few o c e l =
       few = omega (arith, c .few, few);
       small = omega (arith, c .small, o .1, l);
     }
-
--- ---- the test of the code is the other way round
-
-pub not-true : (b : Bool) → not b ≡ true → b ≡ false
-not-true true h = sym h
-not-true false h = refl
-
-pub not-false : (b : Bool) → not b ≡ false → b ≡ true
-not-false true h = refl
-not-false false h = sym h

@@ -1,11 +1,11 @@
 -- Relisted inputs: the refusals of the two are alike one by one, so the answers are.
-use mathlib.Core.Bool.{Bool, true, false, not}
+use mathlib.Core.Bool.{true, false, not}
 use mathlib.Core.List.{List, [], _∷_}
 use mathlib.Core.Path.{_≡_, refl, sym, ap, ap₂, _∙_, subst, subst₂}
 use Prim.Native.Nat.{ℕ, _*_}
 use lib.Dec.{ltb}
 use lib.ListN.{length}
-use borrow.Author.Tests.{le-ltb}
+use borrow.Author.Tests.{le-ltb, not-false}
 use Rattle.lists.specs.Lists.{In, null}
 use Rattle.lists.specs.Tests.{by}
 use Rattle.definitions.specs.Records.{Sheet, Schedule}
@@ -29,11 +29,11 @@ data Match : List Refusal → List Refusal → Type 0 where
   next : {r q : Refusal} {l k : List Refusal} → r .number ≡ q .number → r .holds tt ≡ q .holds tt → r .size tt ≡ q .size tt
       → (r .holds tt ≡ false → Match l k) → Match (r ∷ l) (q ∷ k)
 
-first-holds : (i : Input) (r : Refusal) (l : List Refusal) → r .holds tt ≡ true → firstRefusal i (r ∷ l) ≡ refuse i r
+pub first-holds : (i : Input) (r : Refusal) (l : List Refusal) → r .holds tt ≡ true → firstRefusal i (r ∷ l) ≡ refuse i r
 unfolding firstRefusal
 first-holds i r l e = rw (e, firstRefusal)
 
-first-passed : (i : Input) (r : Refusal) (l : List Refusal) → r .holds tt ≡ false → firstRefusal i (r ∷ l) ≡ firstRefusal i l
+pub first-passed : (i : Input) (r : Refusal) (l : List Refusal) → r .holds tt ≡ false → firstRefusal i (r ∷ l) ≡ firstRefusal i l
 unfolding firstRefusal
 first-passed i r l e = rw (e, firstRefusal)
 
@@ -56,10 +56,6 @@ match-same i j a (next {r = r} {q = q} {l = l} {k = k} n h z m) =
     (λ e. subst₂ (Same i j) (sym (first-passed i r l e)) (sym (first-passed j q k (sym h ∙ e))) (match-same i j a (m e)))
 
 -- ---- what was read
-
-not-false : (b : Bool) → not b ≡ false → b ≡ true
-not-false true e = refl
-not-false false e = sym e
 
 -- what each test sees of bytes that hold a sheet
 module _ {bytes : List ℕ} {s : Sheet} (h : Holds bytes s) where

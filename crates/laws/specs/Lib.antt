@@ -8,3 +8,4 @@ pub mod Diagnosis
 pub mod Relisting
 pub mod Alike
 pub mod Examples
+pub mod Visit

@@ -24,7 +24,7 @@ use Rattle.laws.specs.Passes.{Placed, Waits, ready-not, placed-type, wai
 
 -- ---- ancestors
 
-ancestor-type : {s : Sheet} {A T : TypeInfo} → Ancestor s A T → In A (s .types)
+pub ancestor-type : {s : Sheet} {A T : TypeInfo} → Ancestor s A T → In A (s .types)
 ancestor-type (direct p) = p .declared
 ancestor-type (further p a) = ancestor-type a
 

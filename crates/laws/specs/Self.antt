@@ -30,7 +30,7 @@ has-self ws e =
     (or-false-right (not (any (sameList eqb resourceBytes) ws)) (not (any (sameList eqb selfBytes) ws))
     (or-false-right (not (ascends bytesBefore ws)) (not (any (sameList eqb resourceBytes) ws) || not (any (sameList eqb selfBytes) ws)) e))
 
-words-distinct : (ws : List (List ℕ)) → badWords ws ≡ false → Distinct ws
+pub words-distinct : (ws : List (List ℕ)) → badWords ws ≡ false → Distinct ws
 words-distinct ws e =
     sorted-imp ws (λ a b i j h q. never h (ap (bytesBefore a) (sym q) ∙ bytes-strict .irreflexive a)) (ascends-sorted bytes-strict ws (words-ascend ws e))
 

@@ -4,9 +4,9 @@ use mathlib.Core.Path.{_≡_}
 use Prim.Native.Nat.{ℕ, _*_, _≤_, _<_}
 use lib.ListN.{length, getD}
 use Rattle.definitions.specs.Map.{declarationOf}
-use Rattle.types.specs.Types.{ofTypes, typeInfoOf}
+use Rattle.types.specs.Types.{ofTypes, typeInfoOf, itemAt}
 use Rattle.types.specs.declared.Types.{Types}
-use Rattle.associations.specs.Associations.{itemAt, FillsTable}
+use Rattle.associations.specs.Associations.{FillsTable}
 use Rattle.own_associates.specs.Owning.{AllFit}
 use Rattle.own_table.specs.OwnTable.{OwnIn}
 use Rattle.classes.specs.Classes.{Noted}

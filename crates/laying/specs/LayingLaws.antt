@@ -7,9 +7,9 @@ use borrow.Author.Tests.{ltb-true, ltb-false}
 use lib.Dec.{ltb}
 use Rattle.lists.specs.Tests.{by}
 use Rattle.definitions.specs.Map.{declarationOf}
-use Rattle.types.specs.Types.{typeInfoOf}
+use Rattle.types.specs.Types.{typeInfoOf, itemAt}
 use Rattle.types.specs.declared.Types.{Types}
-use Rattle.associations.specs.Associations.{itemAt, Blanks}
+use Rattle.associations.specs.Associations.{Blanks}
 use Rattle.associations.specs.AssociationLaws.{FilledTo, filled-start, filled-step, filled-end}
 use Rattle.filling.specs.Filling.{Fills}
 use Rattle.own_table.specs.OwnTable.{OwnIn, PutsOwn}

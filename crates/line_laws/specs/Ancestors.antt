@@ -14,6 +14,7 @@ use Rattle.definitions.specs.Map.{Declaration, Map, declarationOf}
 use Rattle.definitions.specs.Items.{parentsOf, reached, ancestors}
 use Rattle.definitions.specs.Ancestry.{Parent, Ancestor, direct, further}
 use Rattle.laws.specs.Orders.{same-name, name-same}
+use Rattle.laws.specs.Rounds.{ancestor-type}
 use Rattle.lists.specs.Members.{filter-short, filter-grows}
 use Rattle.line_laws.specs.Statements.{Readable, lineMap, AncestorsAre}
 use Rattle.line_laws.specs.Declarations.{type-in, type-of, inherits-in, inherits-of, name-is, one-declaration}
@@ -104,10 +105,6 @@ module _ (m : Map) (T : Declaration) where
       subst (In A) (sym last-stuck) next
 
 -- ---- the ancestors
-
-pub ancestor-type : {s : Sheet} {A T : TypeInfo} → Ancestor s A T → In A (s .types)
-ancestor-type (direct p) = p .declared
-ancestor-type (further p a) = ancestor-type a
 
 ancestor-more : {s : Sheet} {A B T : TypeInfo} → Ancestor s B T → Parent s A B → Ancestor s A T
 ancestor-more (direct p) q = further p (direct q)

@@ -4,12 +4,11 @@ use mathlib.Core.List.{List, _∷_, _++_, map, map-map, List·Memᴰ·not-nil, M
 use mathlib.Core.Logic.{inl, inr, ⊎-elim, _↔_}
 use mathlib.Core.Path.{_≡_, refl, sym, ap, ap₂, _∙_, subst}
 use Prim.Native.Nat.{ℕ}
-use native.Mathlib.Omega.{arith}
-use borrow.Author.Tests.{eq-eqb, eqb-true, ltb-true, ltb-false, lt-ltb, le-ltb}
-use lib.Dec.{eqb, ltb}
+use borrow.Author.Tests.{eq-eqb, eqb-true}
+use lib.Dec.{eqb}
 use Rattle.lists.specs.Lists.{In, At, filter, each}
 use Rattle.lists.specs.Tests.{or-cases, or-left, or-right, any-in, any-of, filter-in, filter-of, each-in, each-of, at-in}
-use Rattle.lists.specs.Strict.{Strict}
+use Rattle.lists.specs.Strict.{number-strict}
 use Rattle.lists.specs.Sorting.{sorted-filter, set-is, set-sorted}
 use Rattle.definitions.specs.Records.{Name, Dom, Resource, makeList, associate, nestAssociate, alias, inherit, derive, noDerive, Annotation, TypeInfo, Sheet}
 use Rattle.definitions.specs.Orders.{nameBefore, dotted}
@@ -24,13 +23,6 @@ use Rattle.lists.specs.Members.{in-at, sorted-map}
 use Rattle.line_laws.specs.Statements.{Readable, lineMap, classesOf}
 use Rattle.line_laws.specs.Declarations.{name-is, declarations-ascend}
 use Rattle.line_laws.specs.Ancestors.{ancestor-in, ancestor-of, parents-are}
-
-pub number-strict : Strict ltb
-number-strict = record {
-  irreflexive = λ x. le-ltb x x (omega arith);
-  transitive = λ x y z p q. let a = ltb-true x y p in let b = ltb-true y z q in lt-ltb x z (omega arith);
-  trichotomous = λ x y p q. let a = ltb-false x y p in let b = ltb-false y x q in omega arith;
-}
 
 -- ---- resources
 
@@ -48,7 +40,7 @@ word-of us r e = let x = any-of (λ (u : Resource). eqb (u .word) r) us e in (x 
 
 -- ---- a type's own
 
-gives-in : {A : TypeInfo} {u : Resource} (a : Annotation) → In a (A .annotations) → In u (resourcesOf a) → Gives A u
+pub gives-in : {A : TypeInfo} {u : Resource} (a : Annotation) → In a (A .annotations) → In u (resourcesOf a) → Gives A u
 gives-in makeList i j = absurd (List·Memᴰ·not-nil j)
 gives-in (associate rs) i j = plainly rs i j
 gives-in (nestAssociate rs) i j = nested rs i j

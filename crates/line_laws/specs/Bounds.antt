@@ -16,12 +16,13 @@ use Rattle.definitions.specs.Making.{extensionLine}
 use Rattle.definitions.specs.Items.{associateOf, owned, given, ofWord, associateWord, ownResource, ownClasses, inheritedResource, wordsMade, itemsAt, itemsFor, itemsOf, ancestors}
 use Rattle.definitions.specs.Lines.{Gives, plainly, nested, OwnResource, HasMaking}
 use Rattle.laws.specs.Orders.{types-perm}
+use Rattle.laws.specs.Rounds.{ancestor-type}
 use Rattle.line_laws.specs.Within.{ResourceWithin, AnnotationWithin, Within}
 use Rattle.lists.specs.Members.{filter-short, each-short, rising-short, keep-once, each-more}
+use Rattle.lists.specs.Strict.{number-strict}
 use Rattle.line_laws.specs.Statements.{Readable, lineMap, ItemsAtMost}
 use Rattle.line_laws.specs.Declarations.{type-of}
-use Rattle.line_laws.specs.Ancestors.{ancestor-type}
-use Rattle.line_laws.specs.Associating.{number-strict, above, made-is}
+use Rattle.line_laws.specs.Associating.{above, made-is}
 
 -- the resources word by word are no more than the resources
 words-short : (us : List Resource) (W : List ℕ) → Distinct W → length (each (λ r. ofWord r us) W) ≤ length us

@@ -1,6 +1,6 @@
 -- How much there is of one type, within the limits of a sheet that was read.
 use mathlib.Core.Bool.{Bool, false, _||_}
-use mathlib.Core.List.{List, [], _∷_, _++_, map, List·Memᴰ·head, List·Memᴰ·tail, Memᴰ·map, Memᴰ·cast}
+use mathlib.Core.List.{List, [], _∷_, map, List·Memᴰ·head, List·Memᴰ·tail, Memᴰ·map, Memᴰ·cast}
 use mathlib.Core.Logic.{⊎-elim}
 use mathlib.Core.Path.{_≡_, refl, sym, ap, _∙_, subst}
 use Prim.Native.Nat.{ℕ, zero, suc, _≤_, _<_, zero-le}
@@ -9,7 +9,7 @@ use native.Mathlib.Omega.{arith}
 use borrow.Author.Tests.{eq-eqb, eqb-true}
 use lib.Dec.{eqb}
 use lib.ListN.{length, length-map}
-use Rattle.lists.specs.Lists.{In, Sorted, any, repeats, filter, each}
+use Rattle.lists.specs.Lists.{In, Sorted, any, repeats}
 use Rattle.lists.specs.Tests.{by, never, not-so, or-false-left, or-false-right, any-not}
 use Rattle.lists.specs.Sorting.{sorted-imp, repeats-not}
 use Rattle.lists.specs.Counting.{pigeonhole}
@@ -20,10 +20,11 @@ use Rattle.definitions.specs.Map.{declarationOf}
 use Rattle.definitions.specs.Making.{classNames}
 use Rattle.definitions.specs.Items.{associateOf, owned, ofWord, domsAbove, parentsAbove, wordsMade}
 use Rattle.laws.specs.Orders.{name-strict, dom-strict}
+use Rattle.laws.specs.Rounds.{ancestor-type}
 use Rattle.line_laws.specs.Within.{WordsWithin, Within}
 use Rattle.lists.specs.Members.{filter-none, each-short, rising-short}
+use Rattle.lists.specs.Appending.{filter-each}
 use Rattle.line_laws.specs.Statements.{Readable, lineMap, CountsAre}
-use Rattle.line_laws.specs.Ancestors.{ancestor-type}
 use Rattle.line_laws.specs.Associating.{above, made-is, doms-are, namesPassing, parents-above-is, parents-above-are}
 use Rattle.line_laws.specs.Bounds.{own-classes-length, words-ascend, gives-within, made-below, type-items-short}
 
@@ -41,14 +42,6 @@ numbers-length (suc n) = ap suc (numbers-length n)
 numbers-in : (n : ℕ) {w : ℕ} → w < n → In w (numbers n)
 numbers-in zero h = absurd (not-suc-le-zero h)
 numbers-in (suc n) h = ⊎-elim (λ e. List·Memᴰ·head e) (λ l. List·Memᴰ·tail (numbers-in n l)) (eq-or-lt-of-le (le-of-suc-le-suc h))
-
-filter-each : {A B : Type 0} (t : B → Bool) (f : A → List B) (l : List A) → filter t (each f l) ≡ each (λ x. filter t (f x)) l
-filter-each t f [] = refl
-filter-each t f (x ∷ l) = filter-append t (f x) (each f l) ∙ ap (λ k. filter t (f x) ++ k) (filter-each t f l)
-  where
-    filter-append : {B : Type 0} (t : B → Bool) (a b : List B) → filter t (a ++ b) ≡ filter t a ++ filter t b
-    filter-append t [] b = refl
-    filter-append t (x ∷ a) b = let h = filter-append t a b in by (t x) (λ e. rw e (ap (λ k. x ∷ k) h)) (λ e. rw e h)
 
 -- where no two words are equal, one resource at most has word r
 one-of-word : (r : ℕ) (us : List Resource) → Sorted (λ (u v : Resource). u .word ≡ v .word → ⊥) us → length (ofWord r us) ≤ 1

@@ -1,7 +1,7 @@
 -- What the fields of an item hold, within the limits of a sheet that was read.
-use mathlib.Core.List.{List, [], _∷_, _++_, map, append-assoc, append-cancel-right, List·Memᴰ·not-nil, List·Memᴰ·eq-of-singleton, List·Memᴰ·append-cases, Memᴰ·of-map}
+use mathlib.Core.List.{List, [], _∷_, map, append-cancel-right, List·Memᴰ·not-nil, List·Memᴰ·eq-of-singleton, List·Memᴰ·append-cases, Memᴰ·of-map}
 use mathlib.Core.Logic.{⊎-elim}
-use mathlib.Core.Path.{_≡_, refl, sym, ap, _∙_, subst}
+use mathlib.Core.Path.{_≡_, refl, sym, _∙_, subst}
 use Prim.Native.Nat.{ℕ, suc, _*_, _≤_, _<_, zero-le}
 use native.Mathlib.Omega.{arith}
 use lib.ListN.{length, length-append}
@@ -18,6 +18,7 @@ use Rattle.definitions.specs.Lines.{ExtensionParents, record′, no-record}
 use Rattle.laws.specs.Orders.{dom-strict, look-up-is}
 use Rattle.line_laws.specs.Within.{WordsWithin, NameWithin, MarkWithin, Within, ItemWithin}
 use Rattle.lists.specs.Members.{distinct-each, distinct-map, each-short}
+use Rattle.lists.specs.Appending.{each-each}
 use Rattle.line_laws.specs.Statements.{Readable, lineMap, ItemsWithin}
 use Rattle.line_laws.specs.Declarations.{type-of, declarations-distinct}
 use Rattle.line_laws.specs.Making.{resource-at, extension-parents-are}
@@ -50,14 +51,6 @@ widen h p q = let x = h .least in let y = h .most in record { least = omega arit
 
 -- ---- marks
 
-each-each : {A B C : Type 0} (f : B → List C) (g : A → List B) (l : List A) → each (λ x. each f (g x)) l ≡ each f (each g l)
-each-each f g [] = refl
-each-each f g (x ∷ l) = ap (λ k. each f (g x) ++ k) (each-each f g l) ∙ sym (each-append f (g x) (each g l))
-  where
-    each-append : {B C : Type 0} (f : B → List C) (a b : List B) → each f (a ++ b) ≡ each f a ++ each f b
-    each-append f [] b = refl
-    each-append f (x ∷ a) b = ap (λ k. f x ++ k) (each-append f a b) ∙ sym (append-assoc (f x) (each f a) (each f b))
-
 module _ (s : Sheet) (ok : Readable s) (in′ : Within s) where
   abbrev W : ℕ
   W = length (s .words)
@@ -86,7 +79,7 @@ module _ (s : Sheet) (ok : Readable s) (in′ : Within s) where
       let few : length ds ≤ length (lineMap s .types) = pigeonhole ds (lineMap s .types) once from in
       let short : length (each (λ (D : Declaration). D .marks) ds) ≤ length ds * 7 = each-short (λ (D : Declaration). D .marks) ds 7 (λ X i. declared-marks (from X i) .0) in
       let n = types-short s ok in′ in
-      rw (each-each (λ (D : Declaration). D .marks) (declared (lineMap s)) cs) (omega arith)
+      rw (sym (each-each (declared (lineMap s)) (λ (D : Declaration). D .marks) cs)) (omega arith)
 
   mark-within : (cs : List Name) (k : Mark) → In k (marksOf (lineMap s) cs) → MarkWithin k
   unfolding marksOf

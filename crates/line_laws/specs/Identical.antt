@@ -3,10 +3,9 @@ use mathlib.Core.Bool.{Bool, true, false, _&&_, not}
 use mathlib.Core.List.{List, [], _∷_, _++_, map, append-cancel-right, List·Memᴰ·head, List·Memᴰ·tail, List·Memᴰ·not-nil, Memᴰ·cast, Memᴰ·append-left, Memᴰ·append-right, List·Memᴰ·append-cases, Memᴰ·map, Memᴰ·of-map, Permᴰ·symm}
 use mathlib.Core.Logic.{_⊎_, inl, inr, ⊎-elim}
 use mathlib.Core.Path.{_≡_, refl, sym, ap, ap₂, _∙_, subst}
-use Prim.Native.Nat.{ℕ, zero, suc, _<_}
-use native.Mathlib.Omega.{arith}
-use borrow.Author.Tests.{eq-eqb, eqb-true, ltb-false, ltb-true, not-true}
-use lib.Dec.{eqb, ltb}
+use Prim.Native.Nat.{ℕ, zero, suc}
+use borrow.Author.Tests.{eq-eqb, eqb-true, not-true}
+use lib.Dec.{eqb}
 use Rattle.lists.specs.Lists.{In, At, here, later, Sorted, any, keep, filter, each}
 use Rattle.lists.specs.Tests.{by, never, not-so, and-left, and-right, and-both, cons-elim, any-of, any-not, filter-in, filter-of, each-in, each-of, at-in}
 use Rattle.lists.specs.Sorting.{Distinct, sorted-across, sorted-imp, perm-sorted, sort-perm}
@@ -17,21 +16,13 @@ use Rattle.definitions.specs.Making.{extensionLine, sameItem}
 use Rattle.definitions.specs.Items.{associateOf, owned, ofWord, hasWord, associateWord, ownResource, ownClasses, inheritedResource, wordsMade, itemsAt, itemsFor}
 use Rattle.definitions.specs.Lines.{OwnResource, HasMaking, OwnMaking, InheritedMaking, Source, Making, ClassOf}
 use Rattle.lists.specs.Members.{filter-none, at-sorted, map-sorted, sorted-left, each-sorted, each-sorted-in, Between}
+use Rattle.lists.specs.Places.{one-at}
+use Rattle.lists.specs.Strict.{which}
 use Rattle.line_laws.specs.Statements.{Readable, lineMap, NoneIdentical, DeclaredFor, IdenticalIsTwice}
 use Rattle.line_laws.specs.Associating.{word-is, word-of, owned-of, owned-in, above, made-is}
 use Rattle.line_laws.specs.Lines.{own-making-of, own-making-in, own-classes-are, inherited-making-is, class-above}
 use Rattle.line_laws.specs.Once.{own-word, own-class, inherited-word, wordOf, for-once, SameResource}
 use Rattle.line_laws.specs.SameItem.{same-item, item-same}
-
-one-at : {A : Type 0} {x y : A} {i : ℕ} {l : List A} → At x i l → At y i l → x ≡ y
-one-at here here = refl
-one-at (later p) (later q) = one-at p q
-
--- one is less, the other is less, or they are equal
-which : (i k : ℕ) → (i < k) ⊎ ((k < i) ⊎ (i ≡ k))
-which i k =
-    by (ltb i k) (λ p. inl (ltb-true i k p))
-    (λ p. by (ltb k i) (λ q. inr (inl (ltb-true k i q))) (λ q. let a = ltb-false i k p in let b = ltb-false k i q in inr (inr (omega arith))))
 
 resources-of : {rs rs′ : List Resource} → associate rs ≡ associate rs′ → rs ≡ rs′
 resources-of e = ap associateOf e

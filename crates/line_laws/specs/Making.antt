@@ -8,7 +8,7 @@ use borrow.Author.Tests.{eq-eqb, eqb-true, not-false}
 use lib.Dec.{eqb}
 use Rattle.lists.specs.Lists.{In, At, Sorted, any, all, null, filter, each, ascends, sameList}
 use Rattle.lists.specs.Tests.{by, never, not-so, same-test, and-left, and-right, and-both, or-false-left, or-false-right, cons-elim, all-in, all-of, filter-in, filter-of, null-in, null-not, place-at}
-use Rattle.lists.specs.Sorting.{Distinct, sorted-imp, repeats-not, ascends-sorted, one-key, one-place}
+use Rattle.lists.specs.Sorting.{sorted-imp, repeats-not, one-key, one-place}
 use Rattle.lists.specs.Lexicographic.{same-numbers}
 use Rattle.definitions.specs.Records.{Name, Dom, Mark, TypeInfo, Extension, Sheet, Item, synthesized}
 use Rattle.definitions.specs.Orders.{sameName, bytesBefore}
@@ -16,19 +16,13 @@ use Rattle.definitions.specs.Checks.{resourceBytes, selfBytes, badWords, namesT
 use Rattle.definitions.specs.Map.{Declaration, numberOf, typeMapOf, declarationOf, mapOf}
 use Rattle.definitions.specs.Making.{declared, classNames, extensionParents, marksOf, allVirtual, createSyntheticResource}
 use Rattle.definitions.specs.Lines.{Dotted, end, and, ExtensionParents, record′, no-record, Marks, AllVirtual, Makes}
-use Rattle.laws.specs.Orders.{same-name, name-same, bytes-strict, look-up-is}
+use Rattle.laws.specs.Orders.{same-name, name-same, look-up-is}
+use Rattle.laws.specs.Self.{words-distinct}
 use Rattle.lists.specs.Members.{filter-none, filter-one}
 use Rattle.line_laws.specs.Statements.{Readable, lineMap, AllDeclared}
 use Rattle.line_laws.specs.Declarations.{type-of, declared-one}
 
 -- ---- `resource`
-
-words-distinct : (ws : List (List ℕ)) → badWords ws ≡ false → Distinct ws
-unfolding badWords
-words-distinct ws e =
-    let a = not-false (ascends bytesBefore ws)
-    (or-false-left (not (ascends bytesBefore ws)) (not (any (sameList eqb resourceBytes) ws) || not (any (sameList eqb selfBytes) ws)) e) in
-    sorted-imp ws (λ x y i j h q. never h (ap (bytesBefore x) (sym q) ∙ bytes-strict .irreflexive x)) (ascends-sorted bytes-strict ws a)
 
 has-resource : (ws : List (List ℕ)) → badWords ws ≡ false → any (sameList eqb resourceBytes) ws ≡ true
 unfolding badWords

@@ -17,9 +17,10 @@ use Rattle.definitions.specs.Making.{createSyntheticResource, extensionLine}
 use Rattle.definitions.specs.Items.{associateOf, owned, given, ofWord, associateWord, ancestors, ownResource, ownClasses, inheritedResource, wordsMade, itemsAt, itemsFor, itemsOf}
 use Rattle.definitions.specs.Lines.{OwnResource, Source, Making, ClassOf, Refused}
 use Rattle.lists.specs.Members.{sorted-at, sorted-map, sorted-each, in-at, distinct-each, distinct-map}
+use Rattle.lists.specs.Strict.{number-strict}
 use Rattle.line_laws.specs.Statements.{Readable, lineMap, NoneIdentical, DeclaredFor, ItemsOnce}
 use Rattle.line_laws.specs.Declarations.{declarations-distinct, type-of, one-declaration}
-use Rattle.line_laws.specs.Associating.{number-strict, own-at, owned-of, above, word-is}
+use Rattle.line_laws.specs.Associating.{own-at, owned-of, above, word-is}
 use Rattle.line_laws.specs.Lines.{accepted-declared, own-making-in, own-classes-are, inherited-making-is, class-above}
 
 -- ---- the parts of an item

@@ -14,6 +14,7 @@ use Rattle.lists.specs.Tests.{never, and-left, and-right, cons-elim}
 use Rattle.definitions.specs.Parse.{Parsed, done, refused, Parser, next, _>>=_, pure, refuse, choose, fieldOnto, field, allowed, between, flag, repeatOnto, counted}
 use Rattle.definitions.specs.Records.{makeList, associate, nestAssociate, alias, inherit, derive, noDerive, Annotation, makelistMark, deriveMark}
 use Rattle.definitions.specs.Reading.{word, wordField, wordIfFlag, name, associated, associatedList, kinds, annotation, mark, variant, typeInfo, extension, sheet}
+use Rattle.bits.specs.ReadLaws.{isDone}
 use Rattle.line_laws.specs.Statements.{ReadIsWithin}
 use Rattle.line_laws.specs.Within.{WordsWithin, NameWithin, ResourceWithin, AnnotationWithin, MarkWithin, TypeWithin, ExtensionWithin, Within}
 
@@ -26,10 +27,6 @@ Yields {A} m P = (bs rest : List Bool) (a : A) → m bs ≡ done a rest → P a
 abbrev valueOf : {A : Type 0} → A → Parsed A → A
 valueOf d (done a rest) = a
 valueOf d (refused r) = d
-
-abbrev isDone : {A : Type 0} → Parsed A → Bool
-isDone (done a rest) = true
-isDone (refused r) = false
 
 refused-not : {A C : Type 0} {r : ℕ} {a : A} {rest : List Bool} → refused r ≡ done a rest → C
 refused-not e = never {b = true} refl (sym (ap isDone e))

@@ -22,7 +22,7 @@ use Rattle.line_laws.specs.SameItem.{once-tested, tested-once}
 
 -- ---- the grounds
 
-variant-is : (v : Variant) → isResourceVariant v ≡ true → v ≡ Variant.resource
+pub variant-is : (v : Variant) → isResourceVariant v ≡ true → v ≡ Variant.resource
 variant-is domain e = never e refl
 variant-is resource e = refl
 variant-is other e = never e refl

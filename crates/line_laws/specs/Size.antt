@@ -1,7 +1,7 @@
 -- How many bits a schedule has at most.
 use mathlib.Core.Bool.{Bool, not}
 use mathlib.Core.List.{List, [], _∷_, _++_}
-use mathlib.Core.Path.{_≡_, refl, ap}
+use mathlib.Core.Path.{_≡_}
 use Prim.Native.Nat.{ℕ, zero, suc, _+_, _*_, _≤_, zero-le}
 use native.Mathlib.Omega.{arith}
 use lib.ListN.{length, length-append, length-map}
@@ -17,38 +17,34 @@ use Rattle.definitions.specs.Answer.{scheduleOf}
 use Rattle.laws.specs.Orders.{types-perm}
 use Rattle.line_laws.specs.Within.{ItemWithin}
 use Rattle.lists.specs.Members.{each-short}
+use Rattle.bits.specs.NumberLaws.{length-toBits}
 use Rattle.line_laws.specs.Statements.{lineMap, ScheduleAtMost}
 use Rattle.line_laws.specs.Bounds.{items-at-most}
 use Rattle.line_laws.specs.Fields.{items-within}
-
-bits-length : (n v : ℕ) → length (toBits n v) ≡ n
-unfolding toBits
-bits-length zero v = refl
-bits-length (suc n) v = ap suc (bits-length n v)
 
 -- a count of n bits, then at most b bits for each
 counted-short : {A : Type 0} (n b : ℕ) (f : A → List Bool) (l : List A) → ((x : A) → In x l → length (f x) ≤ b) → length (countedBits n f l) ≤ n + length l * b
 counted-short n b f l h =
     let k = each-short f l b h in
-    omega (arith, length-append (toBits n (length l)) (each f l), bits-length n (length l))
+    omega (arith, length-append (toBits n (length l)) (each f l), length-toBits n (length l))
 
 second-short : (b : List ℕ) → length (wordIfFlagBits b) ≤ 9
 second-short [] = omega arith
-second-short (w ∷ ws) = omega (arith, bits-length 8 w)
+second-short (w ∷ ws) = omega (arith, length-toBits 8 w)
 
 name-short : (n : Name) → length (nameBits n) ≤ 17
 unfolding nameBits
 name-short [] = zero-le
-name-short (a ∷ b) = let h = second-short b in omega (arith, length-append (toBits 8 a) (wordIfFlagBits b), bits-length 8 a)
+name-short (a ∷ b) = let h = second-short b in omega (arith, length-append (toBits 8 a) (wordIfFlagBits b), length-toBits 8 a)
 
 parent-short : (p : Name) → length p ≤ 3 → length (parentBits p) ≤ 26
 unfolding parentBits
-parent-short p h = let k = counted-short 2 8 (toBits 8) p (λ w i. omega (arith, bits-length 8 w)) in omega arith
+parent-short p h = let k = counted-short 2 8 (toBits 8) p (λ w i. omega (arith, length-toBits 8 w)) in omega arith
 
-mark-short : (k : Mark) → length (markBits k) ≤ 9
+pub mark-short : (k : Mark) → length (markBits k) ≤ 9
 unfolding markBits
 mark-short makelistMark = omega arith
-mark-short (deriveMark t) = omega (arith, bits-length 8 t)
+mark-short (deriveMark t) = omega (arith, length-toBits 8 t)
 
 item-short : (W : ℕ) (x : Item) → ItemWithin W x → length (itemBits x) ≤ 4515
 unfolding itemBits
@@ -60,10 +56,10 @@ item-short W (synthesized n r v ps ms) h =
     let y = h .marks in
     let ps′ = countedBits 5 parentBits ps in
     let ms′ = countedBits 9 markBits ms in
-    omega (arith, length-append (nameBits n) (toBits 8 r ++ (v ∷ ps′ ++ ms′)), length-append (toBits 8 r) (v ∷ ps′ ++ ms′), bits-length 8 r, length-append ps′ ms′)
+    omega (arith, length-append (nameBits n) (toBits 8 r ++ (v ∷ ps′ ++ ms′)), length-append (toBits 8 r) (v ∷ ps′ ++ ms′), length-toBits 8 r, length-append ps′ ms′)
 item-short W (extension n v t r) h =
     let a = name-short n in
-    omega (arith, length-append (nameBits n) (v ∷ t ∷ toBits 8 r), bits-length 8 r)
+    omega (arith, length-append (nameBits n) (v ∷ t ∷ toBits 8 r), length-toBits 8 r)
 
 -- the types placed are no more than the types
 placed-short : (m : TypeMap) (k : ℕ) → length (passes m k .placed) + length (passes m k .waiting) ≡ length (m .types)

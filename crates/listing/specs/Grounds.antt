@@ -10,7 +10,7 @@ use Rattle.definitions.specs.Map.{typeMapOf, mapOf, declarationOf}
 use Rattle.definitions.specs.Items.{itemsOf}
 use Rattle.definitions.specs.Packing.{countedBits, itemBits, orderBits}
 use Rattle.bits.specs.Writing.{Wrote}
-use Rattle.types.specs.Types.{typeInfoOf}
+use Rattle.types.specs.Types.{typeInfoOf, itemAt}
 use Rattle.types.specs.declared.Types.{Types}
 use Rattle.types.specs.declared.Extensions.{Extensions}
 use Rattle.ordering.specs.declared.Parents.{Parents}
@@ -18,7 +18,6 @@ use Rattle.ordering.specs.declared.Order.{Order}
 use Rattle.ancestry.specs.Rows.{Ancestors}
 use Rattle.above.specs.Above as over
 use Rattle.above.specs.Above.{Passes}
-use Rattle.associations.specs.Associations.{itemAt}
 use Rattle.own_table.specs.OwnTable.{OwnIn}
 use Rattle.held_map.specs.HeldMap.{HeldMap}
 use Rattle.table.specs.declared.Table.{Table}

@@ -1,14 +1,12 @@
 -- The names that are written are those of the order.
-use mathlib.Core.Bool.{Bool, true}
-use mathlib.Core.List.{List, [], _∷_, map, List·Memᴰ·head, List·Memᴰ·tail}
+use mathlib.Core.List.{[], _∷_, List·Memᴰ·head, List·Memᴰ·tail}
 use mathlib.Core.Path.{_≡_, refl, sym, ap, ap₂, _∙_}
 use Prim.Native.Nat.{ℕ, _<_}
 use native.Mathlib.Omega.{arith}
 use borrow.Author.Tests.{ltb-true, ne-eqb}
 use lib.Dec.{ltb}
 use lib.ListN.{length, getD}
-use Rattle.lists.specs.Lists.{all}
-use Rattle.lists.specs.Tests.{and-left, and-right}
+use Rattle.lists.specs.Appending.{map-checked}
 use Rattle.definitions.specs.Records.{Name, Sheet}
 use Rattle.definitions.specs.Map.{typeMapOf}
 use Rattle.definitions.specs.Order.{organizeTypeMap}
@@ -24,10 +22,6 @@ use Rattle.held_map.specs.HeldMap.{HeldMap}
 use Rattle.held_laws.specs.HeldLaws.{count-parents}
 use Rattle.held_laws.specs.Limits.{name-within}
 use Rattle.packing.specs.Order.{nameAt, orderNames}
-
-map-same : {A B : Type 0} (ok : A → Bool) (f g : A → B) (l : List A) → all ok l ≡ true → ((x : A) → ok x ≡ true → f x ≡ g x) → map f l ≡ map g l
-map-same ok f g [] h e = refl
-map-same ok f g (x ∷ l) h e = rw (e x (and-left (ok x) (all ok l) h), map-same ok f g l (and-right (ok x) (all ok l) h) e)
 
 -- a name by its two words, 255 for none
 name-words : (n : Name) → NameWithin 200 n → twoWords (firstWord n) (secondWord n) ≡ n
@@ -47,6 +41,6 @@ module _ (s : Sheet) (ts : Types) (es : Extensions) (p : Parents) (h : HeldMap s
   pub names-are : (o : Order) → Organized p o → orderNames (p .firsts) (p .seconds) (o .items) (o .count) ≡ organizeTypeMap (typeMapOf s)
   unfolding orderNames
   names-are o g =
-      map-same (λ t. ltb t (p .count)) (nameAt (p .firsts) (p .seconds)) (λ (t : ℕ). typeAt (typeMapOf s) t .name) (placesIn o) (g .within)
+      map-checked (λ t. ltb t (p .count)) (nameAt (p .firsts) (p .seconds)) (λ (t : ℕ). typeAt (typeMapOf s) t .name) (placesIn o) (g .within)
       (λ t e. name-at t (ltb-true t (p .count) e))
       ∙ g .order (typeMapOf s) (h .reads)

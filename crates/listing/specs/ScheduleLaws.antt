@@ -2,12 +2,13 @@
 use mathlib.Core.Bool.{Bool, true, false, _||_}
 use mathlib.Core.List.{List, _++_}
 use mathlib.Core.Path.{_≡_, refl, sym, ap, _∙_, subst}
-use Prim.Native.Nat.{ℕ, zero, suc, _+_, _*_, _/_, _<_, _≤_}
+use Prim.Native.Nat.{ℕ, _+_, _*_, _/_, _<_, _≤_}
 use native.Mathlib.Omega.{arith}
 use borrow.Author.Tests.{lt-ltb, le-ltb}
-use lib.ListN.{length, getD, length-append, replicate, length-replicate}
+use lib.ListN.{length, length-append, replicate, length-replicate}
 use Rattle.lists.specs.Lists.{each}
 use Rattle.lists.specs.Tests.{never}
+use Rattle.lists.specs.Places.{zero-at}
 use Rattle.definitions.specs.Records.{Name, Sheet}
 use Rattle.definitions.specs.Bits.{toBits, size}
 use Rattle.definitions.specs.Map.{typeMapOf}
@@ -149,11 +150,6 @@ pub as-small : (n : ℕ) (a b : List ℕ) → length b ≡ length a → length a
 as-small n a b e h = subst (λ (k : ℕ). k < n) (sym e) h
 
 -- ---- tables of zeros
-
-zero-at : (n i : ℕ) → getD {A = ℕ} (replicate n 0) i 0 ≡ 0
-zero-at zero i = refl
-zero-at (suc n) zero = refl
-zero-at (suc n) (suc i) = zero-at n i
 
 pub unmarked : Unmarked (replicate 1600 0)
 unmarked = record { long = length-replicate {A = ℕ} 1600 0; zeros = zero-at 1600 }

@@ -4,9 +4,11 @@ use mathlib.Core.List.{List, [], _∷_, _++_, map, map-append, append-nil}
 use mathlib.Core.Path.{_≡_, refl, sym, ap, ap₂, _∙_, subst}
 use Prim.Native.Nat.{ℕ, zero, suc, _+_, _*_, _≤_, _<_}
 use native.Mathlib.Omega.{arith}
-use lib.ListN.{length, getD, take}
+use lib.ListN.{length, getD}
 use lib.Seq
 use Rattle.lists.specs.Lists.{each}
+use Rattle.lists.specs.Tabulating.{taken, tabulate, each-start, each-next}
+use Rattle.lists.specs.Appending.{each-append, each-each}
 use Rattle.definitions.specs.Records.{Sheet, Item}
 use Rattle.definitions.specs.Records as records
 use Rattle.definitions.specs.Map.{Declaration, typeMapOf, declarationOf, mapOf}
@@ -14,7 +16,6 @@ use Rattle.definitions.specs.Items.{ancestors, itemsFor, itemsOf}
 use Rattle.definitions.specs.Packing.{itemBits}
 use Rattle.bits.specs.Writing.{Wrote}
 use Rattle.bits.specs.WriteLaws.{wrote-none, wrote-then}
-use Rattle.fields.specs.Tabulate.{tabulate}
 use Rattle.types.specs.declared.Types.{Types}
 use Rattle.types.specs.declared.Extensions.{Extensions}
 use Rattle.ordering.specs.Reading.{noType, valid}
@@ -27,9 +28,8 @@ use Rattle.own_classes.specs.OwnClasses.{OwnedOf}
 use Rattle.own_classes.specs.declared.Owned.{Owned}
 use Rattle.own_table.specs.OwnTable.{TakesOwn}
 use Rattle.table.specs.declared.Table.{Table}
-use Rattle.synthetic.specs.MadeLaws.{each-append, each-each}
 use Rattle.makings.specs.Makings.{Held}
-use Rattle.packing.specs.PackingLaws.{each-none, each-more, room-next}
+use Rattle.packing.specs.PackingLaws.{room-next}
 use Rattle.packing.specs.Room.{Room}
 use Rattle.item_bits.specs.Counts.{Counts}
 use Rattle.item_bits.specs.declared.Counted.{Counted}
@@ -40,11 +40,6 @@ use Rattle.type_items.specs.ItemLaws.{counts-start, counts-more}
 use Rattle.listing.specs.Grounds.{allItems, Ground, Grounded, CountsAll, RoomForTypes, WritesTypes}
 
 -- ---- a list, place by place
-
-taken : {A : Type 0} (l : List A) (d : A) (n : ℕ) → n ≤ length l → take n l ≡ tabulate (λ i. getD l i d) n
-unfolding tabulate
-taken l d zero h = refl
-taken l d (suc n) h = rw (Seq.take-suc l n d (omega arith), taken l d n (omega arith))
 
 each-tabulate : {A B C : Type 0} (F : B → List C) (g : A → B) (f : ℕ → A) (n : ℕ) → each F (map g (tabulate f n)) ≡ each (λ i. F (g (f i))) (tabulate (λ (i : ℕ). i) n)
 unfolding tabulate
@@ -162,20 +157,20 @@ module _ (own : List ℕ) (p : Parents) (t : Table) (table passed rows : List �
   typeBits s a = each itemBits (typeItems s a)
 
   bits-all : {s : Sheet} {ts : Types} {es : Extensions} → On s ts es → (a : ℕ) → a ≡ p .count → each (typeBits s) (tabulate (λ (i : ℕ). i) a) ≡ each itemBits (allItems s)
-  bits-all {s} o a e = each-each itemBits (typeItems s) (tabulate (λ (i : ℕ). i) a) ∙ ap (each itemBits) (types-all s a (e ∙ o .held .reads .count))
+  bits-all {s} o a e = sym (each-each (typeItems s) itemBits (tabulate (λ (i : ℕ). i) a)) ∙ ap (each itemBits) (types-all s a (e ∙ o .held .reads .count))
 
   pub record Writing (a : ℕ) (b c : List ℕ) (q r : ℕ) : Type 0 where
     pub wrote : (s : Sheet) (ts : Types) (es : Extensions) → On s ts es → Wrote b c q r (each (typeBits s) (tabulate (λ (i : ℕ). i) a))
 
   pub writing-start : (b : List ℕ) (q : ℕ) → Writing 0 b b q q
-  writing-start b q = record { wrote = λ s ts es o. rw (each-none (typeBits s) (λ (i : ℕ). i)) (wrote-none b q) }
+  writing-start b q = record { wrote = λ s ts es o. rw (each-start (typeBits s) (λ (i : ℕ). i)) (wrote-none b q) }
 
   pub writing-more : (a : ℕ) → a < p .count → (w : Owned) → Owns a w → (x : Site) → At a w x → (b c d : List ℕ) (q r u : ℕ) → Writing a b c q r
       → WritesType (w .count) (w .words) (w .doms) t table passed x c d r u → Writing (a + 1) b d q u
   writing-more a h w y x e b c d q r u f g =
       record {
         wrote = λ s ts es o.
-            rw (each-more (typeBits s) (λ (i : ℕ). i) a)
+            rw (each-next (typeBits s) (λ (i : ℕ). i) a)
             (wrote-then (f .wrote s ts es o) (subst (λ (i : ℕ). Wrote c d r u (typeBits s i)) (e .at) (g .wrote s ts es p (scene-at o a h w y x e))));
       }
 

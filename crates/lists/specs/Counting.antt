@@ -10,7 +10,7 @@ use Rattle.lists.specs.Tests.{cons-elim}
 use Rattle.lists.specs.Sorting.{Distinct, sorted-imp}
 
 -- a member, with what stands before it and behind it
-around : {A : Type 0} {x : A} {l : List A} → In x l → (a b : List A) × (l ≡ a ++ x ∷ b)
+pub around : {A : Type 0} {x : A} {l : List A} → In x l → (a b : List A) × (l ≡ a ++ x ∷ b)
 around (List·Memᴰ·head {x = y} {xs = l} e) = ([], l, ap (λ z. z ∷ l) (sym e))
 around (List·Memᴰ·tail {x = y} h) = let r = around h in (y ∷ r .0, r .1, ap (λ k. y ∷ k) (r .2))
 

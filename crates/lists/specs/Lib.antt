@@ -8,3 +8,5 @@ pub mod Padding
 pub mod Members
 pub mod Appending
 pub mod Permutations
+pub mod Places
+pub mod Tabulating

@@ -3,7 +3,10 @@ use mathlib.Core.Bool.{Bool, true, false, _&&_, _||_, or-true}
 use mathlib.Core.List.{List, [], _∷_, cons≢nil, List·Memᴰ·head, List·Memᴰ·tail, List·Memᴰ·not-nil, List·Memᴰ·cases-cons, Memᴰ·append-left, Memᴰ·append-right, List·Memᴰ·append-cases}
 use mathlib.Core.Logic.{_⊎_, inl, inr, ⊎-elim, _↔_}
 use mathlib.Core.Path.{_≡_, refl, sym, ap, _∙_, subst}
-use Prim.Native.Nat.{ℕ}
+use Prim.Native.Nat.{ℕ, suc}
+use native.Mathlib.Omega.{arith}
+use borrow.Author.Tests.{eq-eqb, ne-eqb, eqb-true, eqb-false}
+use lib.Dec.{eqb}
 use Rattle.lists.specs.Lists.{In, At, here, later, any, all, null, keep, filter, each, firstOf, placeOf}
 
 -- ---- tests
@@ -42,6 +45,10 @@ pub or-cases : (a b : Bool) → (a || b) ≡ true → (a ≡ true) ⊎ (b ≡ tr
 or-cases true b e = inl refl
 or-cases false b e = inr e
 
+pub or-elim : {C : Type 0} (a b : Bool) → (a || b) ≡ true → (a ≡ true → C) → (b ≡ true → C) → C
+or-elim true b e f g = f refl
+or-elim false b e f g = g e
+
 pub or-left : {a : Bool} (b : Bool) → a ≡ true → (a || b) ≡ true
 or-left b e = rw e
 
@@ -56,6 +63,21 @@ pub or-false-right : (a b : Bool) → (a || b) ≡ false → b ≡ false
 or-false-right true b e = never refl e
 or-false-right false b e = e
 
+pub neither : (a b : Bool) → (a || b) ≡ false → (a ≡ false) × (b ≡ false)
+neither a b e = (or-false-left a b e, or-false-right a b e)
+
+pub or-false-both : {a b : Bool} → a ≡ false → b ≡ false → (a || b) ≡ false
+or-false-both p q = rw (p, q)
+
+pub eqb-flip : (a b : ℕ) → eqb a b ≡ eqb b a
+eqb-flip a b = by (eqb a b) (λ e. e ∙ sym (eq-eqb b a (sym (eqb-true a b e)))) (λ e. e ∙ sym (ne-eqb b a (λ q. eqb-false a b e (sym q))))
+
+pub eqb-suc : (a b : ℕ) → eqb (suc a) (suc b) ≡ eqb a b
+eqb-suc a b =
+    by (eqb a b)
+    (λ t. eq-eqb (suc a) (suc b) (ap suc (eqb-true a b t)) ∙ sym t)
+    (λ t. ne-eqb (suc a) (suc b) (λ e. eqb-false a b t (omega arith)) ∙ sym t)
+
 -- ---- members
 
 pub cons-elim : {A C : Type 0} {x y : A} {l : List A} → In x (y ∷ l) → (x ≡ y → C) → (In x l → C) → C
@@ -65,6 +87,10 @@ cons-elim h f g = ⊎-elim f g (List·Memᴰ·cases-cons h)
 pub null-of : {A : Type 0} (l : List A) → ((x : A) → In x l → ⊥) → null l ≡ true
 null-of [] h = refl
 null-of (x ∷ l) h = absurd (h x (List·Memᴰ·head refl))
+
+pub null-nil : {A : Type 0} (l : List A) → null l ≡ true → l ≡ []
+null-nil [] e = refl
+null-nil (x ∷ l) e = never e refl
 
 pub null-in : {A : Type 0} {x : A} {l : List A} → null l ≡ true → In x l → ⊥
 null-in e (List·Memᴰ·head p) = never e refl

@@ -1,38 +1,16 @@
 -- What makes a resource is the same over a map without the parents and the annotations of its types.
-use mathlib.Core.Bool.{Bool, not, _&&_, _||_}
-use mathlib.Core.List.{List, [], _∷_, map}
-use mathlib.Core.Path.{_≡_, refl, ap, ap₂, _∙_}
+use mathlib.Core.Bool.{not, _||_}
+use mathlib.Core.List.{List, map}
+use mathlib.Core.Path.{_≡_, refl, ap, _∙_}
 use Prim.Native.Nat.{ℕ}
-use Rattle.lists.specs.Lists.{any, all, null, keep, filter, each, firstOf}
-use Rattle.lists.specs.Appending.{filter-map, each-map, each-same}
+use Rattle.lists.specs.Lists.{any, all, null, each}
+use Rattle.lists.specs.Appending.{filter-map, each-map, each-same, null-map, all-map, all-alike}
 use Rattle.definitions.specs.Records.{Name, Item}
 use Rattle.definitions.specs.Orders.{lookUp, dotted, sameName}
 use Rattle.definitions.specs.Map.{Declaration, Map}
 use Rattle.definitions.specs.Making.{declared, isResourceVariant, isResource, extensionParents, marksOf, allVirtual, createSyntheticResource, extensionLine, sameItem}
 use Rattle.definitions.specs.Synthesis.{classRow, isDuplicate, withMaking}
 use Rattle.lookup_laws.specs.Bare.{bare, bareMap}
-
--- ---- lists
-
-null-map : {A B : Type 0} (f : A → B) (l : List A) → null (map f l) ≡ null l
-null-map f [] = refl
-null-map f (x ∷ l) = refl
-
-all-map : {A B : Type 0} (g : B → Bool) (f : A → B) (l : List A) → all g (map f l) ≡ all (λ x. g (f x)) l
-all-map g f [] = refl
-all-map g f (x ∷ l) = ap (λ b. g (f x) && b) (all-map g f l)
-
-pub all-same : {A : Type 0} (f g : A → Bool) → ((x : A) → f x ≡ g x) → (l : List A) → all f l ≡ all g l
-all-same f g h [] = refl
-all-same f g h (x ∷ l) = ap₂ (λ a b. a && b) (h x) (all-same f g h l)
-
-pub filter-same : {A : Type 0} (f g : A → Bool) → ((x : A) → f x ≡ g x) → (l : List A) → filter f l ≡ filter g l
-filter-same f g h [] = refl
-filter-same f g h (x ∷ l) = ap₂ (λ b k. keep b x k) (h x) (filter-same f g h l)
-
-pub first-same : {A : Type 0} (f g : A → Bool) → ((x : A) → f x ≡ g x) → (l : List A) → firstOf f l ≡ firstOf g l
-first-same f g h [] = refl
-first-same f g h (x ∷ l) = ap₂ (λ b k. mathlib.Core.Bool.cond b (x ∷ []) k) (h x) (first-same f g h l)
 
 -- ---- looking up
 
@@ -57,7 +35,7 @@ module _ (M : Map) where
   pub bare-virtual : (cs : List Name) → allVirtual (bareMap M) cs ≡ allVirtual M cs
   unfolding allVirtual bare
   bare-virtual cs =
-      all-same (λ c. all (λ (D : Declaration). D .virtual) (declared (bareMap M) c)) (λ c. all (λ (D : Declaration). D .virtual) (declared M c))
+      all-alike (λ c. all (λ (D : Declaration). D .virtual) (declared (bareMap M) c)) (λ c. all (λ (D : Declaration). D .virtual) (declared M c))
       (λ c. ap (all (λ (D : Declaration). D .virtual)) (bare-declared c) ∙ all-map (λ (D : Declaration). D .virtual) bare (declared M c)) cs
 
   pub bare-extension : (n : Name) (r : ℕ) → extensionParents (bareMap M) n r ≡ extensionParents M n r

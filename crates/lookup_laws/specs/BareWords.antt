@@ -4,6 +4,7 @@ use mathlib.Core.List.{List, [], _∷_, map}
 use mathlib.Core.Path.{_≡_, refl, sym, ap, ap₂, _∙_}
 use Prim.Native.Nat.{ℕ}
 use Rattle.lists.specs.Lists.{null, filter, firstOf}
+use Rattle.lists.specs.Appending.{filter-alike, first-alike}
 use Rattle.definitions.specs.Records.{Name, AssociatedResource, Item}
 use Rattle.definitions.specs.Checks.{resourcesOf}
 use Rattle.definitions.specs.Map.{Declaration, Map}
@@ -11,7 +12,7 @@ use Rattle.definitions.specs.Inherited.{InheritedAnnotation}
 use Rattle.definitions.specs.Making.{declared, classNames, isResource, createSyntheticResource}
 use Rattle.definitions.specs.Synthesis.{classRow, Interpreted, interpreted, behindRow, behindRows, Verdict, unknownClasses, ends, noResource, duplicate, makes, judge, firstParents, isDuplicate, withMaking, interpretWords, interpretAll}
 use Rattle.lookup_laws.specs.Bare.{bare, bareMap}
-use Rattle.lookup_laws.specs.BareLaws.{filter-same, first-same, bare-unknown, bare-resource, bare-created, bare-duplicate, bare-making}
+use Rattle.lookup_laws.specs.BareLaws.{bare-unknown, bare-resource, bare-created, bare-duplicate, bare-making}
 
 -- what a verdict comes to, where the words that are left come to `rest`
 unfoldable behind : Declaration → ℕ → Item → List Item → (Bool → List Item → Interpreted) → Verdict → Interpreted
@@ -59,8 +60,8 @@ module _ (M : Map) (T : Declaration) where
   verdict-bare Ps u failed is =
       let cs = classNames (u .doms) (u .word) in
       ap₂ (λ a b. judge failed a b (isDuplicate (bareMap M) (bare T) (u .word) (newOf (bareMap M) (bare T) Ps u) is))
-      (filter-same (λ c. null (declared (bareMap M) c)) (λ c. null (declared M c)) (bare-unknown M) cs)
-      (first-same (λ c. not (isResource (bareMap M) c)) (λ c. not (isResource M c)) (λ c. ap not (bare-resource M c)) cs)
+      (filter-alike (λ c. null (declared (bareMap M) c)) (λ c. null (declared M c)) (bare-unknown M) cs)
+      (first-alike (λ c. not (isResource (bareMap M) c)) (λ c. not (isResource M c)) (λ c. ap not (bare-resource M c)) cs)
       ∙ ap (judge failed (filter (λ c. null (declared M c)) cs) (firstOf (λ c. not (isResource M c)) cs))
       (bare-duplicate M T (u .word) (newOf (bareMap M) (bare T) Ps u) is ∙ ap (λ n. isDuplicate M T (u .word) n is) (new-bare Ps u))
 

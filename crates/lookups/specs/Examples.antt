@@ -2,19 +2,19 @@
 use mathlib.Core.Bool.{true, false}
 use mathlib.Core.List.{List, [], _∷_}
 use mathlib.Core.Path.{_≡_, refl}
-use Prim.Native.Nat.{ℕ, zero, suc, _<_}
+use Prim.Native.Nat.{_<_}
 use native.Mathlib.Omega.{arith}
 use borrow.Author.Tests.{ltb-true}
 use lib.Dec.{ltb}
 use lib.ListN.{length}
 use Rattle.lists.specs.Tests.{all-in}
+use Rattle.lists.specs.Tabulating.{tabulate}
 use Rattle.rows.specs.Rows.{single}
 use Rattle.definitions.specs.Records.{domain, resource, makelistMark, associate, Extension, TypeInfo}
 use Rattle.definitions.specs.Map.{TypeMap, declarationOf, mapOf}
-use Rattle.fields.specs.Tabulate.{tabulate}
 use Rattle.records.specs.Marks.{ofMarks}
 use Rattle.table.specs.Table.{declarationAt}
-use Rattle.table.specs.Examples.{example, example-read, example-sound}
+use Rattle.table.specs.Examples.{example, example-read, example-sound, three}
 use Rattle.synthetic.specs.Made.{Fits}
 use Rattle.ordering.specs.Reading.{typeAt}
 use Rattle.lookup_laws.specs.Bare.{bare, bareMap}
@@ -32,13 +32,6 @@ exampleTypes =
 
 abbrev pub exampleTypeMap : TypeMap
 exampleTypeMap = record { resource = 2; self = 3; types = exampleTypes; extensions = [] }
-
--- by the places below three
-three : (P : ℕ → Type 0) → P 0 → P 1 → P 2 → (i : ℕ) → i < 3 → P i
-three P a b c zero h = a
-three P a b c (suc zero) h = b
-three P a b c (suc (suc zero)) h = c
-three P a b c (suc (suc (suc i))) h = absurd (omega arith)
 
 pub example-of : TableOf exampleTypeMap example
 unfolding bareMap mapOf bare declarationOf declarationAt tabulate ofMarks

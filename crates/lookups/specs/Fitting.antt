@@ -11,29 +11,29 @@ use Rattle.lists.specs.Lists.{In, any, filter, each, repeats}
 use Rattle.lists.specs.Tests.{by, never, not-so, and-left, and-right, and-both, or-false-left, or-false-right, any-not, filter-of}
 use Rattle.lists.specs.Appending.{filter-map, each-map, each-each, each-same, map-map}
 use Rattle.lists.specs.Sorting.{Distinct, sorted-filter}
-use Rattle.lists.specs.Members.{filter-none, distinct-each}
+use Rattle.lists.specs.Members.{filter-none, distinct-each, each-short}
 use Rattle.lists.specs.Counting.{pigeonhole}
 use Rattle.lists.specs.Lexicographic.{same-numbers, numbers-same}
+use Rattle.lists.specs.Tabulating.{places, length-tabulate, map-tabulate, tabulate-in, tabulate-of}
 use Rattle.rows.specs.declared.Row.{Row}
-use Rattle.rows.specs.Rows.{has, hasBit, single}
-use Rattle.rows.specs.RowLaws.{has-single, bit-none}
-use Rattle.rows.specs.Lists.{below, between-same, between-none}
+use Rattle.rows.specs.Rows.{has, single}
+use Rattle.rows.specs.Lists.{below}
 use Rattle.annotations.specs.Reading.{domAt, domsOf}
+use Rattle.annotations.specs.Laws.{doms-single}
 use Rattle.definitions.specs.Records.{Name, Mark, Extension}
 use Rattle.definitions.specs.Orders.{sameName, lookUp, dotted}
 use Rattle.definitions.specs.Map.{TypeMap, Declaration, mapOf}
 use Rattle.definitions.specs.Making.{declared, extensionParents, marksOf}
-use Rattle.fields.specs.Tabulate.{places, length-tabulate}
 use Rattle.fields.specs.FieldLaws.{length-ofNames}
 use Rattle.records.specs.MarkLaws.{length-ofMarks}
 use Rattle.types.specs.Extensions.{extensionOf, zeroExtension, ofExtensions}
 use Rattle.table.specs.declared.Table.{Table}
 use Rattle.table.specs.Table.{zeroMarks, nameAt, declarationAt, tableMap, Sound}
-use Rattle.synthetic.specs.Made.{classesOf, namesIn, firstsOf, Fits}
+use Rattle.synthetic.specs.Made.{classesOf, firstsOf, Fits}
+use Rattle.synthetic.specs.MadeLaws.{names-none}
 use Rattle.lookup_laws.specs.Bare.{bareMap}
 use Rattle.lookups.specs.TableOf.{TableOf}
-use Rattle.lookups.specs.TableLaws.{map-tabulate, tabulate-in}
-use Rattle.lookups.specs.Ranges.{between-one, between-distinct, tabulate-of, upto, upto-distinct, each-most}
+use Rattle.lookups.specs.Ranges.{between-distinct, upto, upto-distinct}
 
 -- ---- marks
 
@@ -101,7 +101,7 @@ module _ (t : Table) where
   marks-fit s doms r =
       let l = classPlaces doms r in
       let n : length l ≤ length (upto (t .count)) = pigeonhole l (upto (t .count)) (classes-distinct doms r) (λ i h. tabulate-in (λ i. i) (t .count) i (class-place doms r i h)) in
-      let b : length (each marksAt l) ≤ 7 * length l = each-most marksAt 7 l (λ i h. few-marks s i (class-place doms r i h)) in
+      let b : length (each marksAt l) ≤ length l * 7 = each-short marksAt l 7 (λ i h. few-marks s i (class-place doms r i h)) in
       omega (arith, ap length (marks-placed doms r), length-tabulate (λ i. i) (t .count), s .room)
 
 -- ---- the parents of an extension
@@ -158,14 +158,6 @@ module _ {m : TypeMap} {t : Table} (o : TableOf m t) where
   fits T r doms ps h w l = record { place = h; word = w; firsts = l; added = added-fits T h r; marks = marks-fit t (o .sound) doms r }
 
 -- ---- an own making
-
-pub doms-single : (k : ℕ) → k < 201 → domsOf (single k) ≡ domAt k ∷ []
-unfolding domsOf
-doms-single k h = ap (map domAt) (between-same (has (single k)) (eqb k) 0 201 (λ j a b. has-single k j (omega arith)) ∙ between-one k 0 201 (omega arith) (omega arith))
-
-pub names-none : (t : Table) → namesIn t 0 ≡ []
-unfolding namesIn
-names-none t = ap (map (nameAt t)) (between-none (hasBit 0) 0 (t .count) bit-none)
 
 -- its first parent is its class
 pub own-firsts : (t : Table) (k r : ℕ) → k < 201 → firstsOf t (single k) 0 r ≡ dotted (domAt k) r ∷ []

@@ -1,23 +1,22 @@
 -- The table of listed types and extensions is the table of every map that has them.
 use mathlib.Core.Bool.{true, false, _&&_}
-use mathlib.Core.List.{List, [], _∷_, _++_, map, List·Memᴰ·head, Memᴰ·append-left, Memᴰ·append-right}
-use mathlib.Core.Path.{_≡_, refl, sym, ap, _∙_}
-use Prim.Native.Nat.{ℕ, zero, suc, _≤_, _<_}
+use mathlib.Core.List.{map}
+use mathlib.Core.Path.{_≡_, sym, ap, _∙_}
+use Prim.Native.Nat.{ℕ, _≤_, _<_}
 use native.Mathlib.Omega.{arith}
-use borrow.Author.Tests.{eqb-true, eqb-false}
 use lib.Dec.{eqb}
-use lib.ListN.{length, getD, List·getD-append}
-use lib.Seq
-use Rattle.lists.specs.Lists.{In, At, here, later, repeats}
-use Rattle.lists.specs.Tests.{by, never, at-in}
-use Rattle.lists.specs.Appending.{map-append, map-map}
+use lib.ListN.{length, getD}
+use Rattle.lists.specs.Lists.{repeats}
+use Rattle.lists.specs.Tests.{never}
+use Rattle.lists.specs.Appending.{map-map}
 use Rattle.lists.specs.Members.{at-sorted}
 use Rattle.lists.specs.Sorting.{repeats-not}
 use Rattle.lists.specs.Lexicographic.{numbers-same}
+use Rattle.lists.specs.Tabulating.{getD-tabulate, tabulate-in, map-tabulate, tabulate, places, tabulate-same}
+use Rattle.lists.specs.Places.{at-place, getD-in}
 use Rattle.definitions.specs.Records as records
 use Rattle.definitions.specs.Orders.{sameName}
 use Rattle.definitions.specs.Map.{Declaration, TypeMap, declarationOf, mapOf}
-use Rattle.fields.specs.Tabulate.{tabulate, places, length-tabulate, tabulate-same}
 use Rattle.fields.specs.FieldLaws.{length-ofNames}
 use Rattle.records.specs.Marks.{ofMarks}
 use Rattle.records.specs.MarkLaws.{length-ofMarks}
@@ -33,39 +32,6 @@ use Rattle.lookup_laws.specs.Bare.{bare, bareMap}
 use Rattle.lookups.specs.TableOf.{TableOf}
 use Rattle.lookups.specs.Listable.{Listable, Filled}
 
--- ---- the first places of an array
-
-pub tabulate-at : {A : Type 0} (f : ℕ → A) (n i : ℕ) (d : A) → i < n → getD (tabulate f n) i d ≡ f i
-unfolding tabulate
-tabulate-at f zero i d h = absurd (omega arith)
-tabulate-at f (suc n) i d h =
-    by (eqb i n)
-    (λ e. let q : i ≡ n = eqb-true i n e in rw q (Seq.getD-at (tabulate f n) (f n) [] d n (length-tabulate f n)))
-    (λ e.
-    let l : i < n = omega (arith, eqb-false i n e) in
-    List·getD-append (tabulate f n) (f n ∷ []) d i (omega (arith, length-tabulate f n)) ∙ tabulate-at f n i d l)
-
-pub tabulate-in : {A : Type 0} (f : ℕ → A) (n i : ℕ) → i < n → In (f i) (tabulate f n)
-unfolding tabulate
-tabulate-in f zero i h = absurd (omega arith)
-tabulate-in f (suc n) i h =
-    by (eqb i n)
-    (λ e. let q : i ≡ n = eqb-true i n e in rw q (Memᴰ·append-right (tabulate f n) (List·Memᴰ·head refl)))
-    (λ e. let l : i < n = omega (arith, eqb-false i n e) in Memᴰ·append-left (f n ∷ []) (tabulate-in f n i l))
-
-pub map-tabulate : {A B : Type 0} (g : A → B) (f : ℕ → A) (n : ℕ) → map g (tabulate f n) ≡ tabulate (λ i. g (f i)) n
-unfolding tabulate
-map-tabulate g f zero = refl
-map-tabulate g f (suc n) = map-append g (tabulate f n) (f n ∷ []) ∙ ap (λ l. l ++ (g (f n) ∷ [])) (map-tabulate g f n)
-
-at-place : {A : Type 0} (l : List A) (d : A) (i : ℕ) → i < length l → At (getD l i d) i l
-at-place [] d i h = absurd (omega arith)
-at-place (x ∷ l) d zero h = here
-at-place (x ∷ l) d (suc i) h = later (at-place l d i (omega arith))
-
-pub place-in : {A : Type 0} (l : List A) (d : A) (i : ℕ) → i < length l → In (getD l i d) l
-place-in l d i h = at-in (at-place l d i h)
-
 -- ---- the table
 
 module _ (ts : Types) (es : Extensions) (w : ℕ) (o r : Table) (g : Listable (ofTypes ts) (ofExtensions es)) (c : o .count ≡ ts .count) (x : o .extensions ≡ es) (s : o .resource ≡ w)
@@ -78,7 +44,7 @@ module _ (ts : Types) (es : Extensions) (w : ℕ) (o r : Table) (g : Listable (o
 
   type-there : (i : ℕ) → i < ts .count → typeAt m i ≡ typeInfoOf (getD (ts .items) i zeroType)
   unfolding ofTypes places
-  type-there i h = ap (λ l. getD l i noType) (sym mt) ∙ tabulate-at (λ k. typeInfoOf (getD (ts .items) k zeroType)) (ts .count) i noType h
+  type-there i h = ap (λ l. getD l i noType) (sym mt) ∙ getD-tabulate (λ k. typeInfoOf (getD (ts .items) k zeroType)) (ts .count) i noType h
 
   read-at : (i : ℕ) → i < r .count → declarationAt r i ≡ bare (declarationOf (typeAt m i))
   read-at i h =
@@ -117,7 +83,7 @@ module _ (ts : Types) (es : Extensions) (w : ℕ) (o r : Table) (g : Listable (o
   few-marks i h =
       let e : ofMarks (getD (r .marks) i zeroMarks) ≡ typeAt m i .marks = ap (λ (D : Declaration). D .marks) (read-at i h) in
       let n : typeAt m i ≡ getD (ofTypes ts) i noType = ap (λ l. getD l i noType) (sym mt) in
-      let b : length (typeAt m i .marks) ≤ 7 = rw n (g .marks (getD (ofTypes ts) i noType) (place-in (ofTypes ts) noType i (omega (arith, many, length-ofTypes ts)))) in
+      let b : length (typeAt m i .marks) ≤ 7 = rw n (g .marks (getD (ofTypes ts) i noType) (getD-in (ofTypes ts) noType i (omega (arith, many, length-ofTypes ts)))) in
       omega (arith, ap length e, length-ofMarks (getD (r .marks) i zeroMarks))
 
   few-parents : (i : ℕ) → i < es .count → getD (es .items) i zeroExtension .parents .count ≤ 8

@@ -8,15 +8,16 @@ use borrow.Author.Tests.{ltb-true, ltb-false}
 use lib.Dec.{eqb, ltb}
 use lib.ListN.{getD}
 use Rattle.lists.specs.Tests.{by}
+use Rattle.lists.specs.Appending.{map-map}
+use Rattle.lists.specs.Tabulating.{tabulate, places, tabulate-same}
 use Rattle.rows.specs.Rows.{hasBit}
-use Rattle.rows.specs.Lists.{between, below, map-map}
+use Rattle.rows.specs.Lists.{between, below}
 use Rattle.rows.specs.Next.{First}
 use Rattle.rows.specs.NextLaws.{from-next, from-all}
 use Rattle.definitions.specs.Records.{Name}
 use Rattle.definitions.specs.Records as records
 use Rattle.definitions.specs.Orders.{sameName, dotted}
 use Rattle.fields.specs.Fields.{twoWords, nameOf, ofNames}
-use Rattle.fields.specs.Tabulate.{tabulate, places, tabulate-same}
 use Rattle.types.specs.Extensions.{extensionOf, ofExtensions}
 use Rattle.types.specs.declared.Extension.{Extension}
 use Rattle.table.specs.declared.Table.{Table}

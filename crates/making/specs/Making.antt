@@ -4,10 +4,10 @@ use mathlib.Core.List.{List, _∷_, _++_}
 use Prim.Native.Nat.{ℕ}
 use lib.Dec.{eqb}
 use lib.ListN.{getD}
+use Rattle.lists.specs.Tabulating.{tabulate}
 use Rattle.definitions.specs.Records.{makelistMark, deriveMark, Item, synthesized, extension}
 use Rattle.definitions.specs.Records as records
 use Rattle.fields.specs.Fields.{optional, nameOf}
-use Rattle.fields.specs.Tabulate.{tabulate}
 use Rattle.making.specs.declared.Parent.{Parent}
 use Rattle.making.specs.declared.Parents.{Parents}
 use Rattle.making.specs.declared.Mark.{Mark}

@@ -6,8 +6,8 @@ use native.Mathlib.Omega.{arith}
 use borrow.Author.Tests.{ne-eqb}
 use lib.ListN.{length, getD, set}
 use lib.Seq
+use Rattle.lists.specs.Tabulating.{tabulate-set, length-tabulate}
 use Rattle.fields.specs.Fields.{optional, nameOf}
-use Rattle.fields.specs.Tabulate.{tabulate-set, length-tabulate}
 use Rattle.fields.specs.declared.Name.{Name}
 use Rattle.making.specs.Making.{threeWords, parentOf, parentAt, parentsOf, markAs, markOf, markAt, marksOf}
 use Rattle.making.specs.declared.Parent.{Parent}

@@ -7,6 +7,7 @@ use native.Mathlib.Omega.{arith}
 use lib.ListN.{length}
 use Rattle.lists.specs.Lists.{In, any, filter}
 use Rattle.lists.specs.Tests.{by, any-of, filter-in}
+use Rattle.lists.specs.Appending.{map-map}
 use Rattle.definitions.specs.Records.{Name, Dom, Sheet, TypeInfo}
 use Rattle.definitions.specs.Orders.{dotted}
 use Rattle.definitions.specs.Map.{TypeMap, Declaration, typeMapOf, declarationOf, mapOf}
@@ -16,8 +17,9 @@ use Rattle.line_laws.specs.Statements.{Readable}
 use Rattle.line_laws.specs.Unroll.{tests-unroll}
 use Rattle.rows.specs.declared.Row.{Row}
 use Rattle.rows.specs.Rows.{hasBit, single}
-use Rattle.rows.specs.Lists.{between, below, map-map, map-between}
+use Rattle.rows.specs.Lists.{between, below, map-between}
 use Rattle.annotations.specs.Reading.{domAt, domsOf}
+use Rattle.annotations.specs.Laws.{doms-single}
 use Rattle.ordering.specs.Lists as ordering
 use Rattle.ordering.specs.Reading.{typeAt}
 use Rattle.table.specs.declared.Table.{Table}
@@ -25,7 +27,7 @@ use Rattle.table.specs.Table.{nameAt}
 use Rattle.synthetic.specs.Made.{classesOf, namesIn, firstsOf, created}
 use Rattle.synthetic.specs.MadeLaws.{firsts-inherited}
 use Rattle.lookups.specs.TableOf.{TableOf}
-use Rattle.lookups.specs.Fitting.{doms-single, own-firsts}
+use Rattle.lookups.specs.Fitting.{own-firsts}
 use Rattle.lookups.specs.OverMap.{created-is}
 
 -- ---- the numbers below n, by the two definitions of them

@@ -6,6 +6,8 @@ use Prim.Native.Nat.{ℕ, zero, suc, _+_, _<_}
 use native.Mathlib.Omega.{arith}
 use lib.ListN.{length, getD, take}
 use Rattle.lists.specs.Lists.{keep, filter}
+use Rattle.lists.specs.Tabulating.{tabulate, tabulate-more}
+use Rattle.lists.specs.Appending.{map-map}
 use Rattle.definitions.specs.Records.{Resource, Sheet, Item}
 use Rattle.definitions.specs.Orders.{dotted}
 use Rattle.definitions.specs.Map.{Map, typeMapOf, mapOf}
@@ -14,10 +16,9 @@ use Rattle.line_laws.specs.Counts.{counts-are}
 use Rattle.types.specs.declared.Types.{Types}
 use Rattle.types.specs.declared.Extensions.{Extensions}
 use Rattle.rows.specs.declared.Row.{Row}
-use Rattle.fields.specs.Tabulate.{tabulate, tabulate-more}
 use Rattle.rows.specs.Rows.{has, hasBit, single, either, empty}
 use Rattle.rows.specs.RowLaws.{has-either, has-single}
-use Rattle.rows.specs.Lists.{below, map-map}
+use Rattle.rows.specs.Lists.{below}
 use Rattle.annotations.specs.Reading.{domAt, domsOf}
 use Rattle.ordering.specs.Lists as ordering
 use Rattle.ordering.specs.Reading.{typeAt}

@@ -1,5 +1,5 @@
 -- Laws of tests and of lists that the order is proved with. Nothing here knows of types.
-use mathlib.Core.Bool.{Bool, true, false, _&&_, _||_, not, cond, or-assoc, and-assoc, or-false, and-true, or-true, and-false}
+use mathlib.Core.Bool.{Bool, true, false, _&&_, _||_, not, cond, or-false, and-true, or-true, and-false}
 use mathlib.Core.List.{List, [], _∷_, _++_, map, append-nil, append-assoc, cons≢nil}
 use mathlib.Core.Logic.{⊎-elim}
 use mathlib.Core.Path.{_≡_, refl, sym, ap, ap₂, _∙_, subst}
@@ -9,83 +9,17 @@ use native.Mathlib.Numerals.{add-one}
 use native.Mathlib.Omega.{arith}
 use lib.Dec.{eqb, ltb}
 use lib.ListN.{length, getD, take, set, length-append, List·getD-append}
-use lib.Seq.{take-suc, take-suc-set, getD-at, ext-getD}
-use borrow.Author.Tests.{eq-eqb, ne-eqb, eqb-true, eqb-false, lt-ltb}
-use Rattle.lists.specs.Lists.{any, all, null, sameList, keep, filter, each, firstOf, placeOf}
-
--- ---- tests
-
--- by the two values of a test, with the equation
-pub by : {C : Type 0} (b : Bool) → (b ≡ true → C) → (b ≡ false → C) → C
-by true f g = f refl
-by false f g = g refl
-
-pub never : {C : Type 0} {b : Bool} → b ≡ true → b ≡ false → C
-never p q = absurd (mathlib.Core.Bool.true≢false (sym p ∙ q))
-
--- two tests that imply each other are equal
-pub same-test : {a b : Bool} → (a ≡ true → b ≡ true) → (b ≡ true → a ≡ true) → a ≡ b
-same-test {a = true} {b = true} f g = refl
-same-test {a = true} {b = false} f g = sym (f refl)
-same-test {a = false} {b = true} f g = g refl
-same-test {a = false} {b = false} f g = refl
-
-pub and-left : (a b : Bool) → (a && b) ≡ true → a ≡ true
-and-left true b e = refl
-and-left false b e = e
-
-pub and-right : (a b : Bool) → (a && b) ≡ true → b ≡ true
-and-right true b e = e
-and-right false b e = never e refl
-
-pub or-elim : {C : Type 0} (a b : Bool) → (a || b) ≡ true → (a ≡ true → C) → (b ≡ true → C) → C
-or-elim true b e f g = f refl
-or-elim false b e f g = g e
-
-pub or-left : (a b : Bool) → a ≡ true → (a || b) ≡ true
-or-left a b e = rw e
-
-pub or-right : (a b : Bool) → b ≡ true → (a || b) ≡ true
-or-right a b e = rw (e, or-true)
-
-pub or-false-both : (a b : Bool) → a ≡ false → b ≡ false → (a || b) ≡ false
-or-false-both a b p q = rw (p, q)
-
-pub or-false-left : (a b : Bool) → (a || b) ≡ false → a ≡ false
-or-false-left true b e = e
-or-false-left false b e = refl
-
-pub or-false-right : (a b : Bool) → (a || b) ≡ false → b ≡ false
-or-false-right true b e = never refl e
-or-false-right false b e = e
+use lib.Seq.{take-suc-set, getD-at, ext-getD}
+use borrow.Author.Tests.{eq-eqb, ne-eqb, eqb-true, lt-ltb}
+use Rattle.lists.specs.Lists.{any, all, sameList, keep, filter, each, firstOf, placeOf}
+use Rattle.lists.specs.Tests.{by, never, same-test, and-left, and-right, or-elim, or-left, or-right, or-false-left, or-false-right}
+use Rattle.lists.specs.Appending.{append-empty, any-append, all-append, each-append, filter-append, map-append}
+use Rattle.lists.specs.Places.{any-taken}
+use Rattle.lists.specs.Lexicographic.{same-numbers, numbers-same}
 
 -- ---- any, all, each, filter, firstOf, placeOf
 
 module _ {A : Type 0} where
-  pub any-append : (f : A → Bool) (a b : List A) → any f (a ++ b) ≡ (any f a || any f b)
-  any-append f [] b = refl
-  any-append f (x ∷ a) b = rw (any-append f a b) (sym (or-assoc (f x) (any f a) (any f b)))
-
-  pub all-append : (f : A → Bool) (a b : List A) → all f (a ++ b) ≡ (all f a && all f b)
-  all-append f [] b = refl
-  all-append f (x ∷ a) b = rw (all-append f a b) (sym (and-assoc (f x) (all f a) (all f b)))
-
-  pub each-append : {B : Type 0} (f : A → List B) (a b : List A) → each f (a ++ b) ≡ each f a ++ each f b
-  each-append f [] b = refl
-  each-append f (x ∷ a) b = rw (each-append f a b) (sym (append-assoc (f x) (each f a) (each f b)))
-
-  keep-append : (c : Bool) (x : A) (a b : List A) → keep c x (a ++ b) ≡ keep c x a ++ b
-  keep-append true x a b = refl
-  keep-append false x a b = refl
-
-  pub filter-append : (f : A → Bool) (a b : List A) → filter f (a ++ b) ≡ filter f a ++ filter f b
-  filter-append f [] b = refl
-  filter-append f (x ∷ a) b = rw (filter-append f a b) (keep-append (f x) x (filter f a) (filter f b))
-
-  pub map-append : {B : Type 0} (f : A → B) (a b : List A) → map f (a ++ b) ≡ map f a ++ map f b
-  map-append f [] b = refl
-  map-append {B} f (x ∷ a) b = ap (λ (l : List B). f x ∷ l) (map-append f a b)
-
   -- a test of each element that agrees with another wherever c holds, on a list of which c holds
   pub all-same : (c f g : A → Bool) (l : List A) → all c l ≡ true → ((x : A) → c x ≡ true → f x ≡ g x) → all f l ≡ all g l
   all-same c f g [] h e = refl
@@ -107,10 +41,6 @@ module _ {A : Type 0} where
   each-same {B} c f g (x ∷ l) h e =
       ap₂ (λ (a b : List B). a ++ b) (e x (and-left (c x) (all c l) h)) (each-same c f g l (and-right (c x) (all c l) h) e)
 
-  pub all-true : (l : List A) → all (λ x. true) l ≡ true
-  all-true [] = refl
-  all-true (x ∷ l) = all-true l
-
   pub any-not : (f : A → Bool) (l : List A) → any f l ≡ false → all (λ x. not (f x)) l ≡ true
   any-not f [] e = refl
   any-not f (x ∷ l) e = rw (or-false-left (f x) (any f l) e) (any-not f l (or-false-right (f x) (any f l) e))
@@ -123,35 +53,6 @@ module _ {A : Type 0} where
   all-imp f g [] h e = refl
   all-imp f g (x ∷ l) h e = rw (h x (and-left (f x) (all f l) e)) (all-imp f g l h (and-right (f x) (all f l) e))
 
-  -- over a list that a function made
-  pub all-map : {B : Type 0} (f : B → Bool) (h : A → B) (l : List A) → all f (map h l) ≡ all (λ x. f (h x)) l
-  all-map f h [] = refl
-  all-map f h (x ∷ l) = ap (λ (b : Bool). f (h x) && b) (all-map f h l)
-
-  pub any-map : {B : Type 0} (f : B → Bool) (h : A → B) (l : List A) → any f (map h l) ≡ any (λ x. f (h x)) l
-  any-map f h [] = refl
-  any-map f h (x ∷ l) = ap (λ (b : Bool). f (h x) || b) (any-map f h l)
-
-  pub each-map : {B C : Type 0} (f : B → List C) (h : A → B) (l : List A) → each f (map h l) ≡ each (λ x. f (h x)) l
-  each-map f h [] = refl
-  each-map {B} {C} f h (x ∷ l) = ap (λ (k : List C). f (h x) ++ k) (each-map f h l)
-
-  pub map-map : {B C : Type 0} (g : B → C) (h : A → B) (l : List A) → map g (map h l) ≡ map (λ x. g (h x)) l
-  map-map g h [] = refl
-  map-map {B} {C} g h (x ∷ l) = ap (λ (k : List C). g (h x) ∷ k) (map-map g h l)
-
-  pub map-same : {B : Type 0} (f g : A → B) (l : List A) → ((x : A) → f x ≡ g x) → map f l ≡ map g l
-  map-same f g [] e = refl
-  map-same {B} f g (x ∷ l) e = ap₂ (λ (y : B) (k : List B). y ∷ k) (e x) (map-same f g l e)
-
-  keep-map : {B : Type 0} (h : A → B) (c : Bool) (x : A) (l : List A) → keep c (h x) (map h l) ≡ map h (keep c x l)
-  keep-map h true x l = refl
-  keep-map h false x l = refl
-
-  pub filter-map : {B : Type 0} (f : B → Bool) (h : A → B) (l : List A) → filter f (map h l) ≡ map h (filter (λ x. f (h x)) l)
-  filter-map f h [] = refl
-  filter-map {B} f h (x ∷ l) = ap (keep (f (h x)) (h x)) (filter-map f h l) ∙ keep-map h (f (h x)) x (filter (λ y. f (h y)) l)
-
   cond-map : {B : Type 0} (h : A → B) (c : Bool) (a b : List A) → cond c (map h a) (map h b) ≡ map h (cond c a b)
   cond-map h true a b = refl
   cond-map h false a b = refl
@@ -160,10 +61,6 @@ module _ {A : Type 0} where
   firstOf-map f h [] = refl
   firstOf-map {B} f h (x ∷ l) =
       ap (cond (f (h x)) (h x ∷ [])) (firstOf-map f h l) ∙ cond-map h (f (h x)) (x ∷ []) (firstOf (λ y. f (h y)) l)
-
-  pub firstOf-same : (f g : A → Bool) (l : List A) → ((x : A) → f x ≡ g x) → firstOf f l ≡ firstOf g l
-  firstOf-same f g [] e = refl
-  firstOf-same f g (x ∷ l) e = ap₂ (λ (b : Bool) (k : List A). cond b (x ∷ []) k) (e x) (firstOf-same f g l e)
 
   pub firstOf-none : (f : A → Bool) (l : List A) → any f l ≡ false → firstOf f l ≡ []
   firstOf-none f [] e = refl
@@ -210,55 +107,17 @@ module _ {A : Type 0} where
   getD-any (x ∷ l) zero d e h = refl
   getD-any (x ∷ l) (suc i) d e h = getD-any l i d e (le-of-suc-le-suc h)
 
-pub map-each : {A B C : Type 0} (h : B → C) (f : A → List B) (l : List A) → map h (each f l) ≡ each (λ x. map h (f x)) l
-map-each h f [] = refl
-map-each {A} {B} {C} h f (x ∷ l) = map-append h (f x) (each f l) ∙ ap (λ (k : List C). map h (f x) ++ k) (map-each h f l)
-
-pub null-nil : {A : Type 0} (l : List A) → null l ≡ true → l ≡ []
-null-nil [] e = refl
-null-nil (x ∷ l) e = never e refl
-
-pub null-map : {A B : Type 0} (f : A → B) (l : List A) → null (map f l) ≡ null l
-null-map f [] = refl
-null-map f (x ∷ l) = refl
-
-pub left-nil : {A : Type 0} (a b : List A) → a ++ b ≡ [] → a ≡ []
-left-nil [] b e = refl
-left-nil (x ∷ a) b e = absurd (cons≢nil e)
-
-pub right-nil : {A : Type 0} (a b : List A) → a ++ b ≡ [] → b ≡ []
-right-nil [] b e = e
-right-nil (x ∷ a) b e = absurd (cons≢nil e)
-
 -- what a test fails of in the whole list, it fails of at each place
 pub any-at : {A : Type 0} (f : A → Bool) (l : List A) (d : A) (i : ℕ) → any f l ≡ false → i < length l → f (getD l i d) ≡ false
 any-at f [] d i e h = absurd (not-suc-le-zero h)
 any-at f (x ∷ l) d zero e h = or-false-left (f x) (any f l) e
 any-at f (x ∷ l) d (suc i) e h = any-at f l d i (or-false-right (f x) (any f l) e) (le-of-suc-le-suc h)
 
-pub eqb-suc : (a b : ℕ) → eqb (suc a) (suc b) ≡ eqb a b
-eqb-suc a b =
-    by (eqb a b)
-    (λ t. eq-eqb (suc a) (suc b) (ap suc (eqb-true a b t)) ∙ sym t)
-    (λ t. ne-eqb (suc a) (suc b) (λ e. eqb-false a b t (omega arith)) ∙ sym t)
-
--- two lists of numbers that are the same by `eqb`
-pub same-list : (a b : List ℕ) → sameList eqb a b ≡ true → a ≡ b
-same-list [] [] e = refl
-same-list [] (y ∷ b) e = never e refl
-same-list (x ∷ a) [] e = never e refl
-same-list (x ∷ a) (y ∷ b) e =
-    ap₂ (λ (z : ℕ) (l : List ℕ). z ∷ l) (eqb-true x y (and-left (eqb x y) (sameList eqb a b) e)) (same-list a b (and-right (eqb x y) (sameList eqb a b) e))
-
-pub same-list-refl : (a : List ℕ) → sameList eqb a a ≡ true
-same-list-refl [] = refl
-same-list-refl (x ∷ a) = rw (eq-eqb x x refl) (same-list-refl a)
-
 pub same-list-sym : (a b : List ℕ) → sameList eqb a b ≡ sameList eqb b a
 same-list-sym a b =
     same-test
-    (λ e. subst (λ (c : List ℕ). sameList eqb c a ≡ true) (same-list a b e) (same-list-refl a))
-    (λ e. subst (λ (c : List ℕ). sameList eqb c b ≡ true) (same-list b a e) (same-list-refl b))
+    (λ e. subst (λ (c : List ℕ). sameList eqb c a ≡ true) (same-numbers a b e) (numbers-same {l = a} refl))
+    (λ e. subst (λ (c : List ℕ). sameList eqb c b ≡ true) (same-numbers b a e) (numbers-same {l = b} refl))
 
 -- ---- f 0, f 1, .. up to f (n - 1)
 
@@ -347,13 +206,21 @@ module _ {A : Type 0} (f : ℕ → A) where
   pub each-tab-nil : {B : Type 0} (g : A → List B) (n i : ℕ) → each g (tab f n) ≡ [] → i < n → g (f i) ≡ []
   each-tab-nil g n i e h =
       let r = tab-split n i h in
-      left-nil (g (f i)) (each g (r .0)) (right-nil (each g (tab f i)) (each g (f i ∷ r .0)) (sym (each-append g (tab f i) (f i ∷ r .0)) ∙ sym (ap (each g) (r .1)) ∙ e))
+      append-empty (g (f i)) (each g (r .0)) (append-empty (each g (tab f i)) (each g (f i ∷ r .0)) (sym (each-append g (tab f i) (f i ∷ r .0)) ∙ sym (ap (each g) (r .1)) ∙ e) .1) .0
 
   pub placeOf-tab-at : (g : A → Bool) (n i : ℕ) → i < n → any g (tab f i) ≡ false → g (f i) ≡ true → placeOf g (tab f n) ≡ i
   placeOf-tab-at g n i h a e = let r = tab-split n i h in rw (r .1) (placeOf-at g (tab f i) (f i) (r .0) a e ∙ tab-length i)
 
   pub placeOf-tab-none : (g : A → Bool) (n : ℕ) → any g (tab f n) ≡ false → placeOf g (tab f n) ≡ n
   placeOf-tab-none g n e = placeOf-none g (tab f n) e ∙ tab-length n
+
+pub tab-same : {A : Type 0} (f g : ℕ → A) (n : ℕ) → ((i : ℕ) → i < n → f i ≡ g i) → tab f n ≡ tab g n
+tab-same f g zero h = refl
+tab-same f g (suc n) h = rw (tab-same f g n (λ i l. h i (omega arith)), h n (omega arith))
+
+pub map-tab : {A B : Type 0} (g : A → B) (f : ℕ → A) (n : ℕ) → map g (tab f n) ≡ tab (λ i. g (f i)) n
+map-tab g f zero = refl
+map-tab g f (suc n) = rw (map-append g (tab f n) (f n ∷ []), map-tab g f n)
 
 pub tab-getD : {A : Type 0} (l : List A) (d : A) → tab (λ i. getD l i d) (length l) ≡ l
 tab-getD l d =
@@ -367,7 +234,7 @@ elem x l = any (eqb x) l
 
 -- one element more
 pub elem-step : (x : ℕ) (l : List ℕ) (j : ℕ) → j < length l → elem x (take (j + 1) l) ≡ (elem x (take j l) || eqb x (getD l j 0))
-elem-step x l j h = rw (add-one, take-suc l j 0, any-append, or-false)
+elem-step x l j h = any-taken (eqb x) l j 0 h
 
 -- what stands at a place is in the list
 pub elem-at : (x : ℕ) (l : List ℕ) (n j : ℕ) → j < n → j < length l → getD l j 0 ≡ x → elem x (take n l) ≡ true
@@ -377,10 +244,10 @@ elem-at x (y ∷ l) (suc n) zero p q e = rw (eq-eqb x y (sym e))
 elem-at x (y ∷ l) (suc n) (suc j) p q e = rw (elem-at x l n j (le-of-suc-le-suc p) (le-of-suc-le-suc q) e, or-true)
 
 pub elem-left : (x : ℕ) (a b : List ℕ) → elem x a ≡ true → elem x (a ++ b) ≡ true
-elem-left x a b e = rw any-append (or-left (elem x a) (elem x b) e)
+elem-left x a b e = rw any-append (or-left (elem x b) e)
 
 pub elem-right : (x : ℕ) (a b : List ℕ) → elem x b ≡ true → elem x (a ++ b) ≡ true
-elem-right x a b e = rw any-append (or-right (elem x a) (elem x b) e)
+elem-right x a b e = rw any-append (or-right (elem x a) e)
 
 pub elem-cases : {C : Type 0} (x : ℕ) (a b : List ℕ) → elem x (a ++ b) ≡ true → (elem x a ≡ true → C) → (elem x b ≡ true → C) → C
 elem-cases x a b e f g = or-elim (elem x a) (elem x b) (sym (any-append (eqb x) a b) ∙ e) f g
@@ -395,7 +262,7 @@ all-in f (y ∷ l) x a e =
 pub all-of : (f : ℕ → Bool) (l : List ℕ) → ((x : ℕ) → elem x l ≡ true → f x ≡ true) → all f l ≡ true
 all-of f [] h = refl
 all-of f (y ∷ l) h =
-    rw (h y (or-left (eqb y y) (elem y l) (eq-eqb y y refl))) (all-of f l (λ x e. h x (or-right (eqb x y) (elem x l) e)))
+    rw (h y (or-left (elem y l) (eq-eqb y y refl))) (all-of f l (λ x e. h x (or-right (eqb x y) e)))
 
 -- ---- the numbers below n of which f holds, ascending
 

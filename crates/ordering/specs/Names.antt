@@ -7,14 +7,17 @@ use native.Mathlib.Nat.{le-of-suc-le-suc, not-suc-le-zero}
 use native.Mathlib.Omega.{arith}
 use lib.Dec.{eqb, ltb}
 use lib.ListN.{length, getD}
-use borrow.Author.Tests.{eq-eqb, ne-eqb, eqb-true, ltb-true}
+use borrow.Author.Tests.{eq-eqb, ne-eqb, eqb-true, ltb-true, not-true}
 use Rattle.lists.specs.Lists.{any, all, null, repeats, filter, placeOf}
+use Rattle.lists.specs.Tests.{by, never, same-test, and-left, and-right, or-false-left, or-false-right, eqb-suc, null-nil}
+use Rattle.lists.specs.Appending.{any-map, all-map, map-append, map-map, null-map, any-append}
+use Rattle.lists.specs.Lexicographic.{same-numbers}
 use Rattle.definitions.specs.Records.{Name, TypeInfo}
 use Rattle.definitions.specs.Orders.{sameName, elemName, lookUp}
 use Rattle.definitions.specs.Map.{TypeMap}
 use Rattle.definitions.specs.Order.{isSelf, ready, pass, passes, lastPass, inheritsSelf, hasOrder, organizeTypeMap}
 use Rattle.definitions.specs.OrderRows.{typeNamed}
-use Rattle.ordering.specs.Lists.{by, never, same-test, and-left, and-right, or-false-left, or-false-right, all-same, any-same, any-map, all-map, map-append, map-map, any-at, eqb-suc, same-list, same-list-sym, tab-getD, any-tab-same, elem, null-nil, null-map, below, below-same, below-one, below-none, below-full, below-in, below-all, filter-below, map-below, any-append}
+use Rattle.ordering.specs.Lists.{all-same, any-same, any-at, same-list-sym, tab-getD, any-tab-same, elem, below, below-same, below-one, below-none, below-full, below-in, below-all, filter-below, map-below}
 use Rattle.ordering.specs.Reading.{Parent, listed, selfIn, noType, typeAt, placeIn, parentIn, isName, Reads}
 use Rattle.ordering.specs.Rounds.{settled, isReady, free, next, round, placed, final, listsSelf, placed-below, next-is, count}
 use Rattle.ordering.specs.declared.Parents.{Parents}
@@ -35,7 +38,7 @@ place-list (T ∷ l) n (suc t) d h =
     (by (sameName n (getD l t noType .name))
     (λ f.
     let z : sameName (T .name) (getD l t noType .name) ≡ true =
-    subst (λ (x : Name). sameName x (getD l t noType .name) ≡ true) (same-list n (T .name) e) f in
+    subst (λ (x : Name). sameName x (getD l t noType .name) ≡ true) (same-numbers n (T .name) e) f in
     never z (any-at (λ (U : TypeInfo). sameName (T .name) (U .name)) l noType t (or-false-left _ _ d) k))
     (λ f. f)))
     (λ e.
@@ -176,6 +179,13 @@ module _ (p : Parents) (m : TypeMap) (r : Reads p m) where
   pub order-found : hasOrder m ≡ (not (listsSelf p) && eqb (length (final p)) (p .count))
   unfolding hasOrder
   order-found = ap₂ (λ (a b : Bool). not a && b) self-lists (ap null last-waiting ∙ null-map (typeAt m) (unplaced p (final p)) ∙ null-unplaced)
+
+  -- where there is an order, each type is placed and none lists itself
+  pub whole-order : hasOrder m ≡ true → length (final p) ≡ p .count
+  whole-order e = eqb-true _ _ (and-right (not (listsSelf p)) (eqb (length (final p)) (p .count)) (sym order-found ∙ e))
+
+  pub no-self : hasOrder m ≡ true → listsSelf p ≡ false
+  no-self e = not-true (listsSelf p) (and-left (not (listsSelf p)) (eqb (length (final p)) (p .count)) (sym order-found ∙ e))
 
   pub order-is : organizeTypeMap m ≡ map (λ (t : ℕ). typeAt m t .name) (final p)
   unfolding organizeTypeMap

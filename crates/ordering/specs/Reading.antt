@@ -10,7 +10,7 @@ use Rattle.definitions.specs.Records.{Name, domain, TypeInfo}
 use Rattle.definitions.specs.Orders.{sameName}
 use Rattle.definitions.specs.Map.{TypeMap}
 use Rattle.definitions.specs.Packing.{nameBytes}
-use Rattle.ordering.specs.Lists.{tab}
+use Rattle.ordering.specs.Lists.{tab, tab-length}
 use Rattle.ordering.specs.declared.Parents.{Parents}
 use Rattle.ordering.specs.declared.Placed.{Placed}
 
@@ -32,6 +32,10 @@ howMany p t = getD (p .counts) t 0
 
 unfoldable pub listed : Parents → ℕ → List Parent
 listed p t = tab (λ i. parentAt p (8 * t + i)) (howMany p t)
+
+pub listed-length : (p : Parents) (t : ℕ) → length (listed p t) ≡ howMany p t
+unfolding listed
+listed-length p t = tab-length (λ i. parentAt p (8 * t + i)) (howMany p t)
 
 -- a parent that is spelled `self`
 abbrev pub selfIn : Parents → Parent → Bool

@@ -11,7 +11,9 @@ use lib.ListN.{length, getD, length-append}
 use borrow.Author.Tests.{lt-ltb}
 use lib.Seq.{length-take-le}
 use Rattle.lists.specs.Lists.{any, all}
-use Rattle.ordering.specs.Lists.{never, same-test, and-left, and-right, or-elim, or-left, or-right, any-append, all-imp, elem, elem-left, elem-cases, all-of, tab, below, below-in, below-is, below-most, below-none, below-full, below-split}
+use Rattle.lists.specs.Tests.{never, same-test, and-left, and-right, or-elim, or-left, or-right}
+use Rattle.lists.specs.Appending.{any-append}
+use Rattle.ordering.specs.Lists.{all-imp, elem, elem-left, elem-cases, all-of, tab, below, below-in, below-is, below-most, below-none, below-full, below-split}
 use Rattle.ordering.specs.Reading.{Parent, parentAt, listed, selfIn, placesOf}
 use Rattle.ordering.specs.declared.Parents.{Parents}
 use Rattle.ordering.specs.declared.Placed.{Placed}
@@ -101,8 +103,8 @@ module _ (p : Parents) where
   settled-stays : (k : ℕ) (q : Parent) → settled p (placed p k) q ≡ true → settled p (placed p (suc k)) q ≡ true
   settled-stays k q e =
       or-elim (selfIn p q) (elem (q .place) (placed p k)) e
-      (λ h. or-left (selfIn p q) (elem (q .place) (placed p (suc k))) h)
-      (λ h. or-right (selfIn p q) (elem (q .place) (placed p (suc k))) (stays k (q .place) h))
+      (λ h. or-left (elem (q .place) (placed p (suc k))) h)
+      (λ h. or-right (selfIn p q) (stays k (q .place) h))
 
   pub earlier : (k x : ℕ) → elem x (placed p k) ≡ true → Ready k x
   unfolding placed isReady

@@ -8,14 +8,15 @@ use native.Mathlib.Omega.{arith}
 use lib.Dec.{eqb}
 use lib.ListN.{replicate, length, getD, take, drop, length-map}
 use Rattle.lists.specs.Lists.{In, filter, insert, sort}
-use Rattle.lists.specs.Tests.{by, cons-elim}
+use Rattle.lists.specs.Tests.{cons-elim}
+use Rattle.lists.specs.Members.{filter-short}
+use Rattle.lists.specs.Tabulating.{tabulate, places, length-tabulate}
 use Rattle.definitions.specs.Records.{Resource}
 use Rattle.definitions.specs.Records as records
 use Rattle.definitions.specs.Orders.{nameBefore}
 use Rattle.definitions.specs.Map.{declarationOf}
 use Rattle.definitions.specs.Items.{owned, ofWord, ownClasses}
 use Rattle.line_laws.specs.Within.{WordsWithin, ResourceWithin, AnnotationWithin, TypeWithin}
-use Rattle.fields.specs.Tabulate.{tabulate, places, length-tabulate}
 use Rattle.fields.specs.Fields.{ofNames}
 use Rattle.records.specs.Annotations.{annotationAs, annotationOf, zeroAnnotation, ofAnnotations}
 use Rattle.records.specs.Marks.{ofMarks}
@@ -25,6 +26,7 @@ use Rattle.types.specs.declared.TypeInfo.{TypeInfo}
 use Rattle.naming.specs.Naming.{numbers}
 use Rattle.own_associates.specs.Associates.{DomFits, AssociateRead}
 use Rattle.own_associates.specs.Owning.{IsOne, Fit, AllFit}
+use Rattle.giving.specs.Instance.{no-dom, one-dom}
 use Rattle.own_classes.specs.OwnClasses.{ownedTo, OwnedOf, classOf, classAt, OwnClassesOf}
 use Rattle.own_classes.specs.declared.OwnClasses.{OwnClasses}
 
@@ -72,12 +74,6 @@ sample-fits = record { few = omega arith; each = fit }
     fit (suc (suc (suc zero))) h = record { read = λ k. fits-read 2 4 5 (inr refl) (omega arith) (record { fits = inr (omega arith) }); once = refl }
     fit (suc (suc (suc (suc i)))) h = absurd (omega arith)
 
-no-dom : WordsWithin 200 0 1 []
-no-dom = record { least = omega arith; most = omega arith; below = λ w i. absurd (List·Memᴰ·not-nil i) }
-
-one-dom : (d : ℕ) → d < 200 → WordsWithin 200 0 1 (d ∷ [])
-one-dom d h = record { least = omega arith; most = omega arith; below = λ w i. cons-elim i (λ e. rw e h) (λ j. absurd (List·Memᴰ·not-nil j)) }
-
 abbrev two : ℕ → List ℕ → List Resource
 two w d = record { word = 0; dom = d } ∷ record { word = w; dom = [] } ∷ []
 
@@ -123,10 +119,6 @@ sample-resources : ownedTo theWords theDoms 6 ≡ owned (declarationOf (typeInfo
 unfolding owned declarationOf typeInfoOf ofAnnotations places tabulate annotationOf annotationAs ofNames
 sample-resources = refl
 
-filter-most : {A : Type 0} (f : A → Bool) (l : List A) → length (filter f l) ≤ length l
-filter-most f [] = omega arith
-filter-most f (x ∷ l) = by (f x) (λ e. rw e (omega (arith, filter-most f l))) (λ e. rw e (omega (arith, filter-most f l)))
-
 drop-most : {A : Type 0} (l : List A) (i : ℕ) → length (drop i l) ≤ length l
 drop-most [] zero = omega arith
 drop-most [] (suc i) = omega arith
@@ -144,7 +136,7 @@ sample-owned =
             omega (
               arith,
               length-map (filter f (drop i (numbers 6))) (λ j. getD theDoms j 0),
-              filter-most f (drop i (numbers 6)),
+              filter-short f (drop i (numbers 6)),
               drop-most (numbers 6) i,
               length-tabulate (λ (j : ℕ). j) 6,
             );

@@ -11,10 +11,9 @@ use borrow.Author.Tests.{eqb-true, eqb-false}
 use Rattle.lists.specs.Lists.{In, filter}
 use Rattle.lists.specs.Tests.{by}
 use Rattle.definitions.specs.Map.{Declaration}
-use Rattle.fields.specs.Tabulate.{tabulate, tabulate-same}
+use Rattle.lists.specs.Tabulating.{tabulate-same, tabulate-of}
 use Rattle.naming.specs.Naming.{numbers}
 use Rattle.annotations.specs.Reading.{domAt}
-use Rattle.own_classes.specs.OwnLaws.{tabulate-of}
 use Rattle.own_classes.specs.OwnClasses.{ownedAt, chosen, OwnedOf}
 use Rattle.own_classes.specs.declared.Owned.{Owned}
 use Rattle.own_table.specs.OwnTable.{Puts, Takes, OwnIn, PutsOwn, TakesOwn}

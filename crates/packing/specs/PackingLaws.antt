@@ -6,22 +6,24 @@ use Prim.Native.Nat.{ℕ, zero, suc, _+_, _*_, _/_, _^_, _≤_, _<_}
 use native.Mathlib.Decide.{decLt}
 use native.Mathlib.Omega.{arith}
 use borrow.Author.Tests.{eq-eqb, ne-eqb}
-use lib.ListN.{length, getD, length-append}
+use lib.ListN.{length, length-append, List·getD-eq-default}
 use lib.Seq
 use Rattle.lists.specs.Lists.{each}
+use Rattle.lists.specs.Appending.{each-append}
+use Rattle.lists.specs.Tabulating.{each-next, tabulate, length-tabulate}
 use Rattle.definitions.specs.Answer.{overwrite}
 use Rattle.definitions.specs.Bits.{toBits, odd, bit, size, pack}
-use Rattle.definitions.specs.Records.{Name, Mark, makelistMark, deriveMark, synthesized}
+use Rattle.definitions.specs.Records.{Name, Mark, synthesized}
 use Rattle.definitions.specs.Packing.{countedBits, nameBits, parentBits, markBits, itemBits, orderBits}
 use Rattle.bits.specs.NumberLaws.{length-toBits, length-packTo, toBits-split, toBits-low}
 use Rattle.bits.specs.Writing.{Wrote}
 use Rattle.bits.specs.WriteLaws.{length-put, put-pack}
 use Rattle.fields.specs.Fields.{optional, twoWords, nameOf}
-use Rattle.fields.specs.Tabulate.{tabulate, tabulate-more, length-tabulate}
 use Rattle.making.specs.Making.{threeWords, parentAt, parentsOf, markAs, lineOf}
 use Rattle.making.specs.MakingLaws.{length-parentsOf}
 use Rattle.making.specs.declared.Parents.{Parents}
 use Rattle.making.specs.declared.Line.{Line}
+use Rattle.line_laws.specs.Size.{mark-short}
 use Rattle.packing.specs.Head.{headBits}
 use Rattle.packing.specs.Order.{nameAt, nameIn, orderNames}
 use Rattle.packing.specs.Room.{Room}
@@ -97,13 +99,6 @@ words-long [] = refl
 words-long (w ∷ ws) = rw (length-append, length-toBits, words-long ws) (omega arith)
 
 -- ---- one after the other
-pub each-append : {A : Type 0} (g : A → List Bool) (xs ys : List A) → each g (xs ++ ys) ≡ each g xs ++ each g ys
-each-append g [] ys = refl
-each-append g (x ∷ xs) ys = rw (each-append g xs ys, append-assoc)
-
-pub each-more : {A : Type 0} (g : A → List Bool) (f : ℕ → A) (n : ℕ) → each g (tabulate f (n + 1)) ≡ each g (tabulate f n) ++ g (f n)
-each-more g f n = rw (tabulate-more f n, each-append g (tabulate f n) (f n ∷ []), append-nil (g (f n)))
-
 -- the first i have no more bits than all n
 pub each-room : {A : Type 0} (g : A → List Bool) (f : ℕ → A) (i n : ℕ) → i < n →
     length (each g (tabulate f i)) + length (g (f i)) ≤ length (each g (tabulate f n))
@@ -121,13 +116,9 @@ each-room g f i (suc n) h = go (each-room g f i n)
         length (each g (tabulate f i)) + length (g (f i)) ≤ length (each g (tabulate f (suc n)))
     go ih = elim (decLt i n) [ yes l ↦ omega (arith, more, ih l) | no l ↦ omega (arith, more, last (omega arith)) ]
 
-pub each-none : {A : Type 0} (g : A → List Bool) (f : ℕ → A) → each g (tabulate f 0) ≡ []
-unfolding tabulate
-each-none g f = refl
-
 pub more-long : {A : Type 0} (g : A → List Bool) (f : ℕ → A) (n : ℕ) →
     length (each g (tabulate f (n + 1))) ≡ length (each g (tabulate f n)) + length (g (f n))
-more-long g f n = rw (each-more g f n, length-append)
+more-long g f n = rw (each-next g f n, length-append)
 
 -- ---- room
 
@@ -233,15 +224,9 @@ pub making-long : (n : Name) (r : ℕ) (v : Bool) (ps : List Name) (ms : List Ma
 making-long n r v ps ms =
     omega (arith, head-long n r v ps, simp (length-append, length-toBits) at (ap length (making-is n r v ps ms)))
 
--- a mark has at most 9 bits
-mark-most : (m : Mark) → length (markBits m) ≤ 9
-unfolding markBits
-mark-most makelistMark = omega arith
-mark-most (deriveMark t) = omega (arith, length-toBits 8 t)
-
 pub marks-most : (ms : List Mark) → length (each markBits ms) ≤ 9 * length ms
 marks-most [] = omega arith
-marks-most (m ∷ ms) = rw length-append (omega (arith, mark-most m, marks-most ms))
+marks-most (m ∷ ms) = rw length-append (omega (arith, mark-short m, marks-most ms))
 
 abbrev pub lineBehindVirtual : Line → List Bool
 lineBehindVirtual l = (l .«is_trait» ∷ []) ++ toBits 8 (l .word)
@@ -260,13 +245,8 @@ pub line-long : (l : Line) → length (itemBits (lineOf l)) ≡ 11 + length (nam
 line-long l = rw (line-is l) (simp (length-append, length-toBits) (omega arith))
 
 -- ---- the order
-getD-past : (l : List ℕ) (i : ℕ) → length l ≤ i → getD l i 0 ≡ 0
-getD-past [] i h = refl
-getD-past (x ∷ l) zero h = absurd (omega arith)
-getD-past (x ∷ l) (suc i) h = getD-past l i (omega arith)
-
 pub name-past : (firsts seconds : List ℕ) (t : ℕ) → length firsts ≤ t → length seconds ≤ t → twoWords 0 0 ≡ nameAt firsts seconds t
-name-past firsts seconds t h k = rw (getD-past firsts t h, getD-past seconds t k)
+name-past firsts seconds t h k = rw (List·getD-eq-default firsts 0 h, List·getD-eq-default seconds 0 k)
 
 pub names-tabulate : (firsts seconds items : List ℕ) (n : ℕ) → n ≤ length items →
     orderNames firsts seconds items n ≡ tabulate (nameIn firsts seconds items) n

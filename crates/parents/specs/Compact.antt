@@ -6,14 +6,9 @@ use Prim.Native.Nat.{ℕ, _*_, _/_, _%_, _≤_, _<_}
 use lib.Dec.{eqb}
 use lib.ListN.{getD}
 use Rattle.fields.specs.declared.Names.{Names}
-use Rattle.types.specs.declared.TypeInfo.{TypeInfo}
 use Rattle.types.specs.declared.Types.{Types}
-use Rattle.types.specs.Types.{zeroType}
+use Rattle.types.specs.Types.{itemAt}
 use Rattle.ordering.specs.declared.Parents.{Parents}
-
--- the type at a place of the array, and the parents that it lists
-abbrev pub itemAt : Types → ℕ → TypeInfo
-itemAt ts t = getD (ts .items) t zeroType
 
 abbrev pub listedBy : Types → ℕ → Names
 listedBy ts t = itemAt ts t .parents

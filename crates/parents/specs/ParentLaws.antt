@@ -1,40 +1,33 @@
 -- The compact form reads the map of its types.
-use mathlib.Core.Bool.{Bool, true, false, _&&_, cond, and-true}
-use mathlib.Core.List.{List, [], _∷_, _++_, map}
+use mathlib.Core.Bool.{Bool, true, false, cond}
+use mathlib.Core.List.{List, [], _∷_, map}
 use mathlib.Core.Path.{_≡_, refl, sym, ap, ap₂, _∙_, subst}
 use Prim.Native.Nat.{ℕ, zero, suc, _+_, _*_, _/_, _%_, _≤_, _<_}
 use native.Mathlib.Omega.{arith}
-use borrow.Author.Tests.{eqb-true, eqb-false, ne-eqb}
+use borrow.Author.Tests.{eqb-true, eqb-false}
 use lib.Dec.{eqb}
 use lib.ListN.{length, getD, set}
 use lib.Seq
 use Rattle.lists.specs.Lists.{sameList, placeOf}
 use Rattle.lists.specs.Tests.{by}
+use Rattle.lists.specs.Tabulating.{tabulate, places}
 use Rattle.definitions.specs.Records as records
 use Rattle.definitions.specs.Records.{Name}
 use Rattle.definitions.specs.Orders.{sameName}
 use Rattle.definitions.specs.Map.{TypeMap}
 use Rattle.definitions.specs.Packing.{nameBytes}
-use Rattle.fields.specs.Tabulate.{tabulate, places}
 use Rattle.fields.specs.Fields.{twoWords, ofNames}
-use Rattle.fields.specs.FieldLaws.{length-ofNames}
+use Rattle.fields.specs.FieldLaws.{length-ofNames, same-words}
 use Rattle.types.specs.declared.Types.{Types}
-use Rattle.types.specs.Types.{typeInfoOf, zeroType, ofTypes}
+use Rattle.types.specs.Types.{typeInfoOf, zeroType, ofTypes, itemAt}
 use Rattle.types.specs.TypeLaws.{length-ofTypes}
-use Rattle.ordering.specs.Lists.{tab, tab-at}
+use Rattle.ordering.specs.Lists.{tab, tab-at, tab-same, map-tab}
 use Rattle.ordering.specs.Reading.{Parent, parentAt, howMany, listed, noType, typeAt, placeIn, firstWord, secondWord, parentIn, isName, ReadsType, Reads}
 use Rattle.ordering.specs.declared.Parents.{Parents}
-use Rattle.parents.specs.Compact.{itemAt, listedBy, Few, isNamed, Place, Named, Looked}
+use Rattle.parents.specs.Compact.{listedBy, Few, isNamed, Place, Named, Looked}
 use Rattle.parents.specs.Parents.{Readable}
 
 -- ---- lists
-
--- P of what stands at each place below i, and of what is stored at i
-pub stored : (P : ℕ → ℕ → Type 0) (l : List ℕ) (i v : ℕ) → i < length l → ((k : ℕ) → k < i → P k (getD l k 0)) → P i v → (k : ℕ) → k < i + 1 → P k (getD (set l i v) k 0)
-stored P l i v h old new k s =
-    by (eqb k i)
-    (λ t. let q : k ≡ i = eqb-true k i t in rw (q, Seq.getD-set-same l i v 0 h) new)
-    (λ t. rw (Seq.getD-set-other l i k v 0 (λ q. eqb-false k i t (omega arith))) (old k (omega (arith, eqb-false k i t))))
 
 -- the same of arrays in which place i has the eight places from 8 * i on
 pub stored-eighth : (P : ℕ → ℕ → Type 0) (l : List ℕ) (at v : ℕ) → at / 8 < length l → ((k : ℕ) → 8 * k < at → P k (getD l k 0)) → P (at / 8) v →
@@ -51,18 +44,6 @@ unfolding tabulate
 tabulate-tab f zero = refl
 tabulate-tab f (suc n) = rw (tabulate-tab f n)
 
-tab-same : {A : Type 0} (f g : ℕ → A) (n : ℕ) → ((i : ℕ) → i < n → f i ≡ g i) → tab f n ≡ tab g n
-tab-same f g zero h = refl
-tab-same f g (suc n) h = rw (tab-same f g n (λ i l. h i (omega arith)), h n (omega arith))
-
-map-append : {A B : Type 0} (f : A → B) (l k : List A) → map f (l ++ k) ≡ map f l ++ map f k
-map-append f [] k = refl
-map-append f (x ∷ l) k = rw (map-append f l k)
-
-map-tab : {A B : Type 0} (g : A → B) (f : ℕ → A) (n : ℕ) → map g (tab f n) ≡ tab (λ i. g (f i)) n
-map-tab g f zero = refl
-map-tab g f (suc n) = rw (map-append g (tab f n) (f n ∷ []), map-tab g f n)
-
 -- the first place of which f holds
 place-is : {A : Type 0} (f : A → Bool) (l : List A) (d : A) (r : ℕ) → r ≤ length l → ((k : ℕ) → k < r → f (getD l k d) ≡ false) →
     (r < length l → f (getD l r d) ≡ true) → placeOf f l ≡ r
@@ -73,16 +54,6 @@ place-is f (x ∷ l) d (suc r) w b e =
     rw (b 0 (omega arith)) (ap suc (place-is f l d r (omega arith) (λ k h. b (suc k) (omega arith)) (λ h. e (omega arith))))
 
 -- ---- names of two words, 255 for none
-
-same-two : (a b c d : ℕ) → sameName (twoWords a b) (twoWords c d) ≡ (eqb a c && eqb b d)
-same-two a b c d =
-    by (eqb b 255)
-    (λ s. by (eqb d 255)
-    (λ t. rw (s, t, eqb-true b 255 s, eqb-true d 255 t))
-    (λ t. rw (s, t, eqb-true b 255 s, ne-eqb 255 d (λ q. eqb-false d 255 t (sym q)))))
-    (λ s. by (eqb d 255)
-    (λ t. rw (s, t, eqb-true d 255 t, s))
-    (λ t. rw (s, t, and-true (eqb b d))))
 
 first-two : (a b : ℕ) → firstWord (twoWords a b) ≡ a
 first-two a b = by (eqb b 255) (λ s. rw s) (λ s. rw s)
@@ -133,7 +104,7 @@ module _ (ts : Types) (w : ℕ) (o q p : Parents) (g : Readable (ofTypes ts) w) 
   unfolding placeIn typeInfoOf
   looked x y r l =
       let same : (k : ℕ) → k < ts .count → sameName (twoWords x y) (typeAt m k .name) ≡ isNamed (q .firsts) (q .seconds) x y k =
-      λ k h. rw (here k h, same-two x y (itemAt ts k .name .first) (itemAt ts k .name .second), a .first k h, a .second k h) in
+      λ k h. rw (here k h, same-words x y (itemAt ts k .name .first) (itemAt ts k .name .second), a .first k h, a .second k h) in
       place-is (λ (T : records.TypeInfo). sameName (twoWords x y) (T .name)) (m .types) noType r
       (omega (arith, many, l .within))
       (λ k h. same k (omega (arith, l .within)) ∙ l .before k h)

@@ -5,13 +5,13 @@ use mathlib.Core.Logic.{_⊎_, inl, inr, ⊎-elim}
 use mathlib.Core.Path.{_≡_, refl, sym, ap, ap₂, _∙_, subst}
 use Prim.Native.Nat.{ℕ, _+_, _≤_, _<_}
 use native.Mathlib.Omega.{arith}
-use borrow.Author.Tests.{ltb-false, ltb-true}
-use lib.Dec.{ltb}
 use lib.ListN.{length, length-append}
-use Rattle.lists.specs.Lists.{In, At, here, later, Sorted}
+use Rattle.lists.specs.Lists.{In, At, Sorted}
 use Rattle.lists.specs.Tests.{by, never, and-left, and-right, or-left, or-right, any-in, any-of, at-in}
 use Rattle.lists.specs.Members.{at-sorted, each-sorted, each-sorted-in, Between}
-use Rattle.definitions.specs.Records.{Name, Dom, Resource, Variant, domain, resource, other, associate, nestAssociate, TypeInfo, Sheet, Item}
+use Rattle.lists.specs.Places.{one-at}
+use Rattle.lists.specs.Strict.{which}
+use Rattle.definitions.specs.Records.{Name, Dom, Resource, Variant, associate, nestAssociate, TypeInfo, Sheet, Item}
 use Rattle.definitions.specs.Orders.{sameName, dotted}
 use Rattle.definitions.specs.Map.{typeMapOf, declarationOf}
 use Rattle.definitions.specs.Making.{isResourceVariant}
@@ -19,12 +19,13 @@ use Rattle.definitions.specs.Items.{associateOf, owned, hasWord, associateWord,
 use Rattle.definitions.specs.Ancestry.{Parent, Ancestor, direct, further}
 use Rattle.definitions.specs.Lines.{Gives, plainly, nested, Associates, OwnResource, HasMaking, Dotted, Passes, OwnMaking, InheritedMaking, Source, Making, ClassOf, Refused}
 use Rattle.laws.specs.Orders.{same-name, name-same, types-is}
+use Rattle.laws.specs.Rounds.{ancestor-type}
 use Rattle.line_laws.specs.Within.{Within, ResourceWithin}
 use Rattle.line_laws.specs.Statements.{Readable, lineMap, Accepted, NoneIdentical}
 use Rattle.line_laws.specs.Declarations.{one-type}
-use Rattle.line_laws.specs.Ancestors.{ancestor-type}
 use Rattle.line_laws.specs.Associating.{has-word, given-is, owned-in, associated-above}
 use Rattle.line_laws.specs.Once.{wordOf, parentsIn, SameResource}
+use Rattle.line_laws.specs.Refused.{variant-is}
 use Rattle.annotations.specs.Reading.{domAt}
 use Rattle.rows.specs.Rows.{has}
 use Rattle.above.specs.Above.{placeOfDom}
@@ -32,16 +33,6 @@ use Rattle.classes.specs.Classes.{hasName, Noted}
 use Rattle.plain.specs.Plain.{Once, Plain}
 
 -- ---- own resources by their places
-
-one-at : {A : Type 0} {x y : A} {i : ℕ} {l : List A} → At x i l → At y i l → x ≡ y
-one-at here here = refl
-one-at (later p) (later q) = one-at p q
-
--- one is less, the other is less, or they are equal
-which : (i k : ℕ) → (i < k) ⊎ ((k < i) ⊎ (i ≡ k))
-which i k =
-    by (ltb i k) (λ p. inl (ltb-true i k p))
-    (λ p. by (ltb k i) (λ q. inr (inl (ltb-true k i q))) (λ q. let a = ltb-false i k p in let b = ltb-false k i q in inr (inr (omega arith))))
 
 -- two own resources that are alike stand at one place
 one-source : (T : TypeInfo) → Once (owned (declarationOf T)) → {i j k l : ℕ} {u w : Resource} → OwnResource T i j u → OwnResource T k l w → SameResource u w
@@ -77,12 +68,6 @@ first-of Dotted.end i = absurd (List·Memᴰ·not-nil i)
 first-of (Dotted.and {d} {ds} {c} {cs} e t) i = (d, List·Memᴰ·head refl, cs, ap (λ (x : Name). x ∷ cs) e)
 
 -- ---- one type
-
--- 'A resource is a type of that variant.'
-variant-is : (v : Variant) → isResourceVariant v ≡ true → v ≡ Variant.resource
-variant-is domain e = never e refl
-variant-is resource e = refl
-variant-is other e = never e refl
 
 dom-back : (d : Dom) → length d ≤ 1 → domAt (placeOfDom d) ≡ d
 dom-back [] h = refl

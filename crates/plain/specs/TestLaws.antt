@@ -1,7 +1,6 @@
 -- The steps of the loops over what an annotation lists and over the parents, and the cases of the kinds.
 use mathlib.Core.Bool.{Bool, true, false, _&&_, _||_, not, and-false, or-false, or-assoc, cond}
-use mathlib.Core.List.{List, [], _∷_, head-eq-of-cons-eq, List·Memᴰ·not-nil, List·Memᴰ·eq-of-singleton, List·Memᴰ·append-cases}
-use mathlib.Core.Logic.{⊎-elim}
+use mathlib.Core.List.{List, [], _∷_, head-eq-of-cons-eq, List·Memᴰ·not-nil}
 use mathlib.Core.Path.{_≡_, refl, sym, ap, ap₂, _∙_, subst}
 use Prim.Native.Nat.{ℕ, zero, suc, _+_, _<_}
 use native.Mathlib.Omega.{arith}
@@ -10,23 +9,22 @@ use lib.Dec.{eqb}
 use lib.ListN.{length, getD}
 use Rattle.lists.specs.Lists.{In, any}
 use Rattle.lists.specs.Tests.{by, never, or-left, or-right, any-in}
+use Rattle.lists.specs.Tabulating.{tabulate-of, tabulate, tabulate-more, tabulate-in}
+use Rattle.lists.specs.Appending.{any-append}
 use Rattle.definitions.specs.Records.{Resource}
 use Rattle.definitions.specs.Checks.{resourcesOf}
 use Rattle.definitions.specs.Items.{hasWord}
 use Rattle.fields.specs.Fields.{optional, twoWords, ofNames}
-use Rattle.fields.specs.Tabulate.{tabulate, tabulate-more}
 use Rattle.fields.specs.declared.Names.{Names}
 use Rattle.records.specs.Annotations.{annotationOf}
 use Rattle.records.specs.declared.Annotation.{Annotation}
 use Rattle.rows.specs.declared.Row.{Row}
 use Rattle.rows.specs.Rows.{has, single, common, none}
 use Rattle.rows.specs.RowLaws.{has-either, has-single, has-common, has-none}
-use Rattle.rows.specs.Lists.{any-append}
 use Rattle.above.specs.Above.{placeOfDom}
 use Rattle.giving.specs.Giving.{counted, listedAt, listedTo}
 use Rattle.giving.specs.GivingLaws.{counts-yes, counts-no}
 use Rattle.classes.specs.Classes.{rowOf}
-use Rattle.held_laws.specs.Places.{tabulate-in}
 use Rattle.plain.specs.declared.Own.{Own}
 use Rattle.plain.specs.Testing.{ClassesStand, FreshAt, ApartAt, WordsApart, WithByte, WithBytes, byteOf, PlainIn, WithOwn, WithParent, ParentWords, Free}
 
@@ -35,15 +33,6 @@ use Rattle.plain.specs.Testing.{ClassesStand, FreshAt, ApartAt, WordsApa
 -- what holds below i and at i holds below i + 1
 pub below-more : {P : ℕ → Type 0} (i : ℕ) → ((j : ℕ) → j < i → P j) → P i → (j : ℕ) → j < i + 1 → P j
 below-more {P} i f x j l = by (eqb j i) (λ e. subst P (sym (eqb-true j i e)) x) (λ e. f j (omega (arith, eqb-false j i e)))
-
-tabulate-of : {A : Type 0} {x : A} (f : ℕ → A) (n : ℕ) → In x (tabulate f n) → (i : ℕ) × (i < n) × (x ≡ f i)
-unfolding tabulate
-tabulate-of f zero j = absurd (List·Memᴰ·not-nil j)
-tabulate-of f (suc n) j =
-    ⊎-elim
-    (λ k. let r = tabulate-of f n k in (r .0, omega (arith, r .1), r .2))
-    (λ k. (n, omega arith, List·Memᴰ·eq-of-singleton k))
-    (List·Memᴰ·append-cases (tabulate f n) j)
 
 -- ---- what an annotation lists
 

@@ -6,6 +6,7 @@ use Prim.Native.Nat.{ℕ, _+_, _≤_, _<_}
 use lib.Dec.{eqb}
 use lib.ListN.{getD}
 use Rattle.lists.specs.Lists.{In, any}
+use Rattle.lists.specs.Tabulating.{tabulate}
 use Rattle.definitions.specs.Records.{Dom, Resource, Sheet}
 use Rattle.definitions.specs.Checks.{resourcesOf}
 use Rattle.definitions.specs.Map.{typeMapOf}
@@ -13,11 +14,10 @@ use Rattle.definitions.specs.Items.{associateOf, hasWord}
 use Rattle.line_laws.specs.Within.{TypeWithin}
 use Rattle.line_laws.specs.Statements.{lineMap, anyRefused}
 use Rattle.fields.specs.Fields.{optional, ofNames}
-use Rattle.fields.specs.Tabulate.{tabulate}
 use Rattle.fields.specs.declared.Names.{Names}
 use Rattle.records.specs.Annotations.{annotationOf}
 use Rattle.records.specs.declared.Annotation.{Annotation}
-use Rattle.types.specs.Types.{typeInfoOf, zeroType}
+use Rattle.types.specs.Types.{typeInfoOf, itemAt}
 use Rattle.types.specs.declared.TypeInfo.{TypeInfo}
 use Rattle.types.specs.declared.Types.{Types}
 use Rattle.types.specs.declared.Extensions.{Extensions}
@@ -92,9 +92,6 @@ pub record PlainType (classes : List ℕ) (info : TypeInfo) (above : Row) (r : B
   pub plain : r ≡ true → Plain classes (typeInfoOf info) (has above)
 
 -- ---- all types
-
-abbrev pub itemAt : Types → ℕ → TypeInfo
-itemAt ts i = getD (ts .items) i zeroType
 
 -- what the code asks of the types
 pub record TypesFit (ts : Types) : Type 0 where

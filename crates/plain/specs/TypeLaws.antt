@@ -1,6 +1,6 @@
 -- The annotations of a type, one by one, and the types of a map.
 use mathlib.Core.Bool.{Bool, true, false, _||_, cond}
-use mathlib.Core.List.{List, [], _∷_, _++_, append-nil, append-assoc, head-eq-of-cons-eq, List·Memᴰ·not-nil, List·Memᴰ·append-cases}
+use mathlib.Core.List.{List, [], _∷_, _++_, head-eq-of-cons-eq, List·Memᴰ·not-nil, List·Memᴰ·append-cases}
 use mathlib.Core.Logic.{⊎-elim}
 use mathlib.Core.Path.{_≡_, refl, sym, ap, _∙_, subst}
 use Prim.Native.Nat.{ℕ, _+_, _≤_, _<_}
@@ -12,6 +12,8 @@ use Rattle.lists.specs.Lists.{In, At, here, later, each}
 use Rattle.lists.specs.Tests.{by, never, and-both, each-of}
 use Rattle.lists.specs.Sorting.{sorted-append, sorted-imp, repeats-not}
 use Rattle.lists.specs.Members.{in-at}
+use Rattle.lists.specs.Appending.{each-snoc, any-append}
+use Rattle.lists.specs.Tabulating.{tabulate, places, tabulate-more}
 use Rattle.definitions.specs.Records.{Name, Dom, Resource, makeList, associate, nestAssociate, alias, inherit, derive, noDerive, Sheet}
 use Rattle.definitions.specs.Records as records
 use Rattle.definitions.specs.Checks.{resourcesOf}
@@ -24,10 +26,9 @@ use Rattle.line_laws.specs.Refused.{accepted-is-tested}
 use Rattle.line_laws.specs.Associating.{has-word}
 use Rattle.line_laws.specs.Once.{SameResource}
 use Rattle.fields.specs.Fields.{twoWords, ofNames}
-use Rattle.fields.specs.Tabulate.{tabulate, places, tabulate-more}
 use Rattle.records.specs.Annotations.{annotationOf, ofAnnotations}
 use Rattle.records.specs.declared.Annotation.{Annotation}
-use Rattle.types.specs.Types.{typeInfoOf}
+use Rattle.types.specs.Types.{typeInfoOf, itemAt}
 use Rattle.types.specs.declared.TypeInfo.{TypeInfo}
 use Rattle.types.specs.declared.Types.{Types}
 use Rattle.types.specs.declared.Extensions.{Extensions}
@@ -36,7 +37,6 @@ use Rattle.ordering.specs.declared.Parents.{Parents}
 use Rattle.rows.specs.declared.Row.{Row}
 use Rattle.rows.specs.Rows.{has, either}
 use Rattle.rows.specs.RowLaws.{has-either}
-use Rattle.rows.specs.Lists.{any-append}
 use Rattle.above.specs.Tables.{United}
 use Rattle.above.specs.Steps.{has-empty}
 use Rattle.above.specs.Above.{placeOfDom, inherited-are}
@@ -48,14 +48,10 @@ use Rattle.held_laws.specs.HeldLaws.{count-types, count-parents, type-at}
 use Rattle.plain.specs.Plain.{Once, Plain}
 use Rattle.plain.specs.Refusals.{all-accepted}
 use Rattle.plain.specs.declared.Own.{Own}
-use Rattle.plain.specs.Testing.{byteOf, PlainIn, WithOwn, NoOwn, ParentWords, Free, PlainType, itemAt, Ground, PlainTypes}
+use Rattle.plain.specs.Testing.{byteOf, PlainIn, WithOwn, NoOwn, ParentWords, Free, PlainType, Ground, PlainTypes}
 use Rattle.plain.specs.TestLaws.{below-more}
 
 -- ---- one annotation
-
-each-more : {A B : Type 0} (f : A → List B) (l : List A) (x : A) → each f (l ++ x ∷ []) ≡ each f l ++ f x
-each-more f [] x = append-nil (f x)
-each-more {A} {B} f (y ∷ l) x = ap (λ (k : List B). f y ++ k) (each-more f l x) ∙ sym (append-assoc (f y) (each f l) (f x))
 
 -- what an own Associate has is what the type gives
 own-in : {u : Resource} (a : records.Annotation) → In u (associateOf a) → In u (resourcesOf a)
@@ -115,7 +111,7 @@ module _ (classes : List ℕ) (above parents : Row) (items : List Annotation) wh
     a = giving.itemAt items n
 
     split : {B : Type 0} (f : records.Annotation → List B) → each f (firstOnes items (n + 1)) ≡ each f (firstOnes items n) ++ f (annotationOf a)
-    split f = ap (each f) (tabulate-more (λ j. annotationOf (giving.itemAt items j)) n) ∙ each-more f (firstOnes items n) (annotationOf a)
+    split f = ap (each f) (tabulate-more (λ j. annotationOf (giving.itemAt items j)) n) ∙ each-snoc f (firstOnes items n) (annotationOf a)
 
     pub plain-more : (own more : Own) (r : Bool) → PlainTo n own → Fit a → PlainIn classes a own above parents r → r ≡ true → WithOwn own a more → PlainTo (n + 1) more
     plain-more own more r p f q t w =

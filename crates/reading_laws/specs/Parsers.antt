@@ -20,6 +20,7 @@ use Rattle.definitions.specs.Parse.{Parsed, done, refused, Parser, next, _>>=_,
 use Rattle.definitions.specs.Packing.{countedBits}
 use Rattle.definitions.specs.Legal.{Every, Counted}
 use Rattle.bits.specs.NumberLaws.{bit-lt, bit-odd, odd-bit, toBits-low}
+use Rattle.bits.specs.ReadLaws.{isDone}
 
 -- m reads a from the bits xs, whatever follows them
 abbrev pub Reads : {A : Type 0} → Parser A → A → List Bool → Type 0
@@ -250,10 +251,6 @@ module _ {A B : Type 0} {m : Parser A} {enc : A → List Bool} {P : A → Type 0
 abbrev behind : {A : Type 0} → Parsed A → List Bool
 behind (done a rest) = rest
 behind (refused r) = []
-
-abbrev isDone : {A : Type 0} → Parsed A → Bool
-isDone (done a rest) = true
-isDone (refused r) = false
 
 module _ {A : Type 0} {m : Parser A} {enc : A → List Bool} {P : A → Type 0} (c : Codes m enc P) where
   pub done-only : (bs : List Bool) (a : A) (rest : List Bool) → m bs ≡ done a rest → (bs ≡ enc a ++ rest) × P a

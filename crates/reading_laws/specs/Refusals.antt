@@ -10,6 +10,7 @@ use lib.ListN.{take}
 use Rattle.lists.specs.Lists.{At, here, later, any, repeats}
 use Rattle.lists.specs.Tests.{by, or-false-left, or-false-right, any-not, at-in}
 use Rattle.definitions.specs.Answer.{Input, Refusal, refuse, accept, firstRefusal}
+use Rattle.laws.specs.Alike.{first-passed}
 use Rattle.reading_laws.specs.Statements.{NoneHolds}
 
 -- none of them has the number n
@@ -18,16 +19,12 @@ NoneNumbered n l = any (λ (q : Refusal). eqb (q .number) n) l ≡ false
 
 pub first-holds : (i : Input) (r : Refusal) (l : List Refusal) → r .holds tt ≡ true → firstRefusal i (r ∷ l) .answer .number ≡ r .number
 unfolding firstRefusal refuse
-first-holds i r l e = rw (e, firstRefusal)
-
-pub first-passes : (i : Input) (r : Refusal) (l : List Refusal) → r .holds tt ≡ false → firstRefusal i (r ∷ l) ≡ firstRefusal i l
-unfolding firstRefusal
-first-passes i r l e = rw (e, firstRefusal)
+first-holds i r l e = ap (λ o. o .answer .number) (Rattle.laws.specs.Alike.first-holds i r l e)
 
 -- those that do not hold are passed
 pub all-pass : (i : Input) (before l : List Refusal) → NoneHolds before → firstRefusal i (before ++ l) ≡ firstRefusal i l
 all-pass i [] l h = refl
-all-pass i (q ∷ before) l h = first-passes i q (before ++ l) (h .0) ∙ all-pass i before l (h .1)
+all-pass i (q ∷ before) l h = first-passed i q (before ++ l) (h .0) ∙ all-pass i before l (h .1)
 
 -- a number that none of them has, and that is not acceptance, is not answered
 not-answered : (i : Input) (n : ℕ) (l : List Refusal) → eqb 0 n ≡ false → NoneNumbered n l → firstRefusal i l .answer .number ≡ n → ⊥
@@ -36,7 +33,7 @@ not-answered i n [] z h e = eqb-false 0 n z e
 not-answered i n (q ∷ l) z h e =
     by (q .holds tt)
     (λ p. eqb-false (q .number) n (or-false-left (eqb (q .number) n) (any (λ (q : Refusal). eqb (q .number) n) l) h) (sym (first-holds i q l p) ∙ e))
-    (λ p. not-answered i n l z (or-false-right (eqb (q .number) n) (any (λ (q : Refusal). eqb (q .number) n) l) h) (sym (ap (λ o. o .answer .number) (first-passes i q l p)) ∙ e))
+    (λ p. not-answered i n l z (or-false-right (eqb (q .number) n) (any (λ (q : Refusal). eqb (q .number) n) l) h) (sym (ap (λ o. o .answer .number) (first-passed i q l p)) ∙ e))
 
 -- no number is 0, and no two are equal
 pub record Numbered (l : List Refusal) : Type 0 where
@@ -65,15 +62,15 @@ answered i {r = r} (here {l = l}) d = (
   λ e.
       by (r .holds tt)
       (λ p. (tt, p))
-      (λ p. absurd (not-answered i (r .number) l (numbered-first r l d .0) (numbered-first r l d .1) (sym (ap (λ o. o .answer .number) (first-passes i r l p)) ∙ e))),
+      (λ p. absurd (not-answered i (r .number) l (numbered-first r l d .0) (numbered-first r l d .1) (sym (ap (λ o. o .answer .number) (first-passed i r l p)) ∙ e))),
   λ h. first-holds i r l (h .1),
 )
 answered i {r = r} (later {y = q} {l = l} a) d = (
   λ e.
       by (q .holds tt)
       (λ p. absurd (other-number (q .number) a (numbered-first q l d .1) (sym e ∙ first-holds i q l p)))
-      (λ p. let t = answered i a (numbered-rest q l d) .0 (sym (ap (λ o. o .answer .number) (first-passes i q l p)) ∙ e) in ((p, t .0), t .1)),
-  λ h. ap (λ o. o .answer .number) (first-passes i q l (h .0 .0)) ∙ answered i a (numbered-rest q l d) .1 (h .0 .1, h .1),
+      (λ p. let t = answered i a (numbered-rest q l d) .0 (sym (ap (λ o. o .answer .number) (first-passed i q l p)) ∙ e) in ((p, t .0), t .1)),
+  λ h. ap (λ o. o .answer .number) (first-passed i q l (h .0 .0)) ∙ answered i a (numbered-rest q l d) .1 (h .0 .1, h .1),
 )
 
 -- 0 is answered exactly if none holds
@@ -86,6 +83,6 @@ none-answered i (q ∷ l) z =
       λ e.
           by (q .holds tt)
           (λ p. absurd (eqb-false 0 (q .number) first (sym e ∙ first-holds i q l p)))
-          (λ p. (p, t .0 (sym (ap (λ o. o .answer .number) (first-passes i q l p)) ∙ e))),
-      λ h. ap (λ o. o .answer .number) (first-passes i q l (h .0)) ∙ t .1 (h .1),
+          (λ p. (p, t .0 (sym (ap (λ o. o .answer .number) (first-passed i q l p)) ∙ e))),
+      λ h. ap (λ o. o .answer .number) (first-passed i q l (h .0)) ∙ t .1 (h .1),
     )

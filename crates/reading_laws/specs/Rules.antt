@@ -1,37 +1,28 @@
 -- The tests of refusals 7, 5 and 6 say what 01 says of the fill and of a map.
 use mathlib.Core.Bool.{Bool, true, false, _&&_, _||_, not}
 use mathlib.Core.List.{List, [], _∷_, Memᴰ·cast}
-use mathlib.Core.Logic.{_↔_}
 use mathlib.Core.Path.{_≡_, refl, sym, ap, _∙_, subst}
 use Prim.Native.Nat.{ℕ, zero, suc}
-use native.Mathlib.Omega.{arith}
-use borrow.Author.Tests.{leb-false, lt-leb, not-false, eq-eqb, eqb-true, ltb-true, ltb-false, lt-ltb, le-ltb}
+use borrow.Author.Tests.{leb-false, lt-leb, not-false, eq-eqb, eqb-true}
 use lib.Dec.{eqb, leb, ltb}
 use lib.ListN.{length, getD}
 use Rattle.lists.specs.Lists.{In, Sorted, any, repeats, ascends, sameList, setOf}
-use Rattle.lists.specs.Tests.{never, not-so, and-left, and-right, and-both, or-false-left, or-false-right, any-in, any-of, any-not, any-none}
-use Rattle.lists.specs.Strict.{Strict, asymmetric}
-use Rattle.lists.specs.Sorting.{sorted-imp, sorted-unique, repeats-not, ascends-sorted, set-is, set-sorted}
-use Rattle.lists.specs.Lexicographic.{same-self, same-true, same-numbers, numbers-same, list-strict}
+use Rattle.lists.specs.Tests.{never, not-so, and-left, and-right, and-both, or-false-left, or-false-right, any-in, any-of, any-not, any-none, or-false-both}
+use Rattle.lists.specs.Sorting.{sorted-imp, repeats-not, ascends-sorted, sorted-ascends, set-members, sets-equal}
+use Rattle.lists.specs.Lexicographic.{same-self, same-true, same-numbers, numbers-same}
+use Rattle.lists.specs.Strict.{number-strict}
 use Rattle.definitions.specs.Records.{Name, Resource, makeList, associate, nestAssociate, alias, inherit, derive, noDerive, Annotation, TypeInfo, Extension, Sheet}
 use Rattle.definitions.specs.Orders.{sameName, bytesBefore}
 use Rattle.definitions.specs.Checks.{badFill, resourceBytes, selfBytes, badWords, namesTwice, keysTwice, wordsTwice, annotationsTwice, somethingTwice, resourcesOf, kindOf, contentOf, sameAnnotation}
 use Rattle.definitions.specs.Legal.{Every, wordsOf, SameWords, Equal, twoMakeList, twoAssociate, twoNestAssociate, twoAlias, twoInherit, twoDerive, twoNoDerive, GoodWords, NothingTwice}
+use Rattle.laws.specs.Orders.{bytes-strict}
 use Rattle.reading_laws.specs.Statements.{FillExactly, WordsExactly, TwiceExactly}
 
 -- ---- lists
 
-or-neither : {a b : Bool} → a ≡ false → b ≡ false → (a || b) ≡ false
-or-neither p q = rw (p, q)
-
 pub repeats-none : {A : Type 0} (same : A → A → Bool) (l : List A) → Sorted (λ x y. same x y ≡ false) l → repeats same l ≡ false
 repeats-none same [] s = refl
-repeats-none same (x ∷ l) s = or-neither (any-none (same x) l (s .0)) (repeats-none same l (s .1))
-
-pub sorted-ascends : {A : Type 0} (before : A → A → Bool) (l : List A) → Sorted (λ x y. before x y ≡ true) l → ascends before l ≡ true
-sorted-ascends before [] s = refl
-sorted-ascends before (x ∷ []) s = refl
-sorted-ascends before (x ∷ y ∷ l) s = and-both (s .0 y (mathlib.Core.List.List·Memᴰ·head refl)) (sorted-ascends before (y ∷ l) (s .1))
+repeats-none same (x ∷ l) s = or-false-both (any-none (same x) l (s .0)) (repeats-none same l (s .1))
 
 -- where the test is R, the list repeats nothing exactly if no two places stand in R
 module _ {A : Type 0} (same : A → A → Bool) (R : A → A → Type 0) (there : (x y : A) → same x y ≡ true → R x y) (back : (x y : A) → R x y → same x y ≡ true) where
@@ -62,10 +53,6 @@ fill-exactly rest =
 
 -- ---- refusal 5
 
-bytes-strict : Strict bytesBefore
-unfolding bytesBefore
-bytes-strict = list-strict
-
 holds-word : (w : List ℕ) (ws : List (List ℕ)) → any (sameList eqb w) ws ≡ true → In w ws
 holds-word w ws e = let r = any-of (sameList eqb w) ws e in Memᴰ·cast (same-numbers w (r .0) (r .2)) (r .1)
 
@@ -95,22 +82,6 @@ pub words-exactly : WordsExactly
 words-exactly ws = (words-good ws, good-words ws)
 
 -- ---- equal annotations
-
-ltb-strict : Strict ltb
-ltb-strict = record {
-  irreflexive = λ x. le-ltb x x (omega arith);
-  transitive = λ x y z p q. lt-ltb x z (omega (arith, ltb-true x y p, ltb-true y z q));
-  trichotomous = λ x y p q. omega (arith, ltb-false x y p, ltb-false y x q);
-}
-
-set-members : (l k : List ℕ) → setOf ltb l ≡ setOf ltb k → (w : ℕ) → In w l → In w k
-set-members l k e w i = set-is ltb-strict k w .0 (subst (λ m. In w m) e (set-is ltb-strict l w .1 i))
-
-sets-equal : (l k : List ℕ) → ((w : ℕ) → In w l ↔ In w k) → setOf ltb l ≡ setOf ltb k
-sets-equal l k h =
-    sorted-unique (λ x y. ltb x y ≡ true) (asymmetric ltb-strict) (setOf ltb l) (setOf ltb k) (set-sorted ltb-strict l) (set-sorted ltb-strict k)
-    (λ w i. set-is ltb-strict k w .1 (h w .0 (set-is ltb-strict l w .0 i)))
-    (λ w i. set-is ltb-strict l w .1 (h w .1 (set-is ltb-strict k w .0 i)))
 
 -- what the kind's number says of an annotation
 abbrev Form : Annotation → ℕ → Type 0
@@ -144,7 +115,7 @@ same-content a b e =
 same-words : (rs qs : List Resource) → setOf ltb (wordsOf rs) ∷ [] ≡ setOf ltb (wordsOf qs) ∷ [] → SameWords rs qs
 same-words rs qs e w =
     let p : setOf ltb (wordsOf rs) ≡ setOf ltb (wordsOf qs) = ap (λ l. getD l 0 []) e in
-    (set-members (wordsOf rs) (wordsOf qs) p w, set-members (wordsOf qs) (wordsOf rs) (sym p) w)
+    (set-members number-strict (wordsOf rs) (wordsOf qs) p w, set-members number-strict (wordsOf qs) (wordsOf rs) (sym p) w)
 
 one-number : (w v : ℕ) → (w ∷ []) ∷ [] ≡ (v ∷ []) ∷ [] → w ≡ v
 one-number w v e = ap (λ l. getD (getD l 0 []) 0 0) e
@@ -174,8 +145,8 @@ contents-same {x} e = rw (← e) (same-self (sameList eqb) (λ l. numbers-same {
 equal-same : (a b : Annotation) → Equal a b → sameAnnotation a b ≡ true
 unfolding sameAnnotation
 equal-same makeList makeList twoMakeList = refl
-equal-same (associate rs) (associate qs) (twoAssociate h) = contents-same (ap (λ l. l ∷ []) (sets-equal (wordsOf rs) (wordsOf qs) h))
-equal-same (nestAssociate rs) (nestAssociate qs) (twoNestAssociate h) = contents-same (ap (λ l. l ∷ []) (sets-equal (wordsOf rs) (wordsOf qs) h))
+equal-same (associate rs) (associate qs) (twoAssociate h) = contents-same (ap (λ l. l ∷ []) (sets-equal number-strict (wordsOf rs) (wordsOf qs) h))
+equal-same (nestAssociate rs) (nestAssociate qs) (twoNestAssociate h) = contents-same (ap (λ l. l ∷ []) (sets-equal number-strict (wordsOf rs) (wordsOf qs) h))
 equal-same (alias w) (alias v) (twoAlias e) = contents-same (ap (λ n. (n ∷ []) ∷ []) e)
 equal-same (inherit ns) (inherit ms) (twoInherit e) = contents-same e
 equal-same (derive t) (derive u) (twoDerive e) = contents-same (ap (λ n. (n ∷ []) ∷ []) e)
@@ -230,12 +201,12 @@ nothing-twice s e =
 twice-nothing : (s : Sheet) → NothingTwice s → somethingTwice s ≡ false
 unfolding somethingTwice namesTwice keysTwice wordsTwice annotationsTwice
 twice-nothing s h =
-    or-neither
+    or-false-both
     (of-apart (λ (T U : TypeInfo). sameName (T .name) (U .name)) OneName (λ T U h. same-numbers (T .name) (U .name) h) (λ T U h. numbers-same h) (s .types) (h .names))
-    (or-neither
+    (or-false-both
     (of-apart (λ (e f : Extension). sameName (e .name) (f .name) && eqb (e .word) (f .word)) OneKey key-of
     (λ e f h. and-both (numbers-same (h .0)) (eq-eqb (e .word) (f .word) (h .1))) (s .extensions) (h .keys))
-    (or-neither
+    (or-false-both
     (any-any-none (λ (a : Annotation). repeats (λ (u v : Resource). eqb (u .word) (v .word)) (resourcesOf a)) (λ (T : TypeInfo). T .annotations) (s .types)
     (λ T i a j.
     of-apart (λ (u v : Resource). eqb (u .word) (v .word)) OneWord (λ u v h. eqb-true (u .word) (v .word) h) (λ u v h. eq-eqb (u .word) (v .word) h) (resourcesOf a)

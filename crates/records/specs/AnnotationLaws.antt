@@ -7,10 +7,10 @@ use native.Mathlib.Omega.{arith}
 use borrow.Author.Tests.{le-leb, lt-leb}
 use lib.Dec.{eqb, leb}
 use lib.ListN.{length, getD, set, drop}
+use Rattle.lists.specs.Tabulating.{places-set, length-places}
 use Rattle.definitions.specs.Parse.{Parsed, done, refused, Parser, next, _>>=_, pure, refuse, choose, field, allowed, between, flag, counted}
 use Rattle.definitions.specs.Reading.{wordField, wordIfFlag, name, associated, associatedList, kinds, annotation}
 use Rattle.definitions.specs.Records.{Resource, AnnotationOf, makeList, associate, nestAssociate, alias, inherit, derive, noDerive}
-use Rattle.fields.specs.Tabulate.{places-set, length-places}
 use Rattle.fields.specs.ParseLaws.{counted-map}
 use Rattle.fields.specs.Fields.{ofNames, ofNamesRead}
 use Rattle.fields.specs.declared.NamesRead.{NamesRead}

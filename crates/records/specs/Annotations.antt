@@ -3,10 +3,10 @@ use mathlib.Core.Bool.{Bool, cond}
 use mathlib.Core.List.{List, [], _∷_, map}
 use Prim.Native.Nat.{ℕ}
 use lib.ListN.{drop, getD}
+use Rattle.lists.specs.Tabulating.{places}
 use Rattle.definitions.specs.Parse.{Parsed, done, refused, Parser, _>>=_, pure, field, counted}
 use Rattle.definitions.specs.Reading.{wordField, name}
 use Rattle.definitions.specs.Records.{Resource, AnnotationOf, makeList, associate, nestAssociate, alias, inherit, derive, noDerive}
-use Rattle.fields.specs.Tabulate.{places}
 use Rattle.fields.specs.Fields.{ofNames}
 use Rattle.fields.specs.declared.NamesRead.{NamesRead}
 use Rattle.records.specs.declared.Annotation.{Annotation}

@@ -5,7 +5,7 @@ use Prim.Native.Nat.{ℕ, _+_, _<_}
 use native.Mathlib.Omega.{arith}
 use lib.ListN.{length, getD, set}
 use lib.Seq
-use Rattle.fields.specs.Tabulate.{tabulate-set, length-tabulate}
+use Rattle.lists.specs.Tabulating.{tabulate-set, length-tabulate}
 use Rattle.records.specs.Marks.{markAs, markOf, ofMarks}
 use Rattle.records.specs.declared.Mark.{Mark}
 use Rattle.records.specs.declared.Marks.{Marks}

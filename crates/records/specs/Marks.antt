@@ -4,10 +4,10 @@ use mathlib.Core.List.{List}
 use Prim.Native.Nat.{ℕ}
 use lib.Dec.{eqb}
 use lib.ListN.{drop, getD}
+use Rattle.lists.specs.Tabulating.{tabulate}
 use Rattle.definitions.specs.Parse.{Parsed, done, refused}
 use Rattle.definitions.specs.Records.{makelistMark, deriveMark}
 use Rattle.definitions.specs.Records as records
-use Rattle.fields.specs.Tabulate.{tabulate}
 use Rattle.records.specs.declared.Mark.{Mark}
 use Rattle.records.specs.declared.MarkRead.{MarkRead}
 use Rattle.records.specs.declared.Marks.{Marks}

@@ -1,11 +1,11 @@
 -- Relisted sheets leave rows in the synthesis alike, since rows and refused types agree for the whole map; so the schedule call answers alike.
 use mathlib.Core.Bool.{Bool, true}
-use mathlib.Core.List.{List, [], _∷_}
+use mathlib.Core.List.{List}
 use mathlib.Core.Path.{_≡_, refl, sym, ap, _∙_}
 use Prim.Native.Nat.{ℕ}
 use Rattle.lists.specs.Lists.{null}
-use Rattle.lists.specs.Tests.{same-test}
-use Rattle.definitions.specs.Records.{Sheet, Row}
+use Rattle.lists.specs.Tests.{same-test, null-nil}
+use Rattle.definitions.specs.Records.{Sheet}
 use Rattle.definitions.specs.Parse.{Parsed}
 use Rattle.definitions.specs.Map.{TypeMap, typeMapOf}
 use Rattle.definitions.specs.Order.{hasOrder}
@@ -20,10 +20,6 @@ use Rattle.synthesis_laws.specs.Statements.{Ordered}
 use Rattle.synthesis_laws.specs.Rows.{rows-are-tested}
 use Rattle.relisting_laws.specs.Statements.{AnswersAlike, ListingsEqual}
 
-null-is : (l : List Row) → null l ≡ true → l ≡ []
-null-is [] e = refl
-null-is (r ∷ l) e = absurd (mathlib.Core.Bool.false≢true e)
-
 -- bytes that hold a sheet hold one that is ordered, where it has an order
 ordered : {bytes : List ℕ} {s : Sheet} → Holds bytes s → hasOrder (typeMapOf s) ≡ true → Ordered s
 ordered h o = record { readable = record { words = h .words; once = h .once }; order = o }
@@ -36,8 +32,8 @@ map-read i h = ap (λ (p : Parsed Sheet). typeMapOf (sheetOf p)) (h .read)
 rows-alike : (s t : Sheet) → Ordered s → Ordered t → lineMap s ≡ lineMap t → null (synthesis (typeMapOf s) .rows) ≡ null (synthesis (typeMapOf t) .rows)
 rows-alike s t o p e =
     same-test
-    (λ n. ap null (rows-are-tested t p .1 (sym (ap anyRefused e) ∙ rows-are-tested s o .0 (null-is _ n))))
-    (λ n. ap null (rows-are-tested s o .1 (ap anyRefused e ∙ rows-are-tested t p .0 (null-is _ n))))
+    (λ n. ap null (rows-are-tested t p .1 (sym (ap anyRefused e) ∙ rows-are-tested s o .0 (null-nil _ n))))
+    (λ n. ap null (rows-are-tested s o .1 (ap anyRefused e ∙ rows-are-tested t p .0 (null-nil _ n))))
 
 -- what either call tests for 9
 calls-alike : (c : Call) (m n : TypeMap) → null (synthesis m .rows) ≡ null (synthesis n .rows) → null (synthesisRows c m) ≡ null (synthesisRows c n)

@@ -1,30 +1,28 @@
 -- Laws of words and rows.
-use mathlib.Core.Bool.{Bool, true, false, _&&_, _||_, cond}
+use mathlib.Core.Bool.{Bool, true, false, _&&_, _||_, cond, and-true}
 use mathlib.Core.List.{List, [], _∷_, map}
 use mathlib.Core.Path.{_≡_, refl, sym, ap, ap₂, subst, _∙_}
-use Prim.Native.Nat.{ℕ, zero, suc, _+_, _<_, _≤_}
-use native.Mathlib.Numerals.{add-one}
+use Prim.Native.Nat.{ℕ, zero, suc, _<_, _≤_}
 use native.Mathlib.Omega.{arith}
-use borrow.Author.Tests.{eq-eqb, ne-eqb, eqb-true, eqb-false, ltb-true, ltb-false, lt-ltb, le-ltb}
+use borrow.Author.Tests.{eq-eqb, ne-eqb, eqb-true, eqb-false, ltb-true, le-ltb}
 use lib.Dec.{eqb, ltb}
-use lib.ListN.{length, getD, drop, drop-of-length-le}
-use lib.Seq
+use lib.ListN.{length, getD}
 use Rattle.lists.specs.Lists.{In, any, all, repeats, sameList, setOf}
 use Rattle.lists.specs.Tests.{by, same-test, and-left, and-right, and-both, any-in, any-of, all-in, all-of}
-use Rattle.lists.specs.Strict.{Strict, asymmetric}
-use Rattle.lists.specs.Sorting.{sorted-unique, set-is, set-sorted}
+use Rattle.lists.specs.Strict.{number-strict}
+use Rattle.lists.specs.Sorting.{set-members, sets-equal}
 use Rattle.lists.specs.Lexicographic.{same-numbers, numbers-same}
+use Rattle.lists.specs.Tabulating.{length-tabulate, getD-tabulate, getD-places, map-tabulate}
+use Rattle.lists.specs.Appending.{repeats-map}
 use Rattle.definitions.specs.Checks.{resourcesOf, kindOf, contentOf, sameAnnotation, namesTwice, keysTwice, wordsTwice, annotationsTwice, somethingTwice}
 use Rattle.definitions.specs.Records.{Resource, AnnotationOf}
 use Rattle.definitions.specs.Records as records
-use Rattle.fields.specs.Tabulate.{length-tabulate}
 use Rattle.fields.specs.Fields.{twoWords, ofNames}
+use Rattle.fields.specs.FieldLaws.{same-words}
 use Rattle.records.specs.Annotations.{resourceOf, wordOfRows, annotationAs, annotationOf, zeroAnnotation, ofAnnotations}
 use Rattle.records.specs.declared.Annotation.{Annotation}
 use Rattle.records.specs.declared.Annotations.{Annotations}
-use Rattle.spelling.specs.Scans.{getD-tabulate, getD-places}
 use Rattle.keys.specs.Keys.{sameTypeName, sameExtensionKey}
-use Rattle.keys.specs.KeyLaws.{repeats-map, map-tabulate, same-words}
 use Rattle.repeats.specs.Repeats.{wordsOf, rowAt, rowsOf, sameWord, repeatsWord, kindIn, sameContent, repeatsIn, typeRepeats}
 
 pub length-wordsOf : (a : Annotation) → length (wordsOf a) ≡ a .count
@@ -55,7 +53,7 @@ unfolding repeatsWord annotationOf annotationAs rowsOf
 twice-words a = go (a .kind)
   where
     words : repeats sameWord (map resourceOf (rowsOf a)) ≡ repeats eqb (wordsOf a)
-    words = repeats-map (λ (u : Resource). u .word) sameWord eqb (λ u v. refl) (map resourceOf (rowsOf a)) ∙ ap (repeats eqb) (first-words a)
+    words = sym (repeats-map eqb (λ (u : Resource). u .word) (map resourceOf (rowsOf a))) ∙ ap (repeats eqb) (first-words a)
 
     go : (k : ℕ) → repeats sameWord (resourcesOf (annotationAs k (rowsOf a))) ≡ cond (eqb k 1 || eqb k 2) (repeats eqb (wordsOf a)) false
     go zero = refl
@@ -75,13 +73,6 @@ same-row a b i = same-words (getD (a .words) i 0) (getD (a .doms) i 0) (getD (b 
 
 -- ---- sets
 
-number-strict : Strict ltb
-number-strict = record {
-  irreflexive = λ x. le-ltb x x (omega arith);
-  transitive = λ x y z p q. lt-ltb x z (omega (arith, ltb-true x y p, ltb-true y z q));
-  trichotomous = λ x y p q. omega (arith, ltb-false x y p, ltb-false y x q);
-}
-
 within : (xs ys : List ℕ) → all (λ w. any (eqb w) ys) xs ≡ true → (x : ℕ) → In x xs → In x ys
 within xs ys e x i =
     let r = any-of (eqb x) ys (all-in (λ w. any (eqb w) ys) e i) in
@@ -97,22 +88,15 @@ same-sets xs ys =
     (λ e.
     let q = same-numbers (setOf ltb xs) (setOf ltb ys) e in
     and-both
-    (within-of xs ys (λ x i. set-is number-strict ys x .0 (subst (In x) q (set-is number-strict xs x .1 i))))
-    (within-of ys xs (λ x i. set-is number-strict xs x .0 (subst (In x) (sym q) (set-is number-strict ys x .1 i)))))
+    (within-of xs ys (set-members number-strict xs ys q))
+    (within-of ys xs (set-members number-strict ys xs (sym q))))
     (λ e.
     let f = within xs ys (and-left (all (λ w. any (eqb w) ys) xs) (all (λ w. any (eqb w) xs) ys) e) in
     let g = within ys xs (and-right (all (λ w. any (eqb w) ys) xs) (all (λ w. any (eqb w) xs) ys) e) in
     numbers-same
-    (sorted-unique (λ x y. ltb x y ≡ true) (asymmetric number-strict) (setOf ltb xs) (setOf ltb ys)
-    (set-sorted number-strict xs) (set-sorted number-strict ys)
-    (λ x i. set-is number-strict ys x .1 (f x (set-is number-strict xs x .0 i)))
-    (λ x i. set-is number-strict xs x .1 (g x (set-is number-strict ys x .0 i)))))
+    (sets-equal number-strict xs ys (λ x. (f x, g x))))
 
 -- ---- equality of annotations
-
-last : (b : Bool) → (b && true) ≡ b
-last true = refl
-last false = refl
 
 kind-of : (k : ℕ) (rows : List (List ℕ)) → kindOf (annotationAs k rows) ≡ kindIn k
 unfolding annotationAs kindIn
@@ -147,10 +131,10 @@ same-content a b k h = go k h
   where
     sets : (sameList eqb (setOf ltb (map (λ (u : Resource). u .word) (map resourceOf (rowsOf a)))) (setOf ltb (map (λ (u : Resource). u .word) (map resourceOf (rowsOf b)))) && true)
         ≡ (all (λ w. any (eqb w) (wordsOf b)) (wordsOf a) && all (λ w. any (eqb w) (wordsOf a)) (wordsOf b))
-    sets = last _ ∙ ap₂ (λ (x y : List ℕ). sameList eqb (setOf ltb x) (setOf ltb y)) (first-words a) (first-words b) ∙ same-sets (wordsOf a) (wordsOf b)
+    sets = and-true _ ∙ ap₂ (λ (x y : List ℕ). sameList eqb (setOf ltb x) (setOf ltb y)) (first-words a) (first-words b) ∙ same-sets (wordsOf a) (wordsOf b)
 
     word : ((eqb (wordOfRows (rowsOf a)) (wordOfRows (rowsOf b)) && true) && true) ≡ eqb (wordOfRows (rowsOf a)) (wordOfRows (rowsOf b))
-    word = last _ ∙ last _
+    word = and-true _ ∙ and-true _
 
     go : (k : ℕ) → k ≤ 6 → sameList (sameList eqb) (contentOf (annotationAs k (rowsOf a))) (contentOf (annotationAs k (rowsOf b))) ≡ sameContent k a b
     go zero h = refl
@@ -211,13 +195,6 @@ annotation-of t i d h = getD-places annotationOf zeroAnnotation (t .items) (t .c
 pub no-rows : (words doms : List ℕ) → annotationOf (record { kind = 0; count = 0; words = words; doms = doms }) ≡ annotationOf zeroAnnotation
 unfolding annotationOf annotationAs
 no-rows words doms = refl
-
--- all words of a list are those of the first i and those behind
-pub all-step : {A : Type 0} (f : A → Bool) (l : List A) (i : ℕ) (d : A) → i < length l → all f (drop i l) ≡ (f (getD l i d) && all f (drop (i + 1) l))
-all-step f l i d h = ap (all f) (Seq.drop-cons l i d h ∙ ap (λ (k : ℕ). getD l i d ∷ drop k l) (sym (add-one i)))
-
-pub all-end : {A : Type 0} (f : A → Bool) (l : List A) (i : ℕ) → length l ≤ i → all f (drop i l) ≡ true
-all-end f l i h = ap (all f) (drop-of-length-le l {i = i} h)
 
 -- 'a word within an associate' or 'two annotations'
 pub any-or : {A : Type 0} (f g : A → Bool) (l : List A) → any (λ x. f x || g x) l ≡ (any f l || any g l)

@@ -5,10 +5,10 @@ use Prim.Native.Nat.{ℕ}
 use lib.Dec.{eqb, ltb}
 use lib.ListN.{getD}
 use Rattle.lists.specs.Lists.{any, all, repeats, sameList}
+use Rattle.lists.specs.Tabulating.{tabulate}
 use Rattle.definitions.specs.Checks.{resourcesOf, sameAnnotation}
 use Rattle.definitions.specs.Records.{Resource, AnnotationOf}
 use Rattle.definitions.specs.Records as records
-use Rattle.fields.specs.Tabulate.{tabulate}
 use Rattle.fields.specs.Fields.{twoWords, ofNames}
 use Rattle.records.specs.Annotations.{wordOfRows}
 use Rattle.records.specs.declared.Annotation.{Annotation}

@@ -1,75 +1,19 @@
--- Laws of lists, and of ascending lists of numbers. Nothing here knows of types or resources.
-use mathlib.Core.Bool.{Bool, true, false, _&&_, _||_, or-assoc}
+-- Laws of ascending lists of numbers. Nothing here knows of types or resources.
+use mathlib.Core.Bool.{Bool, true, false, _&&_, _||_}
 use mathlib.Core.List.{List, [], _∷_, _++_, map}
 use mathlib.Core.Path.{_≡_, refl, sym, ap, ap₂, _∙_}
 use Prim.Native.Nat.{ℕ, zero, suc, _+_, _<_, _≤_}
 use native.Mathlib.Omega.{arith}
-use borrow.Author.Tests.{eq-eqb, ne-eqb, eqb-true, eqb-false}
-use lib.Dec.{eqb}
-use lib.ListN.{length}
+use borrow.Author.Tests.{eq-eqb, ne-eqb, eqb-true, eqb-false, lt-ltb, le-ltb}
+use lib.Dec.{eqb, ltb}
 use Rattle.lists.specs.Lists.{any, filter, include, setOf}
+use Rattle.lists.specs.Tests.{by, never, or-left, or-right}
+use Rattle.lists.specs.Appending.{map-append, any-append}
 
 -- ---- tests
 
--- by the two values of a test, with the equation
-pub by : {C : Type 0} (b : Bool) → (b ≡ true → C) → (b ≡ false → C) → C
-by true f g = f refl
-by false f g = g refl
-
-pub never : {C : Type 0} {b : Bool} → b ≡ true → b ≡ false → C
-never p q = absurd (mathlib.Core.Bool.true≢false (sym p ∙ q))
-
-pub and-left : (a b : Bool) → (a && b) ≡ true → a ≡ true
-and-left true b e = refl
-and-left false b e = e
-
-pub and-right : (a b : Bool) → (a && b) ≡ true → b ≡ true
-and-right true b e = e
-and-right false b e = never e refl
-
-pub or-left : (a b : Bool) → a ≡ true → (a || b) ≡ true
-or-left a b e = rw e
-
-pub or-right : (a b : Bool) → b ≡ true → (a || b) ≡ true
-or-right true b e = refl
-or-right false b e = e
-
-pub neither : (a b : Bool) → (a || b) ≡ false → (a ≡ false) × (b ≡ false)
-neither true b e = never refl e
-neither false b e = (refl, e)
-
 pub eqb-same : (i : ℕ) → eqb i i ≡ true
 eqb-same i = eq-eqb i i refl
-
--- ---- lists
-
-pub map-append : {A B : Type 0} (f : A → B) (a b : List A) → map f (a ++ b) ≡ map f a ++ map f b
-map-append f [] b = refl
-map-append f (x ∷ a) b = ap (λ l. f x ∷ l) (map-append f a b)
-
-pub map-map : {A B C : Type 0} (f : B → C) (g : A → B) (l : List A) → map f (map g l) ≡ map (λ x. f (g x)) l
-map-map f g [] = refl
-map-map f g (x ∷ l) = ap (λ z. f (g x) ∷ z) (map-map f g l)
-
-pub filter-append : {A : Type 0} (p : A → Bool) (a b : List A) → filter p (a ++ b) ≡ filter p a ++ filter p b
-filter-append p [] b = refl
-filter-append p (x ∷ a) b = by (p x) (λ e. rw e (ap (λ l. x ∷ l) (filter-append p a b))) (λ e. rw e (filter-append p a b))
-
-pub filter-map : {A B : Type 0} (p : B → Bool) (g : A → B) (l : List A) → filter p (map g l) ≡ map g (filter (λ x. p (g x)) l)
-filter-map p g [] = refl
-filter-map p g (x ∷ l) = by (p (g x)) (λ e. rw e (ap (λ z. g x ∷ z) (filter-map p g l))) (λ e. rw e (filter-map p g l))
-
-pub any-append : {A : Type 0} (f : A → Bool) (a b : List A) → any f (a ++ b) ≡ (any f a || any f b)
-any-append f [] b = refl
-any-append f (x ∷ a) b = rw (any-append f a b) (sym (or-assoc (f x) (any f a) (any f b)))
-
-pub any-map : {A B : Type 0} (f : B → Bool) (g : A → B) (l : List A) → any f (map g l) ≡ any (λ x. f (g x)) l
-any-map f g [] = refl
-any-map f g (x ∷ l) = ap (λ b. f (g x) || b) (any-map f g l)
-
--- the length of an array of structs in a struct: `search length-mapped`
-pub length-mapped : {A B : Type 0} (f : A → B) (l : List A) (n : ℕ) → length (map f l) ≡ n → length l ≡ n
-length-mapped f l n e = sym (lib.ListN.length-map l f) ∙ e
 
 -- ---- ascending numbers
 
@@ -108,6 +52,20 @@ pub between-none : (f : ℕ → Bool) (i n : ℕ) → ((k : ℕ) → f k ≡ fal
 unfolding between
 between-none f i zero h = refl
 between-none f i (suc n) h = rw (h i, between-none f (suc i) n h)
+
+between-past : (k i n : ℕ) → k < i → between (eqb k) i n ≡ []
+unfolding between
+between-past k i zero h = refl
+between-past k i (suc n) h = rw (ne-eqb k i (λ q. omega arith), between-past k (suc i) n (omega arith))
+
+-- the numbers that are k
+pub between-one : (k i n : ℕ) → i ≤ k → k < i + n → between (eqb k) i n ≡ k ∷ []
+unfolding between
+between-one k i zero a b = absurd (omega arith)
+between-one k i (suc n) a b =
+    by (eqb k i)
+    (λ e. let q : k ≡ i = eqb-true k i e in rw (e, between-past k (suc i) n (omega arith)) (ap (λ (x : ℕ). x ∷ []) (sym q)))
+    (λ e. rw e (between-one k (suc i) n (omega (arith, eqb-false k i e)) (omega arith)))
 
 pub filter-between : (p f : ℕ → Bool) (i n : ℕ) → filter p (between f i n) ≡ between (λ k. f k && p k) i n
 unfolding between
@@ -156,6 +114,9 @@ pub record Climbs {A : Type 0} (before : A → A → Bool) (g : ℕ → A) (n : 
   pub down : (i j : ℕ) → i < j → j < n → before (g j) (g i) ≡ false
   pub flat : (i : ℕ) → i < n → before (g i) (g i) ≡ false
 
+pub climbing-numbers : (n : ℕ) → Climbs ltb (λ i. i) n
+climbing-numbers n = record { up = λ i j h l. lt-ltb i j h; down = λ i j h l. le-ltb j i (omega arith); flat = λ i l. le-ltb i i (omega arith) }
+
 module _ {A : Type 0} (before : A → A → Bool) (g : ℕ → A) (m : ℕ) (c : Climbs before g m) where
   include-front : (f : ℕ → Bool) (k i n : ℕ) → k < i → i + n ≤ m → include before (g k) (map g (between f i n)) ≡ g k ∷ map g (between f i n)
   unfolding include between
@@ -190,8 +151,8 @@ module _ {A : Type 0} (before : A → A → Bool) (g : ℕ → A) (m : ℕ) (c :
   unfolding setOf
   set-places [] h = ap (map g) (sym (between-none (λ k. false) 0 m (λ k. refl)))
   set-places (i ∷ is) h =
-      rw (set-places is (λ k e. h k (or-right (eqb k i) (elem k is) e)))
-      (include-at (λ k. elem k is) i 0 m (omega arith) (omega (arith, h i (or-left (eqb i i) (elem i is) (eqb-same i)))) (omega arith))
+      rw (set-places is (λ k e. h k (or-right (eqb k i) e)))
+      (include-at (λ k. elem k is) i 0 m (omega arith) (omega (arith, h i (or-left (elem i is) (eqb-same i)))) (omega arith))
 
   -- what f holds of, and what stands among the others
   pub set-united : (f f′ : ℕ → Bool) (is : List ℕ) → ((k : ℕ) → k < m → f′ k ≡ (f k || elem k is)) → ((k : ℕ) → elem k is ≡ true → k < m)

@@ -9,8 +9,9 @@ use lib.Dec.{eqb, ltb}
 use lib.Pow.{shr-shr}
 use borrow.Author.Tests.{ltb-true, ltb-false}
 use Rattle.lists.specs.Lists.{filter}
+use Rattle.lists.specs.Tests.{by}
 use Rattle.rows.specs.declared.Row.{Row}
-use Rattle.rows.specs.Lists.{by, between, below}
+use Rattle.rows.specs.Lists.{between, below}
 use Rattle.rows.specs.Rows.{bit, hasBit, limb, has}
 use Rattle.rows.specs.RowLaws.{bit-is}
 use Rattle.rows.specs.Next.{First, Next, NextBit}

@@ -7,8 +7,8 @@ use native.Mathlib.Nat.{not-suc-le-zero, le-of-suc-le-suc, pow-suc}
 use borrow.Author.Tests.{eq-eqb, ne-eqb, eqb-true, eqb-false}
 use lib.Bits.{bitAnd, bitOr, bitXor, differ, and-step, or-step, xor-step, and-le-l}
 use lib.Dec.{eqb}
+use Rattle.lists.specs.Tests.{by, never, eqb-suc}
 use Rattle.rows.specs.declared.Row.{Row}
-use Rattle.rows.specs.Lists.{by, never}
 use Rattle.rows.specs.Rows.{common, without, either, none, bit, hasBit, limb, has, lone, single}
 
 bit-lt : (n k : ℕ) → bit n k < 2
@@ -186,14 +186,11 @@ small-without x y s = record { a = less-lt _ _ (s .a); b = less-lt _ _ (s .b); c
 
 -- ---- the row of one number
 
-eqb-suc : (j k : ℕ) → eqb j k ≡ eqb (suc j) (suc k)
-eqb-suc j k = by (eqb j k) (λ e. e ∙ sym (eq-eqb (suc j) (suc k) (ap suc (eqb-true j k e)))) (λ e. e ∙ sym (ne-eqb (suc j) (suc k) (λ q. eqb-false j k e (omega arith))))
-
 bit-pow : (j k : ℕ) → eqb (bit (2 ^ j) k) 1 ≡ eqb j k
 bit-pow zero zero = refl
 bit-pow zero (suc k) = rw (bit-zero k) (sym (ne-eqb 0 (suc k) (λ q. absurd (omega arith))))
 bit-pow (suc j) zero = let e : 2 ^ suc j % 2 ≡ 0 = omega (arith, pow-suc 2 j) in rw e (sym (ne-eqb (suc j) 0 (λ q. absurd (omega arith))))
-bit-pow (suc j) (suc k) = let e : 2 ^ suc j / 2 ≡ 2 ^ j = omega (arith, pow-suc 2 j) in rw e (bit-pow j k ∙ eqb-suc j k)
+bit-pow (suc j) (suc k) = let e : 2 ^ suc j / 2 ≡ 2 ^ j = omega (arith, pow-suc 2 j) in rw e (bit-pow j k ∙ sym (eqb-suc j k))
 
 -- a power of two has one bit, and zero has none
 pub bit-one : (j k : ℕ) → hasBit (2 ^ j) k ≡ eqb j k
@@ -285,6 +282,21 @@ words-below x h w e =
     high (suc (suc zero)) j p q = absurd (omega arith)
     high (suc (suc (suc zero))) j p q = bit-high (x .d) 8 j h (q refl)
     high (suc (suc (suc (suc i)))) j p q = bit-zero j
+
+-- two rows are equal if their parts are
+pub rows-equal : (x y : Row) → x .a ≡ y .a → x .b ≡ y .b → x .c ≡ y .c → x .d ≡ y .d → x ≡ y
+rows-equal x y p q r s =
+    ap (λ (z : ℕ). record { a = z; b = x .b; c = x .c; d = x .d }) p
+    ∙ ap (λ (z : ℕ). record { a = y .a; b = z; c = x .c; d = x .d }) q
+    ∙ ap (λ (z : ℕ). record { a = y .a; b = y .b; c = z; d = x .d }) r
+    ∙ ap (λ (z : ℕ). record { a = y .a; b = y .b; c = y .c; d = z }) s
+
+pub part-past : (x : Row) (j : ℕ) → 4 ≤ j → limb x j ≡ 0
+part-past x zero h = absurd (omega arith)
+part-past x (suc zero) h = absurd (omega arith)
+part-past x (suc (suc zero)) h = absurd (omega arith)
+part-past x (suc (suc (suc zero))) h = absurd (omega arith)
+part-past x (suc (suc (suc (suc j)))) h = refl
 
 pub small-either : (x y : Row) → Small x → Small y → Small (either x y)
 unfolding either

@@ -9,6 +9,7 @@ use lib.Dec.{leb, ltb}
 use lib.ListN.{length, drop, set, length-drop, drop-of-length-le}
 use lib.Pow
 use Rattle.lists.specs.Lists.{any}
+use Rattle.lists.specs.Tabulating.{tabulate, places, places-set}
 use Rattle.definitions.specs.Bits.{bit, num, bitsOf}
 use Rattle.definitions.specs.Checks.{badFill}
 use Rattle.definitions.specs.Reading.{sheet}
@@ -18,7 +19,6 @@ use Rattle.bits.specs.declared.Read.the-variants.{Value, Past}
 use Rattle.bits.specs.Reading.{readAt}
 use Rattle.bits.specs.ReadLaws.{read-in}
 use Rattle.bits.specs.NumberLaws.{length-bitsOf}
-use Rattle.fields.specs.Tabulate.{tabulate, places, places-set}
 use Rattle.records.specs.Annotations.{ofAnnotations}
 use Rattle.types.specs.Types.{typeInfoOf, zeroType, ofTypes}
 use Rattle.types.specs.TypeLaws.{types-more}

@@ -7,15 +7,15 @@ use native.Mathlib.Omega.{arith}
 use lib.Dec.{eqb, ltb, leb}
 use lib.ListN.{getD, drop}
 use Rattle.lists.specs.Lists.{any, sameList, listBefore, ascends, placeOf}
+use Rattle.lists.specs.Tabulating.{getD-places}
+use Rattle.lists.specs.Places.{same-step, before-step, ascends-step, place-le, place-none}
 use Rattle.definitions.specs.Orders.{bytesBefore}
 use Rattle.definitions.specs.Checks.{resourceBytes, selfBytes, badWords}
 use Rattle.definitions.specs.Map.{numberOf}
-use Rattle.fields.specs.Tabulate.{places}
 use Rattle.words.specs.Words.{wordOf, zeroWord, ofWords}
 use Rattle.words.specs.WordLaws.{length-wordOf, length-ofWords}
 use Rattle.words.specs.declared.Word.{Word}
 use Rattle.words.specs.declared.Words.{Words}
-use Rattle.spelling.specs.Scans.{getD-places, same-step, before-step, ascends-step, place-le, place-none}
 
 pub byte-of : (w : Word) (i : ℕ) → i < w .count → getD (wordOf w) i 0 ≡ getD (w .bytes) i 0
 unfolding wordOf

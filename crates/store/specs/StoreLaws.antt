@@ -7,9 +7,10 @@ use borrow.Author.Tests.{eqb-true, eqb-false}
 use lib.Dec.{eqb}
 use lib.ListN.{getD, set, take, length, length-set}
 use lib.Seq.{getD-set-same, getD-set-other, getD-take, length-take-le, ext-getD}
+use Rattle.lists.specs.Tests.{by}
 use Rattle.rows.specs.declared.Row.{Row}
 use Rattle.rows.specs.Rows.{empty}
-use Rattle.rows.specs.Lists.{by}
+use Rattle.rows.specs.RowLaws.{rows-equal}
 use Rattle.definitions.specs.Records.{Name}
 use Rattle.dedup.specs.declared.Entry.{Entry}
 use Rattle.dedup.specs.declared.Entries.{Entries}
@@ -20,13 +21,6 @@ use Rattle.dedup.specs.ReadingLaws.{same-tables}
 use Rattle.store.specs.Store.{rowAt, entryAt, putRow, putEntry, zeros, Away, Keeps, PutEntries, PutDoms, Holds, Stores}
 
 -- ---- a row
-
-row-by : (x y : Row) → x .a ≡ y .a → x .b ≡ y .b → x .c ≡ y .c → x .d ≡ y .d → x ≡ y
-row-by x y p q r s =
-    ap (λ (z : ℕ). record { a = z; b = x .b; c = x .c; d = x .d }) p
-    ∙ ap (λ (z : ℕ). record { a = y .a; b = z; c = x .c; d = x .d }) q
-    ∙ ap (λ (z : ℕ). record { a = y .a; b = y .b; c = z; d = x .d }) r
-    ∙ ap (λ (z : ℕ). record { a = y .a; b = y .b; c = y .c; d = z }) s
 
 entry-by : (x y : Entry) → x .words ≡ y .words → x .parents ≡ y .parents → x ≡ y
 entry-by x y p q = ap (λ (z : Row). record { words = z; parents = x .parents }) p ∙ ap (λ (z : ℕ). record { words = y .words; parents = z }) q
@@ -54,7 +48,7 @@ module _ (s : List ℕ) (at : ℕ) (r : Row) where
       let l₁ : length s₁ ≡ length s = length-set s at (r .a) in
       let l₂ : length s₂ ≡ length s = length-set s₁ (at + 1) (r .b) ∙ l₁ in
       let l₃ : length s₃ ≡ length s = length-set s₂ (at + 2) (r .c) ∙ l₂ in
-      row-by (record { a = getD (set s₃ (at + 3) (r .d)) at 0; b = getD (set s₃ (at + 3) (r .d)) (at + 1) 0; c = getD (set s₃ (at + 3) (r .d)) (at + 2) 0; d = getD (set s₃ (at + 3) (r .d)) (at + 3) 0 }) r
+      rows-equal (record { a = getD (set s₃ (at + 3) (r .d)) at 0; b = getD (set s₃ (at + 3) (r .d)) (at + 1) 0; c = getD (set s₃ (at + 3) (r .d)) (at + 2) 0; d = getD (set s₃ (at + 3) (r .d)) (at + 3) 0 }) r
       (getD-set-other s₃ (at + 3) at (r .d) 0 (λ e. absurd (omega arith)) ∙ getD-set-other s₂ (at + 2) at (r .c) 0 (λ e. absurd (omega arith)) ∙ getD-set-other s₁ (at + 1) at (r .b) 0 (λ e. absurd (omega arith))
       ∙ getD-set-same s at (r .a) 0 (omega arith))
       (getD-set-other s₃ (at + 3) (at + 1) (r .d) 0 (λ e. absurd (omega arith)) ∙ getD-set-other s₂ (at + 2) (at + 1) (r .c) 0 (λ e. absurd (omega arith)) ∙ getD-set-same s₁ (at + 1) (r .b) 0 (omega arith))
@@ -65,7 +59,7 @@ module _ (s : List ℕ) (at : ℕ) (r : Row) where
 pub row-same : (s t : List ℕ) (at : ℕ) → ((j : ℕ) → j < 4 → getD t (at + j) 0 ≡ getD s (at + j) 0) → rowAt t at ≡ rowAt s at
 unfolding rowAt
 row-same s t at h =
-    row-by (record { a = getD t at 0; b = getD t (at + 1) 0; c = getD t (at + 2) 0; d = getD t (at + 3) 0 }) (record { a = getD s at 0; b = getD s (at + 1) 0; c = getD s (at + 2) 0; d = getD s (at + 3) 0 })
+    rows-equal (record { a = getD t at 0; b = getD t (at + 1) 0; c = getD t (at + 2) 0; d = getD t (at + 3) 0 }) (record { a = getD s at 0; b = getD s (at + 1) 0; c = getD s (at + 2) 0; d = getD s (at + 3) 0 })
     (rw (native.Mathlib.Nat.add-zero at) at (h 0 (omega arith))) (h 1 (omega arith)) (h 2 (omega arith)) (h 3 (omega arith))
 
 -- ---- an entry

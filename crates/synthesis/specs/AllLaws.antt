@@ -8,7 +8,9 @@ use borrow.Author.Tests.{eqb-true, eqb-false, eq-eqb, ne-eqb}
 use lib.Dec.{eqb}
 use lib.ListN.{length, getD, take}
 use Rattle.lists.specs.Lists.{In, any}
-use Rattle.lists.specs.Tests.{by, never, not-so}
+use Rattle.lists.specs.Tests.{by, never, not-so, or-elim}
+use Rattle.lists.specs.Appending.{any-append}
+use Rattle.emitting.specs.Emitting as emitting
 use Rattle.definitions.specs.Records.{Sheet}
 use Rattle.definitions.specs.Orders.{sameName}
 use Rattle.definitions.specs.Map.{TypeMap, typeMapOf}
@@ -16,7 +18,7 @@ use Rattle.types.specs.declared.Types.{Types}
 use Rattle.types.specs.declared.Extensions.{Extensions}
 use Rattle.rows.specs.Rows.{hasBit}
 use Rattle.rows.specs.RowLaws.{bit-none}
-use Rattle.ordering.specs.Lists.{or-elim, any-append, tab, tab-step, elem, elem-at}
+use Rattle.ordering.specs.Lists.{tab, tab-step, elem, elem-at}
 use Rattle.ordering.specs.Reading.{Parent, listed, typeAt, Reads}
 use Rattle.ordering.specs.declared.Parents.{Parents}
 use Rattle.held_map.specs.HeldMap.{HeldMap}
@@ -59,7 +61,7 @@ same-played tb ts p old r new n g = record { emits = g .emits }
 
 module _ (tb : Table) (ts : Types) (p : Parents) (old : List ℕ) (r : Trail) where
   pub played-none : (st : List ℕ) → PlayedTo tb ts p old r 0 st old (record { ok = 0; rows = 0 })
-  unfolding emit playAll
+  unfolding emitting.emit playAll
   played-none st = record { going = λ s es h o. record { emits = refl; well = λ a l. bit-none a }; stored = λ s es h j l. absurd (omega arith) }
 
   module _ (w : TrailOf p r) (i : ℕ) (l : i < r .count) (n : i < length (r .items)) where

@@ -11,6 +11,7 @@ use lib.Seq.{getD-take}
 use Rattle.lists.specs.Lists.{In, any, filter}
 use Rattle.lists.specs.Sorting.{sort-is}
 use Rattle.lists.specs.Tests.{by, any-of, filter-of}
+use Rattle.lists.specs.Places.{getD-in}
 use Rattle.rows.specs.declared.Row.{Row}
 use Rattle.rows.specs.Rows.{has, hasBit, empty}
 use Rattle.rows.specs.Lists.{between-none}
@@ -40,12 +41,12 @@ use Rattle.ordering.specs.declared.Parents.{Parents}
 use Rattle.ordering.specs.Lists.{tab-length}
 use Rattle.ancestry.specs.Rows.{ParentsBelow}
 use Rattle.ancestry.specs.Gathering.{parent}
-use Rattle.held_laws.specs.Places.{getD-in}
 use Rattle.table.specs.declared.Table.{Table}
 use Rattle.synthetic.specs.Made.{classesOf, namesIn, firstsOf, Fits}
+use Rattle.synthetic.specs.MadeLaws.{names-none}
 use Rattle.above.specs.Steps.{has-empty}
 use Rattle.lookups.specs.TableOf.{TableOf}
-use Rattle.lookups.specs.Fitting.{fits, names-none}
+use Rattle.lookups.specs.Fitting.{fits}
 use Rattle.lookups.specs.Parents.{few-firsts}
 use Rattle.interpreting.specs.Annotations.{OwnsFit, InheritedFits}
 use Rattle.handing.specs.Handing.{FromParents}

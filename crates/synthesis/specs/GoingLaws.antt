@@ -8,25 +8,26 @@ use borrow.Author.Tests.{eqb-true, eqb-false, ne-eqb, eq-eqb}
 use lib.Dec.{eqb}
 use lib.ListN.{length, length-map}
 use Rattle.lists.specs.Lists.{any, all, null}
-use Rattle.lists.specs.Tests.{by, or-false-left, or-false-right}
+use Rattle.lists.specs.Tests.{by, or-false-left, or-false-right, eqb-flip}
+use Rattle.lists.specs.Lexicographic.{numbers-same}
 use Rattle.definitions.specs.Records.{Name, TypeInfo}
 use Rattle.definitions.specs.Orders.{sameName}
 use Rattle.definitions.specs.Map.{TypeMap}
 use Rattle.definitions.specs.Inherited.{InheritedAnnotation}
 use Rattle.definitions.specs.Synthesis.{Interpreted, listedParents, interpretType}
+use Rattle.definitions.specs.Packing.{rowBytes}
 use Rattle.rows.specs.Rows.{hasBit}
-use Rattle.ordering.specs.Lists.{tab, tab-length, map-append, same-list-refl}
+use Rattle.ordering.specs.Lists.{tab, tab-length, map-tab, tab-same}
 use Rattle.ordering.specs.Reading.{Parent, howMany, listed, typeAt, placeIn, Reads}
 use Rattle.ordering.specs.Names.{place-same}
 use Rattle.ordering.specs.declared.Parents.{Parents}
 use Rattle.ancestry.specs.Rows.{ParentsBelow}
 use Rattle.ancestry.specs.Gathering.{parent, parent-below}
-use Rattle.above.specs.Lists.{eqb-flip}
-use Rattle.interpretation.specs.Emit.{emit, emit-append}
+use Rattle.interpretation.specs.Emit.{emit}
 use Rattle.visit_laws.specs.Trail.{Reached, seenIn, Told, Played, succeeded, passes, flagsOf, gotFrom, allOf, play, playAll, nothingPlayed}
 use Rattle.hearing.specs.Hearing.{handsAt, FlagsOf, WithOk}
-use Rattle.hearing.specs.HearingLaws.{tab-same}
 use Rattle.hearing.specs.declared.Flags.{Flags}
+use Rattle.emitting.specs.Emitting.{emit-append}
 use Rattle.synthesis.specs.Going.{reachedAt, Going}
 
 -- ---- the two steps, type by type
@@ -48,7 +49,7 @@ never-told m d (x ∷ l) n e h =
 pub same-name : (m : TypeMap) (p : Parents) → Reads p m → (a t : ℕ) → a < p .count → t < p .count → sameName (typeAt m a .name) (typeAt m t .name) ≡ eqb t a
 same-name m p r a t l k =
     place-same p m r (typeAt m a .name) t k
-    ∙ ap (λ (n : ℕ). eqb n t) (eqb-true (placeIn m (typeAt m a .name)) a (sym (place-same p m r (typeAt m a .name) a l) ∙ same-list-refl (typeAt m a .name)))
+    ∙ ap (λ (n : ℕ). eqb n t) (eqb-true (placeIn m (typeAt m a .name)) a (sym (place-same p m r (typeAt m a .name) a l) ∙ numbers-same {l = typeAt m a .name} refl))
     ∙ eqb-flip a t
 
 -- ---- flags
@@ -65,10 +66,6 @@ flags-tab told f g zero = refl
 flags-tab told f g (suc n) =
     flags-last told (tab f n) (tab g n) (f n) (g n) (tab-length f n ∙ sym (tab-length g n))
     ∙ ap (λ (l : List Bool). l ++ (passes told (f n) (g n) ∷ [])) (flags-tab told f g n)
-
-map-tab : {A B : Type 0} (h : A → B) (f : ℕ → A) (n : ℕ) → map h (tab f n) ≡ tab (λ i. h (f i)) n
-map-tab h f zero = refl
-map-tab h f (suc n) = map-append h (tab f n) (f n ∷ []) ∙ ap (λ l. l ++ (h (f n) ∷ [])) (map-tab h f n)
 
 module _ (m : TypeMap) (p : Parents) (r : Reads p m) (t : ℕ) (k : t < p .count) (b : ParentsBelow p t)
     (ps : listedParents m (typeAt m t) ≡ map (λ (q : Parent). typeAt m (q .place)) (listed p t)) where
@@ -135,7 +132,7 @@ module _ (m : TypeMap) (p : Parents) (r : Reads p m) (t : ℕ) (k : t < p .count
           emits =
               e
               ∙ ap (λ (st : List ℕ × ℕ). emit 256 st (interpretType m (typeAt m t) got .rows)) (g .emits)
-              ∙ sym (emit-append 256 (old, 0) (playAll m nothingPlayed before .rows) (interpretType m (typeAt m t) got .rows))
+              ∙ sym (emit-append rowBytes 256 (old, 0) (playAll m nothingPlayed before .rows) (interpretType m (typeAt m t) got .rows))
               ∙ ap (λ (d : Played). emit 256 (old, 0) (d .rows)) (sym q);
           well = λ a l.
               w .bits a

@@ -9,19 +9,20 @@ use lib.Dec.{eqb}
 use lib.ListN.{length, getD, take, length-map}
 use Rattle.lists.specs.Lists.{In, all, null, each}
 use Rattle.lists.specs.Tests.{by, and-left, and-right}
+use Rattle.lists.specs.Tabulating.{map-tabulate}
+use Rattle.lists.specs.Appending.{map-map}
 use Rattle.definitions.specs.Records.{Name, TypeInfo, Sheet}
 use Rattle.definitions.specs.Map.{TypeMap, Declaration, Map, declarationOf, mapOf, typeMapOf}
 use Rattle.definitions.specs.Inherited.{InheritedAnnotation, dedup, handedOn}
 use Rattle.definitions.specs.Synthesis as definitions
 use Rattle.definitions.specs.Synthesis.{listedParents, interpretType, ownEntries, interpretAll}
-use Rattle.fields.specs.Tabulate.{tabulate}
 use Rattle.types.specs.Types.{typeInfoOf, zeroType}
 use Rattle.types.specs.declared.Extensions.{Extensions}
 use Rattle.types.specs.declared.Types.{Types}
 use Rattle.types.specs.declared.TypeInfo as held
 use Rattle.rows.specs.Rows.{hasBit}
 use Rattle.ordering.specs.Lists.{tab, tab-length, tab-step}
-use Rattle.ordering.specs.Reading.{Parent, howMany, listed, typeAt}
+use Rattle.ordering.specs.Reading.{Parent, howMany, listed, typeAt, listed-length}
 use Rattle.ordering.specs.declared.Parents.{Parents}
 use Rattle.synthesis_laws.specs.Statements.{inheritedBy}
 use Rattle.dedup.specs.declared.Inherited.{Inherited}
@@ -31,7 +32,6 @@ use Rattle.own_associates.specs.declared.OwnAssociates.{OwnAssociates}
 use Rattle.lookup_laws.specs.Bare.{bare, bareMap}
 use Rattle.lookups.specs.TableOf.{TableOf}
 use Rattle.lookups.specs.OverMap.{interpreted-is}
-use Rattle.lookups.specs.TableLaws.{map-tabulate}
 use Rattle.table.specs.declared.Table.{Table}
 use Rattle.table.specs.Table.{nameAt, declarationAt, tableMap}
 use Rattle.interpretation.specs.Emit.{emit}
@@ -40,7 +40,7 @@ use Rattle.interpreting.specs.declared.Interpreted.{Interpreted}
 use Rattle.interpreting.specs.OwnLaws.{own-entries}
 use Rattle.visit_laws.specs.Trail.{gotFrom, allOf}
 use Rattle.handing.specs.Handing.{namesOf, handedTo, StoredParents, Ready, Gathered, KeepsIt}
-use Rattle.handing.specs.Keeping.{eight, got-all, length-listed}
+use Rattle.handing.specs.Keeping.{eight, got-all}
 use Rattle.held_laws.specs.HeldLaws.{count-parents, type-at, parents-below, parents-are}
 use Rattle.held_laws.specs.Limits.{type-fits}
 use Rattle.held_map.specs.HeldMap.{HeldMap}
@@ -84,7 +84,7 @@ module _ (p : Parents) (ts : Types) (st : List ℕ) (t : ℕ) (f : Flags) (after
             ∙ ap dedup
             (sym
             (got-all m (tab (hasBit (f .row)) (howMany p t)) (listedParents m (typeAt m t))
-            (tab-length (hasBit (f .row)) (howMany p t) ∙ sym (ap length (parents-are s ts es p h t l) ∙ length-map (listed p t) (λ (q : Parent). typeAt m (q .place)) ∙ length-listed p t))
+            (tab-length (hasBit (f .row)) (howMany p t) ∙ sym (ap length (parents-are s ts es p h t l) ∙ length-map (listed p t) (λ (q : Parent). typeAt m (q .place)) ∙ listed-length p t))
             (sym (g .whole) ∙ e)));
         stored = k .stored;
         others = k .others;
@@ -110,8 +110,8 @@ unfolding typeNames tableMap bareMap mapOf bare declarationOf declarationAt
 type-names m t o =
     sym (map-tabulate (λ (D : Declaration). D .name) (declarationAt t) (t .count))
     ∙ ap (λ (M : Map). map (λ (D : Declaration). D .name) (M .types)) (o .map)
-    ∙ Rattle.ordering.specs.Lists.map-map (λ (D : Declaration). D .name) bare (map declarationOf (m .types))
-    ∙ Rattle.ordering.specs.Lists.map-map (λ (D : Declaration). bare D .name) declarationOf (m .types)
+    ∙ map-map (λ (D : Declaration). D .name) bare (map declarationOf (m .types))
+    ∙ map-map (λ (D : Declaration). bare D .name) declarationOf (m .types)
 
 pub interpreted-type : (m : TypeMap) (t : Table) → TableOf m t → (T : ℕ) → T < t .count → (x : held.TypeInfo) (o : OwnAssociates) (h : Inherited) (got : List InheritedAnnotation)
     → OwnOf x o → typeInfoOf x ≡ typeAt m T → inheritedOf (namesOf m) h ≡ dedup got → interpretedAt t T o h ≡ interpretType m (typeAt m T) got

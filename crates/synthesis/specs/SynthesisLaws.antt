@@ -14,10 +14,11 @@ use Rattle.ordering.specs.declared.Parents.{Parents}
 use Rattle.table.specs.declared.Table.{Table}
 use Rattle.lookups.specs.Listable.{Tabled}
 use Rattle.lookups.specs.Held.{held-table}
-use Rattle.interpretation.specs.Emit.{State, emit}
+use Rattle.interpretation.specs.Emit.{emit}
 use Rattle.visiting.specs.Trails.{TrailOf}
 use Rattle.visiting.specs.Along.{rows-along}
 use Rattle.visiting.specs.declared.Trail.{Trail}
+use Rattle.emitting.specs.Emitting.{State}
 use Rattle.synthesis.specs.Playing.{AllReady, ReadyIn, ReadyInRoom, AllPlayed}
 use Rattle.synthesis.specs.Synthesized.{Synthesizes, Written, Synthesized, few, many}
 

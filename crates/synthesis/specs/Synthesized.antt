@@ -17,7 +17,6 @@ use Rattle.types.specs.declared.Types.{Types}
 use Rattle.types.specs.declared.Extensions.{Extensions}
 use Rattle.ordering.specs.declared.Parents.{Parents}
 use Rattle.held_map.specs.HeldMap.{HeldMap}
-use Rattle.interpretation.specs.Emit as emitted
 use Rattle.emitting.specs.Emitting as emitting
 use Rattle.emitting.specs.Emitting.{State}
 
@@ -37,11 +36,6 @@ pub record Synthesized (ts : Types) (es : Extensions) (resource : ℕ) (p : Pare
 
 -- ---- the rows, all at once
 
-same-emit : (limit : ℕ) (st : State) (rs : List Row) → emitted.emit limit st rs ≡ emitting.emit rowBytes limit st rs
-unfolding emitted.emit emitting.emit
-same-emit limit st [] = refl
-same-emit limit st (r ∷ rs) = same-emit limit (emitted.emitBytes limit st (rowBytes r)) rs
-
 two : (n : Name) → length (nameBytes n) ≡ 2
 two [] = refl
 two (a ∷ []) = refl
@@ -54,9 +48,9 @@ six r =
     let f = lib.ListN.length-append (nameBytes (r .other)) (Rattle.definitions.specs.Packing.wordByte (r .word) ∷ []) in
     omega (arith, e, f, two (r .subject), two (r .other))
 
-module _ (rs : List Row) (old new : List ℕ) (n : ℕ) (h : 1536 ≤ length old) (e : _≡_ {A = State} (new, n) (emitted.emit 256 (old, 0) rs)) where
+module _ (rs : List Row) (old new : List ℕ) (n : ℕ) (h : 1536 ≤ length old) (e : _≡_ {A = State} (new, n) (emitting.emit rowBytes 256 (old, 0) rs)) where
   done : _≡_ {A = State} (new, n) (overwrite (each rowBytes (take 256 rs)) old, min 257 (length rs))
-  done = e ∙ same-emit 256 (old, 0) rs ∙ emitting.emit-all rowBytes six 256 old rs (omega (arith, h))
+  done = e ∙ emitting.emit-all rowBytes six 256 old rs (omega (arith, h))
 
   total : n ≡ min 257 (length rs)
   total = ap (λ (w : State). w .1) done

@@ -20,10 +20,10 @@ use Rattle.definitions.specs.Inherited.{ownAssociates, handedOn}
 use Rattle.definitions.specs.Synthesis.{listedParents}
 use Rattle.definitions.specs.Lines.{Associates, Passes}
 use Rattle.lists.specs.Members.{filter-short, rising-short}
+use Rattle.lists.specs.Strict.{number-strict}
 use Rattle.line_laws.specs.Within.{Within}
-use Rattle.line_laws.specs.Ancestors.{ancestor-type}
-use Rattle.line_laws.specs.Associating.{number-strict}
 use Rattle.line_laws.specs.Bounds.{gives-within}
+use Rattle.laws.specs.Rounds.{ancestor-type}
 use Rattle.synthesis_laws.specs.Statements.{Ordered, inheritedBy, EntriesAtMost}
 use Rattle.synthesis_laws.specs.Entries.{Entry, entry, asInherited, merged}
 use Rattle.synthesis_laws.specs.Merged.{wordsFrom, words-of, merged-few}

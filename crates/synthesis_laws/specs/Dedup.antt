@@ -13,10 +13,10 @@ use Rattle.definitions.specs.Orders.{nameBefore, domBefore}
 use Rattle.definitions.specs.Checks.{resourcesOf}
 use Rattle.definitions.specs.Annotations.{wordsOf, hasWord, domsIn}
 use Rattle.definitions.specs.Inherited.{InheritedAnnotation, dedup}
-use Rattle.line_laws.specs.Associating.{number-strict}
 use Rattle.synthesis_laws.specs.Statements.{IsAssociate, AllAssociates, wordsGiven, domsGiven, parentsGiven, Deduped, DedupMerges}
 use Rattle.lists.specs.Appending.{each-map, map-map, filter-map, map-self}
 use Rattle.lists.specs.Permutations.{sorted-map}
+use Rattle.lists.specs.Strict.{number-strict}
 use Rattle.synthesis_laws.specs.Entries.{Entry, entry, asInherited, merged, dedup-is, word, Ascending, AllAscending}
 use Rattle.synthesis_laws.specs.Merged.{merged-says, merged-apart, merged-ascending, ascending-is, domsFrom, parentsFrom, wordsFrom, words-from, words-of, merged-doms, merged-parents, merged-few}
 

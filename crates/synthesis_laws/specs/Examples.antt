@@ -27,7 +27,7 @@ use Rattle.laws.specs.Orders.{name-strict, dom-strict}
 use Rattle.laws.specs.Order.{order-exists}
 use Rattle.line_laws.specs.Statements.{lineMap, Accepted, isRefused, anyRefused}
 use Rattle.lists.specs.Members.{map-sorted}
-use Rattle.line_laws.specs.Associating.{number-strict}
+use Rattle.lists.specs.Strict.{number-strict}
 use Rattle.line_laws.specs.Reading.{read-is-within}
 use Rattle.line_laws.specs.Refused.{refused-is-tested}
 use Rattle.synthesis_laws.specs.Statements.{isPlain, Parted, IsAssociate, AllAssociates, Deduped, wordsGiven, Ordered, HandsOn, Inherits, inheritedBy, MakesLines}

@@ -25,10 +25,11 @@ use Rattle.definitions.specs.Lines.{Gives, plainly, nested, Associates, GivenAb
 use Rattle.laws.specs.Orders.{look-up-is, types-is, types-apart, names-once}
 use Rattle.laws.specs.Passes.{Placed, placed-type, placed-or-waits, listed-placed}
 use Rattle.laws.specs.Rounds.{no-cycle}
-use Rattle.line_laws.specs.Associating.{number-strict}
 use Rattle.synthesis_laws.specs.Statements.{GivesAs}
 use Rattle.lists.specs.Appending.{each-each, map-map, map-each, map-same, each-same, map-append}
 use Rattle.lists.specs.Permutations.{sorted-map}
+use Rattle.lists.specs.Strict.{number-strict}
+use Rattle.line_laws.specs.Associating.{gives-in}
 use Rattle.synthesis_laws.specs.Entries.{Entry, entry, asInherited, merged, dedup-is, Fact, word, dom, parent, Says, has-in, has-of, SaysIn, says-more, says-append, Ascending, AllAscending}
 use Rattle.synthesis_laws.specs.Merged.{merged-says, merged-entry, merged-ascending, use-doms}
 
@@ -99,15 +100,6 @@ hands-parent (suc k) m T i =
     (List·Memᴰ·append-cases (ownHands T) i)
 
 -- ---- a type's own words and doms
-
-gives-in : {A : TypeInfo} {u : Resource} (a : Annotation) → In a (A .annotations) → In u (resourcesOf a) → Gives A u
-gives-in makeList i j = absurd (List·Memᴰ·not-nil j)
-gives-in (associate rs) i j = plainly rs i j
-gives-in (nestAssociate rs) i j = nested rs i j
-gives-in (alias w) i j = absurd (List·Memᴰ·not-nil j)
-gives-in (inherit ns) i j = absurd (List·Memᴰ·not-nil j)
-gives-in (derive t) i j = absurd (List·Memᴰ·not-nil j)
-gives-in noDerive i j = absurd (List·Memᴰ·not-nil j)
 
 gives-of : {A : TypeInfo} {u : Resource} → Gives A u
     → (a : Annotation) × In a (A .annotations) × In u (resourcesOf a) × ((eqb (kindOf (infoOf a)) 1 || eqb (kindOf (infoOf a)) 2) ≡ true)

@@ -10,7 +10,7 @@ use lib.Dec.{eqb, ltb}
 use lib.ListN.{length}
 use Rattle.lists.specs.Lists.{In, filter, each, sort, setOf}
 use Rattle.lists.specs.Tests.{any-in, any-of, filter-in, filter-of, each-in, each-of}
-use Rattle.lists.specs.Strict.{asymmetric}
+use Rattle.lists.specs.Strict.{asymmetric, number-strict}
 use Rattle.lists.specs.Sorting.{Distinct, sorted-imp, sorted-filter, sorted-unique, sort-perm, set-is, set-sorted}
 use Rattle.definitions.specs.Records.{Name, Dom, Resource, AssociatedResource, makeList, associate, nestAssociate, alias, inherit, derive, noDerive, Annotation, AnnotationInfo, TypeInfo, Sheet, Item}
 use Rattle.definitions.specs.Orders.{nameBefore, domBefore, dotted}
@@ -26,7 +26,7 @@ use Rattle.definitions.specs.Items.{associateOf, owned, given, ofWord, hasWord,
 use Rattle.definitions.specs.Lines.{AssociatedAbove, DomsAbove, ParentsAbove}
 use Rattle.laws.specs.Orders.{name-strict, dom-strict}
 use Rattle.line_laws.specs.Statements.{Readable, lineMap}
-use Rattle.line_laws.specs.Associating.{number-strict, word-is, has-word, associated-above, doms-are, namesPassing, parents-above-is, parents-above-are}
+use Rattle.line_laws.specs.Associating.{word-is, has-word, associated-above, doms-are, namesPassing, parents-above-is, parents-above-are}
 use Rattle.lists.specs.Appending.{each-append, map-append, map-each, each-map, each-same, map-same, map-map, each-filter, each-one}
 use Rattle.lists.specs.Permutations.{apart-of, sorted-each, sorted-map, perm-append, perm-map, perm-same, perm-each, perm-each-in, perm-filter, distinct-perm, split-perm, group-perm}
 use Rattle.synthesis_laws.specs.Entries.{Entry, asInherited, merged, dedup-is, word, has-in, has-of, Ascending}

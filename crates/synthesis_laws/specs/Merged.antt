@@ -10,7 +10,7 @@ use lib.Dec.{ltb}
 use lib.ListN.{length}
 use Rattle.lists.specs.Lists.{In, Sorted, filter, each, setOf}
 use Rattle.lists.specs.Tests.{cons-elim, filter-in, filter-of, each-in, each-of}
-use Rattle.lists.specs.Strict.{Strict, asymmetric}
+use Rattle.lists.specs.Strict.{Strict, asymmetric, number-strict}
 use Rattle.lists.specs.Sorting.{Distinct, sorted-imp, sorted-unique, one-key, set-is, set-sorted}
 use Rattle.lists.specs.Counting.{pigeonhole}
 use Rattle.definitions.specs.Records.{Name, Dom, AssociatedResource}
@@ -18,7 +18,6 @@ use Rattle.definitions.specs.Orders.{nameBefore, domBefore}
 use Rattle.definitions.specs.Annotations.{hasWord, domsIn, shared, less}
 use Rattle.definitions.specs.Inherited.{toList}
 use Rattle.laws.specs.Orders.{name-strict, dom-strict}
-use Rattle.line_laws.specs.Associating.{number-strict}
 use Rattle.lists.specs.Permutations.{apart-of}
 use Rattle.synthesis_laws.specs.Entries.{Entry, entry, unlessNone, restOf, commonOf, mergeOne, mergeOnto, merged, dom, parent, Fact, word, GivesDom, Says, has-in, has-of, says-word, doms-is, SaysIn, says-more, says-append, says-none, one-in, one-of, NoWordShared, one-apart, Ascending, AllAscending, one-ascending}
 

@@ -1,5 +1,5 @@
 -- The visit leaves no row exactly if each type, given all that its parents hand on, has none. Then each type is interpreted once.
-use mathlib.Core.Bool.{Bool, true, false}
+use mathlib.Core.Bool.{true, false}
 use mathlib.Core.List.{List, [], _∷_, _++_, map, append-nil, append-assoc, List·Memᴰ·head, List·Memᴰ·tail, List·Memᴰ·not-nil, Memᴰ·cast, Memᴰ·map, Memᴰ·of-map, List·Permᴰ, List·Permᴰ·nil, List·Permᴰ·trans, List·Permᴰ·append-comm}
 use mathlib.Core.Logic.{_⊎_, inl, inr, ⊎-elim, _↔_}
 use mathlib.Core.Path.{_≡_, refl, sym, ap, ap₂, _∙_, subst}
@@ -17,6 +17,8 @@ use Rattle.definitions.specs.Inherited.{InheritedAnnotation, handedOn}
 use Rattle.definitions.specs.Synthesis.{Interpreted, interpretType, Visited, Called, Heard, onlyIf, hear, hearAll, listedParents, finish, visit, visitAll, synthesis}
 use Rattle.definitions.specs.Ancestry.{Parent, Ancestor, direct, further}
 use Rattle.laws.specs.Orders.{elem-in, elem-of, types-is, types-apart, names-once}
+use Rattle.laws.specs.Rounds.{ancestor-type}
+use Rattle.laws.specs.Visit.{heardBy, visit-seen, visit-new}
 use Rattle.lists.specs.Appending.{append-empty}
 use Rattle.lists.specs.Permutations.{perm-append, perm-same, perm-each, distinct-perm}
 use Rattle.synthesis_laws.specs.Handed.{listed-is, acyclic}
@@ -36,26 +38,6 @@ Clean m T = result m T .rows ≡ []
 
 abbrev startHeard : Visited → Heard
 startHeard v = record { ok = true; got = []; visited = v }
-
-abbrev heardBy : ℕ → TypeMap → TypeInfo → Visited → Heard
-heardBy k m T v = hearAll m (visit k m) (listedParents m T) (startHeard v)
-
-choose : Bool → Called → Called → Called
-choose b c d = elim b [ true ↦ c | false ↦ d ]
-
-visit-step : (k : ℕ) (m : TypeMap) (T : TypeInfo) (v : Visited)
-    → visit (suc k) m T v ≡ choose (elemName (T .name) (v .seen)) (record { ok = true; visited = v }) (finish T (heardBy k m T v) (interpretType m T (heardBy k m T v .got)))
-unfolding visit choose
-visit-step k m T v = refl
-
-visit-seen : (k : ℕ) (m : TypeMap) (T : TypeInfo) (v : Visited) → elemName (T .name) (v .seen) ≡ true → visit (suc k) m T v ≡ record { ok = true; visited = v }
-unfolding choose
-visit-seen k m T v e = visit-step k m T v ∙ rw e
-
-visit-new : (k : ℕ) (m : TypeMap) (T : TypeInfo) (v : Visited) → elemName (T .name) (v .seen) ≡ false
-    → visit (suc k) m T v ≡ finish T (heardBy k m T v) (interpretType m T (heardBy k m T v .got))
-unfolding choose
-visit-new k m T v e = visit-step k m T v ∙ rw e
 
 -- ---- no row: each type is clean
 
@@ -224,10 +206,6 @@ module _ (m : TypeMap) (one : (T U : TypeInfo) → In T (m .types) → In U (m .
   no-rows-clean e T i = all-good (length (m .types)) (m .types) (λ U h. h) begin (λ U j h. absurd (List·Memᴰ·not-nil h)) e T i (all-visited T i)
 
 -- ---- each type is clean: no row, and each type once
-
-ancestor-type : {s : Sheet} {A T : TypeInfo} → Ancestor s A T → In A (s .types)
-ancestor-type (direct p) = p .declared
-ancestor-type (further p a) = ancestor-type a
 
 module _ (s : Sheet) (once : somethingTwice s ≡ false) (order : hasOrder (typeMapOf s) ≡ true)
     (clean : (T : TypeInfo) → In T (typeMapOf s .types) → Clean (typeMapOf s) T) where

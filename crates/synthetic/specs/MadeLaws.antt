@@ -10,9 +10,12 @@ use lib.Dec.{eqb, ltb}
 use lib.ListN.{length, getD, length-append, length-map}
 use Rattle.lists.specs.Lists.{all, each, filter, keep}
 use Rattle.lists.specs.Tests.{by, never}
+use Rattle.lists.specs.Appending.{each-append, each-each, all-append, all-each, map-map, filter-append}
+use Rattle.lists.specs.Tabulating.{tabulate, tabulate-more}
 use Rattle.rows.specs.declared.Row.{Row}
 use Rattle.rows.specs.Rows.{has, hasBit}
-use Rattle.rows.specs.Lists.{between, below, between-same, map-map, filter-append}
+use Rattle.rows.specs.Lists.{between, below, between-same, between-none}
+use Rattle.rows.specs.RowLaws.{bit-none}
 use Rattle.annotations.specs.Reading.{domAt, domsOf}
 use Rattle.definitions.specs.Records.{Name, Item}
 use Rattle.definitions.specs.Records as records
@@ -21,7 +24,6 @@ use Rattle.definitions.specs.Map.{Declaration}
 use Rattle.definitions.specs.Making.{declared, classNames, extensionParents, marksOf, allVirtual, createSyntheticResource}
 use Rattle.definitions.specs.Synthesis.{firstParents}
 use Rattle.fields.specs.Fields.{nameOf, ofNames}
-use Rattle.fields.specs.Tabulate.{tabulate, tabulate-more}
 use Rattle.records.specs.Marks.{ofMarks}
 use Rattle.records.specs.MarkLaws.{length-ofMarks}
 use Rattle.types.specs.Extensions.{extensionOf, ofExtensions}
@@ -42,21 +44,10 @@ pub between-end : (f : ℕ → Bool) (k n : ℕ) → n ≤ k → between f k (n 
 unfolding between
 between-end f k n h = let e : n - k ≡ 0 = omega arith in rw e
 
-pub each-append : {A B : Type 0} (f : A → List B) (a b : List A) → each f (a ++ b) ≡ each f a ++ each f b
-each-append f [] b = refl
-each-append f (x ∷ a) b = ap (λ k. f x ++ k) (each-append f a b) ∙ sym (append-assoc (f x) (each f a) (each f b))
-
-pub each-each : {A B C : Type 0} (f : B → List C) (g : A → List B) (l : List A) → each (λ x. each f (g x)) l ≡ each f (each g l)
-each-each f g [] = refl
-each-each f g (x ∷ l) = ap (λ k. each f (g x) ++ k) (each-each f g l) ∙ sym (each-append f (g x) (each g l))
-
-pub all-append : {A : Type 0} (f : A → Bool) (a b : List A) → all f (a ++ b) ≡ (all f a && all f b)
-all-append f [] b = refl
-all-append f (x ∷ a) b = ap (λ k. f x && k) (all-append f a b) ∙ sym (and-assoc (f x) (all f a) (all f b))
-
-pub all-each : {A B : Type 0} (f : B → Bool) (g : A → List B) (l : List A) → all (λ x. all f (g x)) l ≡ all f (each g l)
-all-each f g [] = refl
-all-each f g (x ∷ l) = ap (λ k. all f (g x) && k) (all-each f g l) ∙ sym (all-append f (g x) (each g l))
+-- no parents
+pub names-none : (t : Table) → namesIn t 0 ≡ []
+unfolding namesIn
+names-none t = ap (map (nameAt t)) (between-none (hasBit 0) 0 (t .count) bit-none)
 
 -- ---- classes
 
@@ -82,14 +73,14 @@ pub marks-all : (t : Table) (doms : Row) (word : ℕ) →
     marksOf (tableMap t) (classesOf doms word) ≡ each (λ (D : Declaration). D .marks) (classTypes t doms word 0 201)
 unfolding marksOf
 marks-all t doms word =
-    each-each (λ (D : Declaration). D .marks) (declared (tableMap t)) (classesOf doms word)
+    sym (each-each (declared (tableMap t)) (λ (D : Declaration). D .marks) (classesOf doms word))
     ∙ ap (each (λ (D : Declaration). D .marks)) (classes-all t doms word)
 
 pub virtual-all : (t : Table) (doms : Row) (word : ℕ) →
     allVirtual (tableMap t) (classesOf doms word) ≡ all (λ (D : Declaration). D .virtual) (classTypes t doms word 0 201)
 unfolding allVirtual
 virtual-all t doms word =
-    all-each (λ (D : Declaration). D .virtual) (declared (tableMap t)) (classesOf doms word)
+    sym (all-each (λ (D : Declaration). D .virtual) (declared (tableMap t)) (classesOf doms word))
     ∙ ap (all (λ (D : Declaration). D .virtual)) (classes-all t doms word)
 
 -- ---- a loop over the classes

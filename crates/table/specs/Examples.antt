@@ -5,9 +5,9 @@ use mathlib.Core.Path.{_≡_, refl}
 use Prim.Native.Nat.{ℕ, zero, suc, _≤_, _<_}
 use native.Mathlib.Omega.{arith}
 use lib.ListN.{replicate}
+use Rattle.lists.specs.Tabulating.{tabulate, places}
 use Rattle.definitions.specs.Records.{domain, resource, makelistMark}
 use Rattle.definitions.specs.Map.{Map}
-use Rattle.fields.specs.Tabulate.{tabulate, places}
 use Rattle.records.specs.Marks.{ofMarks}
 use Rattle.records.specs.declared.Marks.{Marks}
 use Rattle.types.specs.Extensions.{zeroExtension, ofExtensions}
@@ -44,7 +44,7 @@ unfolding tableMap declarationAt tabulate ofMarks ofExtensions places
 example-read = refl
 
 -- by the places below three
-three : (P : ℕ → Type 0) → P 0 → P 1 → P 2 → (i : ℕ) → i < 3 → P i
+pub three : (P : ℕ → Type 0) → P 0 → P 1 → P 2 → (i : ℕ) → i < 3 → P i
 three P a b c zero h = a
 three P a b c (suc zero) h = b
 three P a b c (suc (suc zero)) h = c

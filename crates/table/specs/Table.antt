@@ -5,10 +5,10 @@ use mathlib.Core.Path.{_≡_}
 use Prim.Native.Nat.{ℕ, _≤_, _<_}
 use lib.Dec.{ltb}
 use lib.ListN.{getD}
+use Rattle.lists.specs.Tabulating.{tabulate}
 use Rattle.definitions.specs.Records.{Name}
 use Rattle.definitions.specs.Map.{Declaration, Map}
 use Rattle.fields.specs.Fields.{twoWords}
-use Rattle.fields.specs.Tabulate.{tabulate}
 use Rattle.records.specs.Marks.{ofMarks}
 use Rattle.records.specs.declared.Marks.{Marks}
 use Rattle.types.specs.Types.{variantOf}

@@ -1,37 +1,29 @@
 -- Laws of tables.
-use mathlib.Core.Bool.{Bool, true, false, cond, _&&_}
+use mathlib.Core.Bool.{Bool, true, false, cond}
 use mathlib.Core.List.{List, [], _∷_, _++_, append-nil}
 use mathlib.Core.Path.{_≡_, refl, sym, ap, ap₂, _∙_}
 use Prim.Native.Nat.{ℕ, zero, suc, _-_, _≤_, _<_}
 use native.Mathlib.Numerals.{sub-one}
 use native.Mathlib.Omega.{arith}
-use borrow.Author.Tests.{lt-ltb, le-ltb, ltb-true, ltb-false, eq-eqb, ne-eqb, eqb-true, eqb-false}
+use borrow.Author.Tests.{lt-ltb, le-ltb, ltb-true, ltb-false, ne-eqb, eqb-true, eqb-false}
 use lib.Dec.{eqb, ltb}
 use lib.ListN.{getD}
 use Rattle.lists.specs.Lists.{filter, sameList}
 use Rattle.lists.specs.Lexicographic.{same-numbers, numbers-same}
 use Rattle.lists.specs.Tests.{by, never, not-so, same-test}
-use Rattle.rows.specs.Lists.{filter-append}
+use Rattle.lists.specs.Appending.{filter-append}
+use Rattle.lists.specs.Tabulating.{tabulate, tabulate-of}
+use Rattle.lists.specs.Members.{filter-none}
 use Rattle.definitions.specs.Records.{Name}
 use Rattle.definitions.specs.Orders.{sameName, lookUp, dotted}
 use Rattle.definitions.specs.Map.{Declaration, Map}
 use Rattle.definitions.specs.Making.{declared}
 use Rattle.annotations.specs.Reading.{domAt}
-use Rattle.fields.specs.Fields.{optional, twoWords}
-use Rattle.fields.specs.Tabulate.{tabulate}
+use Rattle.fields.specs.Fields.{twoWords}
 use Rattle.table.specs.Table.{nameAt, declarationAt, tableMap, Sound, Finds, typeAt}
 use Rattle.table.specs.declared.Table.{Table}
 
 -- ---- names of two words
-
-optional-same : (b d : ℕ) → sameName (optional b) (optional d) ≡ eqb b d
-optional-same b d =
-    by (eqb b 255)
-    (λ e. rw e (by (eqb d 255) (λ f. rw f (sym (eq-eqb b d (eqb-true b 255 e ∙ sym (eqb-true d 255 f))))) (λ f. rw f (sym (ne-eqb b d (λ q. eqb-false d 255 f (sym q ∙ eqb-true b 255 e)))))))
-    (λ e. rw e (by (eqb d 255) (λ f. rw f (sym (ne-eqb b d (λ q. eqb-false b 255 e (q ∙ eqb-true d 255 f))))) (λ f. rw f (mathlib.Core.Bool.and-true (eqb b d)))))
-
-pub words-same : (a b c d : ℕ) → sameName (twoWords a b) (twoWords c d) ≡ (eqb a c && eqb b d)
-words-same a b c d = ap (λ x. eqb a c && x) (optional-same b d)
 
 -- the class of a dom that is a word
 pub class-dom : (dom w : ℕ) → (dom ≡ 0 → ⊥) → w < 255 → twoWords (dom - 1) w ≡ dotted (domAt dom) w
@@ -40,10 +32,8 @@ class-dom (suc d) w h l = rw (sub-one (suc d), ne-eqb w 255 (λ q. omega arith))
 
 -- ---- where exactly one place has a property
 
-filter-none : {A : Type 0} (f : A → Bool) (g : ℕ → A) (n : ℕ) → ((i : ℕ) → i < n → f (g i) ≡ false) → filter f (tabulate g n) ≡ []
-unfolding tabulate
-filter-none f g zero h = refl
-filter-none f g (suc n) h = rw (filter-append f (tabulate g n) (g n ∷ []), filter-none f g n (λ i l. h i (omega arith)), h n (omega arith))
+pub none-there : {A : Type 0} (f : A → Bool) (g : ℕ → A) (n : ℕ) → ((i : ℕ) → i < n → f (g i) ≡ false) → filter f (tabulate g n) ≡ []
+none-there f g n h = filter-none f (tabulate g n) (λ x i. let r = tabulate-of g n i in ap f (r .2) ∙ h (r .0) (r .1))
 
 filter-one : {A : Type 0} (f : A → Bool) (g : ℕ → A) (n p : ℕ) → p < n → f (g p) ≡ true → ((i : ℕ) → i < n → (i ≡ p → ⊥) → f (g i) ≡ false) →
     filter f (tabulate g n) ≡ g p ∷ []
@@ -54,7 +44,7 @@ filter-one f g (suc n) p l e h =
     (λ q.
     let z : p ≡ n = eqb-true p n q in
     let y : f (g n) ≡ true = ap (λ (x : ℕ). f (g x)) (sym z) ∙ e in
-    rw (filter-append f (tabulate g n) (g n ∷ []), filter-none f g n (λ i k. h i (omega arith) (λ w. absurd (omega arith))), y)
+    rw (filter-append f (tabulate g n) (g n ∷ []), none-there f g n (λ i k. h i (omega arith) (λ w. absurd (omega arith))), y)
     (ap (λ (x : ℕ). g x ∷ []) (sym z)))
     (λ q.
     let z : p < n = omega (arith, eqb-false p n q) in
@@ -76,5 +66,5 @@ declared-at t s c r f =
     (λ u. s .distinct r i (omega (arith, ltb-false i r u, w)) k (f .there l ∙ sym x))))))
     (λ e.
     rw e
-    (filter-none (λ (D : Declaration). sameName (D .name) c) (declarationAt t) (t .count)
+    (none-there (λ (D : Declaration). sameName (D .name) c) (declarationAt t) (t .count)
     (λ i k. not-so (λ q. f .first i (omega (arith, ltb-false r (t .count) e, f .most)) (same-numbers (nameAt t i) c q)))))

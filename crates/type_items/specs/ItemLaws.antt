@@ -1,21 +1,18 @@
 -- Lists of items, one after the other. Nothing here knows of types.
-use mathlib.Core.List.{List, [], _∷_, _++_, append-nil}
+use mathlib.Core.List.{List, [], _++_}
 use mathlib.Core.Path.{_≡_, refl, ap}
 use Prim.Native.Nat.{ℕ, _+_, _*_}
 use native.Mathlib.Omega.{arith}
 use lib.ListN.{length, length-append}
 use Rattle.lists.specs.Lists.{each}
+use Rattle.lists.specs.Tabulating.{each-next, tabulate}
+use Rattle.lists.specs.Appending.{each-append}
 use Rattle.definitions.specs.Records.{Item}
 use Rattle.definitions.specs.Packing.{itemBits}
-use Rattle.fields.specs.Tabulate.{tabulate, tabulate-more}
-use Rattle.synthetic.specs.MadeLaws.{each-append}
 use Rattle.item_bits.specs.Counts.{Counts}
 use Rattle.item_bits.specs.declared.Counted.{Counted}
 
 -- ---- counts
-
-pub each-next : {A B : Type 0} (g : A → List B) (f : ℕ → A) (n : ℕ) → each g (tabulate f (n + 1)) ≡ each g (tabulate f n) ++ g (f n)
-each-next g f n = rw (tabulate-more f n, each-append g (tabulate f n) (f n ∷ []), append-nil (g (f n)))
 
 pub counts-empty : (n : ℕ) (xs : List Item) → xs ≡ [] → Counts n xs (record { items = 0; bits = 0 })
 counts-empty n xs e = rw e (record { items = refl; bits = refl; few = omega arith; small = omega arith })

@@ -6,6 +6,7 @@ use Prim.Native.Nat.{ℕ, _+_, _-_, _*_, _≤_, _<_}
 use native.Mathlib.Omega.{arith}
 use lib.ListN.{length}
 use Rattle.lists.specs.Lists.{each}
+use Rattle.lists.specs.Appending.{each-append}
 use Rattle.definitions.specs.Records.{Sheet, Item}
 use Rattle.definitions.specs.Map.{typeMapOf}
 use Rattle.definitions.specs.Items.{itemsFor}
@@ -20,7 +21,6 @@ use Rattle.rows.specs.Next.{First}
 use Rattle.rows.specs.NextLaws.{below-parts, below-next, from-next, below-there, from-there, below-all}
 use Rattle.ordering.specs.declared.Parents.{Parents}
 use Rattle.table.specs.declared.Table.{Table}
-use Rattle.synthetic.specs.MadeLaws.{each-append}
 use Rattle.made.specs.Made.{itemsMade, MadeAt}
 use Rattle.made.specs.declared.Made.{Made}
 use Rattle.makings.specs.Makings.{Makes}

@@ -2,9 +2,9 @@
 use mathlib.Core.Bool.{Bool, cond}
 use mathlib.Core.List.{List, []}
 use lib.ListN.{drop}
+use Rattle.lists.specs.Tabulating.{places}
 use Rattle.definitions.specs.Parse.{Parsed, done, refused}
 use Rattle.definitions.specs.Records as records
-use Rattle.fields.specs.Tabulate.{places}
 use Rattle.fields.specs.Fields.{nameOf, ofNames}
 use Rattle.types.specs.declared.Extension.{Extension}
 use Rattle.types.specs.declared.ExtensionRead.{ExtensionRead}

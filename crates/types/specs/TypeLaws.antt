@@ -7,11 +7,11 @@ use native.Mathlib.Omega.{arith}
 use borrow.Author.Tests.{le-leb, lt-leb}
 use lib.Dec.{eqb, leb}
 use lib.ListN.{length, getD, set}
+use Rattle.lists.specs.Tabulating.{places-set, length-places}
 use Rattle.definitions.specs.Parse.{Parsed, done, refused, Parser, next, _>>=_, pure, refuse, choose, field, allowed, between, flag, counted}
 use Rattle.definitions.specs.Reading.{name, variant, typeInfo}
 use Rattle.definitions.specs.Records.{Variant, domain, resource, other}
 use Rattle.definitions.specs.Records as records
-use Rattle.fields.specs.Tabulate.{places-set, length-places}
 use Rattle.fields.specs.Fields.{twoWords}
 use Rattle.types.specs.Types.{Heading, head, body, variantOf, typeInfoOf, zeroType, ofTypes}
 use Rattle.types.specs.Extensions.{extensionOf, zeroExtension, ofExtensions}

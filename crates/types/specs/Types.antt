@@ -4,11 +4,11 @@ use mathlib.Core.List.{List, [], _∷_}
 use Prim.Native.Nat.{ℕ}
 use lib.Dec.{eqb}
 use lib.ListN.{length, drop, getD}
+use Rattle.lists.specs.Tabulating.{places}
 use Rattle.definitions.specs.Parse.{Parsed, done, refused, Parser, _>>=_, pure, flag, counted}
 use Rattle.definitions.specs.Reading.{name, variant, annotation, mark}
 use Rattle.definitions.specs.Records.{Variant, domain, resource, other}
 use Rattle.definitions.specs.Records as records
-use Rattle.fields.specs.Tabulate.{places}
 use Rattle.fields.specs.Fields.{nameOf, ofNames}
 use Rattle.records.specs.Annotations.{ofAnnotations}
 use Rattle.records.specs.Marks.{ofMarks}
@@ -77,6 +77,10 @@ zeroType = record {
   annotations = record { count = 0; items = [] };
   marks = record { count = 0; derives = []; tags = [] };
 }
+
+-- the type at a place of the array
+abbrev pub itemAt : Types → ℕ → TypeInfo
+itemAt ts i = getD (ts .items) i zeroType
 
 unfoldable pub ofTypes : Types → List records.TypeInfo
 ofTypes t = places typeInfoOf zeroType (t .items) (t .count)

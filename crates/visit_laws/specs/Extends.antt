@@ -1,18 +1,14 @@
 -- A trail that another goes on from: what is added has no name that was seen. So the result of a call that was told stays until the trail ends.
-use mathlib.Core.Bool.{Bool, true, false, _||_, not, or-assoc}
+use mathlib.Core.Bool.{true, false, _||_, not}
 use mathlib.Core.List.{List, [], _∷_, _++_, append-nil, append-assoc}
 use mathlib.Core.Path.{_≡_, refl, sym, ap, _∙_, subst}
-use Rattle.lists.specs.Lists.{any}
 use Rattle.lists.specs.Tests.{by, never, or-left, or-false-left, or-false-right}
+use Rattle.lists.specs.Appending.{any-append}
 use Rattle.definitions.specs.Records.{Name}
 use Rattle.definitions.specs.Orders.{sameName}
 use Rattle.definitions.specs.Map.{TypeMap}
 use Rattle.laws.specs.Orders.{same-name}
 use Rattle.visit_laws.specs.Trail.{Reached, seenIn, Told, Played, succeeded, play, playAll, nothingPlayed}
-
-any-append : {A : Type 0} (f : A → Bool) (a b : List A) → any f (a ++ b) ≡ (any f a || any f b)
-any-append f [] b = refl
-any-append f (x ∷ a) b = ap (λ (c : Bool). f x || c) (any-append f a b) ∙ sym (or-assoc (f x) (any f a) (any f b))
 
 pub seen-append : (a b : List Reached) (n : Name) → seenIn (a ++ b) n ≡ (seenIn a n || seenIn b n)
 seen-append a b n = any-append (λ (x : Reached). sameName n (x .type .name)) a b

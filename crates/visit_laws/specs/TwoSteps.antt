@@ -12,38 +12,19 @@ use Rattle.definitions.specs.Map.{TypeMap}
 use Rattle.definitions.specs.Inherited.{InheritedAnnotation, handedOn}
 use Rattle.definitions.specs.Synthesis.{interpretType, Visited, Called, Heard, onlyIf, hear, hearAll, listedParents, finish, visit, visitAll, synthesis}
 use Rattle.laws.specs.Orders.{name-same}
+use Rattle.laws.specs.Visit.{heardBy, choose, visit-seen, visit-new}
 use Rattle.visit_laws.specs.Trail.{Reached, seenIn, reachAll, reach, reachEach, trail, Played, succeeded, passes, flagsOf, gotFrom, allOf, play, playAll, nothingPlayed, playedRows}
 use Rattle.visit_laws.specs.Extends.{Extends, no-further, further, one-more, seen-append, play-append, toldBy, told-stays}
 
 -- ---- one step of each
 
-abbrev heardBy : ℕ → TypeMap → TypeInfo → Visited → Heard
-heardBy k m T v = hearAll m (visit k m) (listedParents m T) (record { ok = true; got = []; visited = v })
-
 abbrev reachedBy : ℕ → TypeMap → TypeInfo → List Reached → List Reached × List Bool
 reachedBy k m T l = reachAll (reach k m) (listedParents m T) l []
-
-choose : {A : Type 0} → Bool → A → A → A
-choose b c d = elim b [ true ↦ c | false ↦ d ]
-
-visit-step : (k : ℕ) (m : TypeMap) (T : TypeInfo) (v : Visited)
-    → visit (suc k) m T v ≡ choose (elemName (T .name) (v .seen)) (record { ok = true; visited = v }) (finish T (heardBy k m T v) (interpretType m T (heardBy k m T v .got)))
-unfolding visit choose
-visit-step k m T v = refl
 
 reach-step : (k : ℕ) (m : TypeMap) (T : TypeInfo) (l : List Reached)
     → reach (suc k) m T l ≡ choose (seenIn l (T .name)) l (reachedBy k m T l .0 ++ (record { type = T; fresh = reachedBy k m T l .1 } ∷ []))
 unfolding reach choose
 reach-step k m T l = refl
-
-visit-seen : (k : ℕ) (m : TypeMap) (T : TypeInfo) (v : Visited) → elemName (T .name) (v .seen) ≡ true → visit (suc k) m T v ≡ record { ok = true; visited = v }
-unfolding choose
-visit-seen k m T v e = visit-step k m T v ∙ rw e
-
-visit-new : (k : ℕ) (m : TypeMap) (T : TypeInfo) (v : Visited) → elemName (T .name) (v .seen) ≡ false
-    → visit (suc k) m T v ≡ finish T (heardBy k m T v) (interpretType m T (heardBy k m T v .got))
-unfolding choose
-visit-new k m T v e = visit-step k m T v ∙ rw e
 
 pub reach-seen : (k : ℕ) (m : TypeMap) (T : TypeInfo) (l : List Reached) → seenIn l (T .name) ≡ true → reach (suc k) m T l ≡ l
 unfolding choose

@@ -6,8 +6,10 @@ use Prim.Native.Nat.{ℕ, zero, suc, _≤_, _<_}
 use native.Mathlib.Omega.{arith}
 use borrow.Author.Tests.{eqb-true, eq-eqb}
 use lib.Dec.{eqb}
-use Rattle.lists.specs.Lists.{In, each}
+use Rattle.lists.specs.Lists.{In}
 use Rattle.lists.specs.Tests.{by, never, or-left, or-right}
+use Rattle.lists.specs.Appending.{each-single, map-map, map-append}
+use Rattle.lists.specs.Lexicographic.{numbers-same}
 use Rattle.definitions.specs.Records.{Name, TypeInfo}
 use Rattle.definitions.specs.Orders.{sameName}
 use Rattle.definitions.specs.Map.{TypeMap}
@@ -15,7 +17,7 @@ use Rattle.definitions.specs.OrderRows.{typeNamed}
 use Rattle.definitions.specs.Synthesis.{listedParents}
 use Rattle.visit_laws.specs.Trail.{Reached, seenIn, reachAll, reach, reachEach, trail}
 use Rattle.visit_laws.specs.TwoSteps.{reach-seen, reach-new}
-use Rattle.ordering.specs.Lists.{same-list-refl, map-map, map-append, map-below, tab, elem, elem-cases}
+use Rattle.ordering.specs.Lists.{map-below, tab, elem, elem-cases}
 use Rattle.ordering.specs.Reading.{Parent, listed, typeAt, placeIn, parentIn, Reads}
 use Rattle.ordering.specs.Names.{place-same, types-are, named-yes}
 use Rattle.ordering.specs.declared.Parents.{Parents}
@@ -27,12 +29,6 @@ use Rattle.visiting.specs.Good.{walk-seen, walk-new, spots-more}
 abbrev pub asReached : TypeMap → Stop → Reached
 asReached m x = record { type = typeAt m (x .place); fresh = x .fresh }
 
--- one list for each element, of one element
-each-single : {A B : Type 0} (f : A → List B) (g : A → B) (l : List A) → ((x : A) → In x l → f x ≡ g x ∷ []) → each f l ≡ map g l
-each-single f g [] h = refl
-each-single {A} {B} f g (x ∷ l) h =
-    ap₂ (λ (a b : List B). a ++ b) (h x (List·Memᴰ·head refl)) (each-single f g l (λ y i. h y (List·Memᴰ·tail i)))
-
 each-append : (k : ℕ) (m : TypeMap) (a b : List TypeInfo) (l : List Reached) → reachEach k m (a ++ b) l ≡ reachEach k m b (reachEach k m a l)
 unfolding reachEach
 each-append k m [] b l = refl
@@ -42,7 +38,7 @@ module _ (p : Parents) (m : TypeMap) (r : Reads p m) (lower : (t : ℕ) → t < 
   -- two places have one name exactly if they are one
   same-at : (t u : ℕ) → t < p .count → u < p .count → sameName (typeAt m t .name) (typeAt m u .name) ≡ eqb t u
   same-at t u h k =
-      let e : placeIn m (typeAt m t .name) ≡ t = eqb-true _ _ (sym (place-same p m r (typeAt m t .name) t h) ∙ same-list-refl (typeAt m t .name)) in
+      let e : placeIn m (typeAt m t .name) ≡ t = eqb-true _ _ (sym (place-same p m r (typeAt m t .name) t h) ∙ numbers-same {l = typeAt m t .name} refl) in
       place-same p m r (typeAt m t .name) u k ∙ ap (λ (n : ℕ). eqb n u) e
 
   -- every place is that of a type

@@ -9,12 +9,12 @@ use native.Mathlib.Numerals.{add-one}
 use borrow.Author.Tests.{eqb-true, eqb-false, eq-eqb, ne-eqb}
 use lib.Dec.{eqb}
 use lib.ListN.{length, getD, take, length-set, length-append}
-use lib.Seq.{getD-set-same, getD-set-other, getD-take}
+use lib.Seq.{getD-set-same, getD-set-other, getD-take, take-take}
 use Rattle.lists.specs.Lists.{In}
 use Rattle.lists.specs.Tests.{by, never, not-so}
 use Rattle.rows.specs.Rows.{hasBit}
 use Rattle.rows.specs.RowLaws.{bit-none}
-use Rattle.ordering.specs.Lists.{tab, tab-step, tab-split, elem}
+use Rattle.ordering.specs.Lists.{tab, tab-step, tab-split, elem, tab-same, map-tab}
 use Rattle.ordering.specs.Reading.{Parent, parentAt, howMany, listed}
 use Rattle.ordering.specs.declared.Parents.{Parents}
 use Rattle.ancestry.specs.Earlier.{all-below}
@@ -23,14 +23,8 @@ use Rattle.visiting.specs.Trails.{Orderly, itemAt, TrailOf}
 use Rattle.visiting.specs.Ranks.{rankOf, rank-below, rank-parent}
 use Rattle.visiting.specs.Good.{Standing, Good, good-most, good-all, good-more, elem-more, walk-seen, walk-new, spots-more, WalksAll, walks-all, walks}
 use Rattle.visiting.specs.Follows.{asReached, trail-is}
-use Rattle.visiting.specs.Holding.{Marked, Pushed, NothingHeld, stopAt, stopsIn, Held, ReachedFrom, tab-same, map-tab, spots-count, spots-taken, held-most, held-none}
+use Rattle.visiting.specs.Holding.{Marked, Pushed, NothingHeld, stopAt, stopsIn, Held, ReachedFrom, spots-count, spots-taken, held-most, held-none}
 use Rattle.visiting.specs.declared.Trail.{Trail}
-
-take-take : (i n : ℕ) (l : List ℕ) → i ≤ n → take i (take n l) ≡ take i l
-take-take zero n l h = refl
-take-take (suc i) zero l h = absurd (omega arith)
-take-take (suc i) (suc n) [] h = refl
-take-take (suc i) (suc n) (x ∷ l) h = ap (λ (k : List ℕ). x ∷ k) (take-take i n l (omega arith))
 
 -- one parent more
 walk-more : (call : ℕ → List Stop → List Stop) (qs : List Parent) (q : Parent) (l : List Stop) (fs : List Bool)

@@ -11,9 +11,11 @@ use lib.ListN.{length, getD, take, length-append, List·getD-append}
 use lib.Seq.{take-append-le, take-append-seam, getD-at}
 use Rattle.lists.specs.Lists.{In}
 use Rattle.lists.specs.Tests.{by, never, not-so, same-test, cons-elim}
-use Rattle.ordering.specs.Lists.{elem, elem-left, elem-right, elem-cases, any-append, map-append, below, below-none, below-one, below-split, below-most, below-all}
+use Rattle.lists.specs.Appending.{any-append, map-append}
+use Rattle.ordering.specs.Lists.{elem, elem-left, elem-right, elem-cases, below, below-none, below-one, below-split, below-most, below-all}
 use Rattle.ordering.specs.Reading.{Parent, listed}
 use Rattle.ordering.specs.declared.Parents.{Parents}
+use Rattle.laws.specs.Visit.{choose}
 use Rattle.visiting.specs.Walk.{Stop, spots, walkAll, walk}
 use Rattle.visiting.specs.Trails.{Orderly}
 use Rattle.visiting.specs.Ranks.{rankOf, rank-parent}
@@ -72,9 +74,6 @@ good-more p l t g s =
     }
 
 -- ---- one step of the walk
-
-choose : {A : Type 0} → Bool → A → A → A
-choose b c d = elim b [ true ↦ c | false ↦ d ]
 
 walk-step : (k : ℕ) (p : Parents) (t : ℕ) (l : List Stop)
     → walk (suc k) p t l

@@ -1,8 +1,8 @@
 -- The trail that the code holds, and what each of its functions does to it.
 use mathlib.Core.Bool.{Bool, true, false, _&&_, _||_, not, or-false, and-true, and-false}
-use mathlib.Core.List.{List, [], _∷_, _++_, map}
-use mathlib.Core.Path.{_≡_, refl, sym, ap, ap₂, _∙_, subst}
-use Prim.Native.Nat.{ℕ, zero, suc, _+_, _*_, _%_, _^_, _≤_, _<_}
+use mathlib.Core.List.{List, []}
+use mathlib.Core.Path.{_≡_, sym, ap, _∙_, subst}
+use Prim.Native.Nat.{ℕ, _+_, _*_, _%_, _^_, _≤_, _<_}
 use native.Mathlib.Omega.{arith}
 use lib.Bits.{bitOr}
 use lib.Dec.{eqb}
@@ -10,7 +10,7 @@ use lib.ListN.{length, getD, take, set}
 use lib.Seq.{ext-getD, getD-take, length-take-le}
 use Rattle.rows.specs.Rows.{hasBit}
 use Rattle.rows.specs.RowLaws.{bit-none, bit-one, bit-either, one-shifted}
-use Rattle.ordering.specs.Lists.{tab, tab-length, tab-at, elem}
+use Rattle.ordering.specs.Lists.{tab, tab-length, tab-at, elem, map-tab}
 use Rattle.ordering.specs.declared.Parents.{Parents}
 use Rattle.visiting.specs.Walk.{Stop, spots, walk}
 use Rattle.visiting.specs.Trails.{itemAt, freshAt}
@@ -77,14 +77,6 @@ pub record ReachedFrom (p : Parents) (t : ℕ) (s r : Trail) : Type 0 where
   pub same : (k : ℕ) → rankOf p t < k → stopsIn p r ≡ walk k p t (stopsIn p s)
 
 -- ---- lists by place
-
-pub tab-same : {A : Type 0} (f g : ℕ → A) (n : ℕ) → ((i : ℕ) → i < n → f i ≡ g i) → tab f n ≡ tab g n
-tab-same f g zero h = refl
-tab-same {A} f g (suc n) h = ap₂ (λ (a : List A) (x : A). a ++ (x ∷ [])) (tab-same f g n (λ i l. h i (omega arith))) (h n (omega arith))
-
-pub map-tab : {A B : Type 0} (g : A → B) (f : ℕ → A) (n : ℕ) → map g (tab f n) ≡ tab (λ i. g (f i)) n
-map-tab g f zero = refl
-map-tab {A} {B} g f (suc n) = Rattle.ordering.specs.Lists.map-append g (tab f n) (f n ∷ []) ∙ ap (λ (l : List B). l ++ (g (f n) ∷ [])) (map-tab g f n)
 
 tab-take : (l : List ℕ) (n : ℕ) → n ≤ length l → tab (λ i. getD l i 0) n ≡ take n l
 tab-take l n h =

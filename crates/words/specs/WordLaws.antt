@@ -3,7 +3,7 @@ use mathlib.Core.List.{List, [], _∷_, _++_}
 use mathlib.Core.Path.{_≡_}
 use Prim.Native.Nat.{ℕ, _+_, _<_}
 use lib.ListN.{length, set}
-use Rattle.fields.specs.Tabulate.{places-set, length-places}
+use Rattle.lists.specs.Tabulating.{places-set, length-places}
 use Rattle.words.specs.Words.{wordOf, zeroWord, ofWords}
 use Rattle.words.specs.declared.Word.{Word}
 use Rattle.words.specs.declared.Words.{Words}

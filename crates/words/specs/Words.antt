@@ -3,8 +3,8 @@ use mathlib.Core.Bool.{Bool, cond}
 use mathlib.Core.List.{List, []}
 use Prim.Native.Nat.{ℕ}
 use lib.ListN.{drop}
+use Rattle.lists.specs.Tabulating.{places}
 use Rattle.definitions.specs.Parse.{Parsed, done, refused}
-use Rattle.fields.specs.Tabulate.{places}
 use Rattle.words.specs.declared.Word.{Word}
 use Rattle.words.specs.declared.WordRead.{WordRead}
 use Rattle.words.specs.declared.Words.{Words}

@@ -1,12 +1,12 @@
 use mathlib.Core.Path.{refl, ap, _∙_}
 use mathlib.Core.List.{List}
 use Prim.Native.Nat.{ℕ}
-use Rattle.decoding.specs.CodeLaws.{not-false}
 use Rattle.access.specs.ScheduleLaws.{starts-valid, no-order, held, tested, accepted}
 use Rattle.definitions.specs.Map.{typeMapOf}
 use Rattle.definitions.specs.Answer.{schedule}
 use Rattle.access.specs.Ending.{ended}
 use borrow.Author.Needs.{needs}
+use borrow.Author.Tests.{not-false}
 use Rattle.access.proofs.end_schedule.Statement.{statement}
 use Rattle.access.proofs.end_schedule.Tie as tie
 

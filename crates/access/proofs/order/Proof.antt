@@ -1,8 +1,8 @@
 use mathlib.Core.Path.{refl}
 use Rattle.definitions.specs.Answer.{order}
-use Rattle.decoding.specs.CodeLaws.{not-true, not-false}
 use Rattle.access.specs.TestLaws.{asked, is-valid, due}
 use borrow.Author.Needs.{needs}
+use borrow.Author.Tests.{not-true, not-false}
 use Rattle.access.proofs.order.Statement.{statement}
 use Rattle.access.proofs.order.Tie as tie
 use Rattle.access.proofs.order.Reads as reads

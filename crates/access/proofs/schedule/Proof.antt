@@ -1,9 +1,9 @@
 use mathlib.Core.Path.{refl}
 use Rattle.definitions.specs.Answer.{schedule}
-use Rattle.decoding.specs.CodeLaws.{not-true, not-false}
 use Rattle.access.specs.LineLaws.{due-lists}
 use Rattle.access.specs.TestLaws.{asked, starts, due-schedule}
 use borrow.Author.Needs.{needs}
+use borrow.Author.Tests.{not-true, not-false}
 use Rattle.access.proofs.schedule.Statement.{statement}
 use Rattle.access.proofs.schedule.Tie as tie
 use Rattle.access.proofs.schedule.Reads as reads

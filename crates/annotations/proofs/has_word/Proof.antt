@@ -5,7 +5,7 @@ use native.Mathlib.Omega.{arith}
 use borrow.Author.Needs.{needs}
 use borrow.Author.Tests.{ne-eqb}
 use lib.ListN.{length, take}
-use Rattle.rows.specs.Lists.{length-mapped}
+use Rattle.lists.specs.Tabulating.{length-mapped}
 use Rattle.annotations.specs.Reading.{resourcesIn}
 use Rattle.annotations.specs.Laws.{member, member-step, member-at, has-member}
 use Rattle.annotations.proofs.has_word.Statement.{statement}

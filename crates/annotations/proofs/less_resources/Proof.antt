@@ -5,7 +5,7 @@ use native.Mathlib.Omega.{arith}
 use borrow.Author.Needs.{needs}
 use borrow.Author.Tests.{not-true, not-false}
 use lib.ListN.{length, getD, length-set}
-use Rattle.rows.specs.Lists.{length-mapped}
+use Rattle.lists.specs.Tabulating.{length-mapped}
 use Rattle.rows.specs.Rows.{empty}
 use Rattle.annotations.specs.Reading.{resourcesIn}
 use Rattle.definitions.specs.Annotations.{less}

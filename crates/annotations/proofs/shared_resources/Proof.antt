@@ -4,7 +4,7 @@ use Prim.Native.Nat.{_-_, _≤_, _<_}
 use native.Mathlib.Omega.{arith}
 use borrow.Author.Needs.{needs}
 use lib.ListN.{length, getD, length-set}
-use Rattle.rows.specs.Lists.{length-mapped}
+use Rattle.lists.specs.Tabulating.{length-mapped}
 use Rattle.annotations.specs.Reading.{resourcesIn}
 use Rattle.definitions.specs.Annotations.{shared}
 use Rattle.annotations.specs.Laws.{upto, upto-length, shared-kept, shared-dropped}

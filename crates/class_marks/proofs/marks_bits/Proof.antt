@@ -3,13 +3,13 @@ use Prim.Native.Nat.{_*_, _-_, _≤_}
 use native.Mathlib.Omega.{arith}
 use lib.ListN.{length}
 use Rattle.lists.specs.Lists.{each}
+use Rattle.lists.specs.Tabulating.{tabulate, each-start}
 use Rattle.definitions.specs.Records.{Mark}
 use Rattle.definitions.specs.Packing.{markBits}
-use Rattle.fields.specs.Tabulate.{tabulate}
 use Rattle.records.specs.Marks.{ofMarks}
 use Rattle.facts.specs.Facts.{marksIn}
 use Rattle.facts.specs.FactLaws.{marks-count}
-use Rattle.packing.specs.PackingLaws.{each-none, more-long}
+use Rattle.packing.specs.PackingLaws.{more-long}
 use Rattle.class_marks.specs.ClassLaws.{markIn, mark-in}
 use borrow.Author.Needs.{needs}
 use Rattle.class_marks.proofs.marks_bits.Statement.{statement}
@@ -45,7 +45,7 @@ loop-holds : tie.Need-loop-holds Inv-loop μ-loop
 loop-holds c =
     let s = c .before in
     let n = marks-count (s .args .f .now) (s .args .p) in
-    (omega arith, omega (arith, n, s .pre .1), sym n, refl, omega arith, sym (ap length (each-none markBits (markIn (s .args .f .now) (s .args .p)))))
+    (omega arith, omega (arith, n, s .pre .1), sym n, refl, omega arith, sym (ap length (each-start markBits (markIn (s .args .f .now) (s .args .p)))))
 
 -- src/lib.rt:40:23
 add-t13 : tie.Need-add-t13 Inv-loop μ-loop

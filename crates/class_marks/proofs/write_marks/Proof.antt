@@ -2,14 +2,14 @@ use mathlib.Core.Path.{_≡_, refl, sym}
 use Prim.Native.Nat.{_*_, _-_, _≤_}
 use native.Mathlib.Omega.{arith}
 use Rattle.lists.specs.Lists.{each}
+use Rattle.lists.specs.Tabulating.{tabulate, each-start, each-next}
 use Rattle.definitions.specs.Packing.{markBits}
 use Rattle.bits.specs.Writing.{Wrote}
 use Rattle.bits.specs.WriteLaws.{wrote-none, wrote-then}
-use Rattle.fields.specs.Tabulate.{tabulate}
 use Rattle.records.specs.Marks.{ofMarks}
 use Rattle.facts.specs.Facts.{marksIn}
 use Rattle.facts.specs.FactLaws.{marks-count}
-use Rattle.packing.specs.PackingLaws.{each-none, each-more, room-next, wrote-long}
+use Rattle.packing.specs.PackingLaws.{room-next, wrote-long}
 use Rattle.class_marks.specs.ClassLaws.{markIn, mark-in}
 use borrow.Author.Needs.{needs}
 use Rattle.class_marks.proofs.write_marks.Statement.{statement}
@@ -45,7 +45,7 @@ loop-holds : tie.Need-loop-holds Inv-loop μ-loop
 loop-holds c =
     let s = c .before .before in
     let n = marks-count (s .args .f .now) (s .args .p) in
-    (omega arith, omega (arith, n, s .pre .0), sym n, refl, rw (each-none markBits (markIn (s .args .f .now) (s .args .p))) (wrote-none _ _))
+    (omega arith, omega (arith, n, s .pre .0), sym n, refl, rw (each-start markBits (markIn (s .args .f .now) (s .args .p))) (wrote-none _ _))
 
 -- src/lib.rt:105:23
 add-t15 : tie.Need-add-t15 Inv-loop μ-loop
@@ -99,7 +99,7 @@ loop-again c =
       l .inv .1,
       l .inv .2,
       l .inv .3,
-      rw (each-more markBits (markIn (a .f .now) (a .p)) (l .j))
+      rw (each-next markBits (markIn (a .f .now) (a .p)) (l .j))
           (wrote-then (l .inv .4) (rw (mark-in (a .f .now) (a .p) (l .j) (omega (arith, l .inv))) at (c .before .before .write-mark .ensures))),
     )
 

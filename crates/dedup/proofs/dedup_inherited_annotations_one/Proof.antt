@@ -2,7 +2,7 @@ use mathlib.Core.Path.{_≡_, sym, _∙_}
 use native.Mathlib.Omega.{arith}
 use borrow.Author.Needs.{needs}
 use lib.ListN.{length}
-use Rattle.rows.specs.Lists.{length-mapped}
+use Rattle.lists.specs.Tabulating.{length-mapped}
 use Rattle.dedup.specs.JoinLaws.{joins-by, join-none, join-merged}
 use Rattle.dedup.proofs.dedup_inherited_annotations_one.Statement.{statement}
 use Rattle.dedup.proofs.dedup_inherited_annotations_one.Tie as tie

@@ -5,9 +5,9 @@ use native.Mathlib.Omega.{arith}
 use borrow.Author.Needs.{needs}
 use lib.ListN.{length, take, drop, set}
 use lib.Seq.{length-take-le}
+use Rattle.lists.specs.Tabulating.{length-mapped}
 use Rattle.dedup.specs.Entries.{inter, unlessEmpty, merge, entriesOf}
 use Rattle.dedup.specs.declared.Entry.{Entry}
-use Rattle.rows.specs.Lists.{length-mapped}
 use Rattle.dedup.specs.EntryLaws.{merge-length}
 use Rattle.dedup.specs.MergeLaws.{Left, Round, round, Passed, passed, stands-one, last}
 use Rattle.dedup.proofs.merged.Statement.{statement}

@@ -1,8 +1,8 @@
 use mathlib.Core.Path.{refl}
 use native.Mathlib.Omega.{arith}
 use borrow.Author.Tests.{eqb-true}
-use Rattle.rows.specs.Lists.{never}
-use Rattle.dedup.specs.EntryLaws.{rows-equal}
+use Rattle.lists.specs.Tests.{never}
+use Rattle.rows.specs.RowLaws.{rows-equal}
 use Rattle.dedup.proofs.same_words.Statement.{statement}
 use Rattle.dedup.proofs.same_words.Tie as tie
 

@@ -2,7 +2,7 @@ use mathlib.Core.Path.{_≡_, _∙_}
 use Prim.Native.Nat.{_-_, _≤_}
 use native.Mathlib.Omega.{arith}
 use lib.ListN.{length, length-set}
-use Rattle.rows.specs.Lists.{length-mapped}
+use Rattle.lists.specs.Tabulating.{length-mapped}
 use Rattle.dedup.specs.JoinLaws.{Upto, upto-step}
 use Rattle.dedup.proofs.united.Statement.{statement}
 use Rattle.dedup.proofs.united.Tie as tie

@@ -11,7 +11,7 @@ use Rattle.lists.specs.Lists.{each, placeOf}
 use Rattle.ordering.specs.Lists.{tab, each-tab-step}
 use Rattle.ordering.specs.Reading.{Parent, parentAt, howMany, listed, placesOf}
 use Rattle.diagnosis.specs.Rows.{rows, off, bad}
-use Rattle.diagnosis.specs.Emit.{State, emit, emit-append, emit-full, emit-most}
+use Rattle.diagnosis.specs.Emit.{emit}
 use Rattle.diagnosis.specs.Walk.{At, fewer, rows-bad, rows-on, pass, onward}
 use Prim.Native.Nat.{ℕ, _+_, _-_, _*_, _≤_, _<_}
 use borrow.Fn.Kinds.{In}
@@ -23,6 +23,8 @@ use Rattle.diagnosis.proofs.bad_kind.Reads as bad-kind-reads
 use Rattle.diagnosis.proofs.first_bad.Reads as first-bad-reads
 use Rattle.diagnosis.proofs.put_parent_row.Reads as put-parent-row-reads
 use Rattle.ordering.proofs.has.Reads as has-reads
+use Rattle.emitting.specs.Emitting.{State, emit-append, emit-full, emit-most}
+use Rattle.emitting.specs.Emitting as emitting
 use Rattle.diagnosis.proofs.+find_cycles_or_bad_types.{statement}
 use Rattle.diagnosis.proofs.+find_cycles_or_bad_types.Tie.{close}
 
@@ -88,7 +90,7 @@ next-at t c =
 returns : (t : ℕ) → lts.Need-returns (claims t) (at t) own.Post Inv-loop μ-loop
 returns t c =
     let e : c .before .before .args .n ≡ c .before .before .args .limit + 1 = omega arith in
-    rw e (sym (emit-full _ _ _))
+    rw e (sym (emit-full _ _ _ _))
 
 element-copy-out-count : (t : ℕ) → lts.Need-element-copy-out-count (claims t) (at t) own.Post Inv-loop μ-loop
 element-copy-out-count t c =
@@ -133,7 +135,7 @@ same-length : (t : ℕ) → lts.Need-same-length (claims t) (at t) own.Post Inv-
 same-length t c = search needs
 
 returns-2 : (t : ℕ) → lts.Need-returns-2 (claims t) (at t) own.Post Inv-loop μ-loop
-unfolding emit
+unfolding emitting.emit
 returns-2 t c =
     let f = c .before .before .before .before .before .before in
     let s = start t f in
@@ -144,7 +146,7 @@ returns-2 t c =
     (c .before .before .put-parent-row .ensures)
 
 loop-holds : (t : ℕ) → lts.Need-loop-holds (claims t) (at t) own.Post Inv-loop μ-loop
-unfolding emit
+unfolding emitting.emit
 loop-holds t c = (omega arith, refl, refl)
 
 add-place : (t : ℕ) → lts.Need-add-place (claims t) (at t) own.Post Inv-loop μ-loop
@@ -170,7 +172,7 @@ find-cycles-or-bad-types-requires t c κs =
     let s = start t (c .before .before .before .before .before .before .before .before) in
     let l = c .before .before .before .before .before .loop in
     let f = fewer (s .args .t1) (s .args .out) (s .args .t) (s .args .path) (s .pre .1 .0) (path-64 t s) in
-    (omega (arith, s .pre .0), (next-at t (c .before), (omega (arith, s .pre .1 .1 .0), rw (ap (λ (z : State). z .1) (l .inv .2)) (emit-most _ _ _ (s .pre .1 .1 .1)))))
+    (omega (arith, s .pre .0), (next-at t (c .before), (omega (arith, s .pre .1 .1 .0), rw (ap (λ (z : State). z .1) (l .inv .2)) (emit-most _ _ _ _ (s .pre .1 .1 .1)))))
 
 add-i : (t : ℕ) → lts.Need-add-i (claims t) (at t) own.Post Inv-loop μ-loop
 add-i t c =

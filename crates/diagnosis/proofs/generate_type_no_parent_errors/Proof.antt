@@ -7,7 +7,9 @@ use borrow.Author.Needs.{needs}
 use borrow.Author.Tests.{not-true, not-false}
 use lib.ListN.{length}
 use Rattle.ordering.specs.Reading.{placesOf}
-use Rattle.diagnosis.specs.Emit.{State, emit, emit-append, emit-most}
+use Rattle.emitting.specs.Emitting.{State, emit-append, emit-most}
+use Rattle.emitting.specs.Emitting as emitting
+use Rattle.diagnosis.specs.Emit.{emit}
 use Rattle.diagnosis.specs.Walk.{before, before-yes, before-no, before-all, at-start}
 use Rattle.diagnosis.proofs.generate_type_no_parent_errors.Statement.{statement}
 use Rattle.diagnosis.proofs.generate_type_no_parent_errors.Tie as tie
@@ -25,7 +27,7 @@ no-path-requires : tie.Need-no-path-requires Inv-loop μ-loop
 no-path-requires c κs = tt
 
 loop-holds : tie.Need-loop-holds Inv-loop μ-loop
-unfolding emit before
+unfolding emitting.emit before
 loop-holds c = (omega arith, refl, refl)
 
 cast-b : tie.Need-cast-b Inv-loop μ-loop
@@ -41,7 +43,7 @@ find-cycles-or-bad-types-requires c κs =
     let l = c .before .before .before .before .loop in (
       rw (c .before .before .before .before .before .no-path .ensures)
           (at-start (s .args .p) (s .args .out) (s .pre .0) (l .t) (omega arith) (sym (c .before .before .has .ensures) ∙ not-true _ (c .before .if1 .taken))),
-      (omega arith, rw (ap (λ (z : State). z .1) (l .inv .2)) (emit-most _ _ _ (omega arith))),
+      (omega arith, rw (ap (λ (z : State). z .1) (l .inv .2)) (emit-most _ _ _ _ (omega arith))),
     )
 
 add-t : tie.Need-add-t Inv-loop μ-loop

@@ -7,8 +7,10 @@ use borrow.Author.Needs.{needs}
 use lib.ListN.{length}
 use Rattle.ordering.specs.Lists.{tab}
 use Rattle.ordering.specs.Reading.{parentAt, howMany, listed}
+use Rattle.emitting.specs.Emitting.{emit-append}
+use Rattle.emitting.specs.Emitting as emitting
 use Rattle.diagnosis.specs.Rows.{selfRowsOf}
-use Rattle.diagnosis.specs.Emit.{emit, emit-append}
+use Rattle.diagnosis.specs.Emit.{emit}
 use Rattle.diagnosis.specs.Walk.{self-yes, self-no}
 use Rattle.diagnosis.proofs.put_self_rows.Statement.{statement}
 use Rattle.diagnosis.proofs.put_self_rows.Tie as tie
@@ -32,7 +34,7 @@ mul-base : tie.Need-mul-base Inv-loop μ-loop
 mul-base c = search needs
 
 loop-holds : tie.Need-loop-holds Inv-loop μ-loop
-unfolding emit
+unfolding emitting.emit
 loop-holds c = (omega arith, refl, refl)
 
 add-at : tie.Need-add-at Inv-loop μ-loop
@@ -68,7 +70,7 @@ loop-less : tie.Need-loop-less Inv-loop μ-loop
 loop-less c = omega arith
 
 loop-again : tie.Need-loop-again Inv-loop μ-loop
-unfolding emit
+unfolding emitting.emit
 loop-again c =
     let s = c .before .before .before .before .before .before .before .before in
     let l = c .before .before .before .before .before .loop in

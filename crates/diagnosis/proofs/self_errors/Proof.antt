@@ -4,7 +4,9 @@ use Prim.Native.Nat.{_-_, _≤_}
 use native.Mathlib.Omega.{arith}
 use borrow.Author.Needs.{needs}
 use lib.ListN.{length}
-use Rattle.diagnosis.specs.Emit.{emit, emit-append}
+use Rattle.emitting.specs.Emitting.{emit-append}
+use Rattle.emitting.specs.Emitting as emitting
+use Rattle.diagnosis.specs.Emit.{emit}
 use Rattle.diagnosis.specs.Walk.{selfBefore, self-step, self-all}
 use Rattle.diagnosis.proofs.self_errors.Statement.{statement}
 use Rattle.diagnosis.proofs.self_errors.Tie as tie
@@ -19,7 +21,7 @@ abbrev μ-loop : tie.MeasureT-loop
 μ-loop p buf₀ limit types total₀ t₀ buf total t = types - t
 
 loop-holds : tie.Need-loop-holds Inv-loop μ-loop
-unfolding emit selfBefore
+unfolding emitting.emit selfBefore
 loop-holds c = (omega arith, refl, refl)
 
 put-self-rows-requires : tie.Need-put-self-rows-requires Inv-loop μ-loop

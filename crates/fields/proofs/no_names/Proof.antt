@@ -1,6 +1,6 @@
 use mathlib.Core.Path.{refl}
+use Rattle.lists.specs.Tabulating.{tabulate}
 use Rattle.fields.specs.Fields.{ofNames}
-use Rattle.fields.specs.Tabulate.{tabulate}
 use Rattle.fields.proofs.no_names.Statement.{statement}
 use Rattle.fields.proofs.no_names.Tie as tie
 

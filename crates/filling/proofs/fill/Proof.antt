@@ -3,11 +3,12 @@ use mathlib.Core.List.{List}
 use Prim.Native.Nat.{ℕ, _*_, _≤_, _-_}
 use native.Mathlib.Omega.{arith}
 use Rattle.lists.specs.Lists.{each}
-use Rattle.fields.specs.Tabulate.{tabulate, tabulate-more}
+use Rattle.lists.specs.Tabulating.{tabulate, tabulate-more}
+use Rattle.lists.specs.Appending.{each-snoc}
 use Rattle.records.specs.Annotations.{annotationOf}
 use Rattle.records.specs.declared.Annotation.{Annotation}
 use Rattle.giving.specs.Giving.{resourcesIf}
-use Rattle.giving.specs.GivingLaws.{itemAt, firstOnes, at-most, item-within, each-more}
+use Rattle.giving.specs.GivingLaws.{itemAt, firstOnes, annotations-few, item-within}
 use Rattle.filling.specs.Filling.{Adds}
 use Rattle.filling.specs.FillingLaws.{adds-none, adds-more, fills-all}
 use Rattle.filling.proofs.fill.Statement.{statement}
@@ -30,10 +31,10 @@ loop-holds : tie.Need-loop-holds Inv-loop μ-loop
 loop-holds c = (omega arith, none (c .before .before .before .args .s .now) (804 * c .before .before .before .args .a) (c .before .before .before .args .t .annotations .items))
 
 mul-x : tie.Need-mul-x Inv-loop μ-loop
-mul-x c = let s = c .before .before .before .before .before in omega (arith, at-most (s .args .t) (s .pre .0))
+mul-x c = let s = c .before .before .before .before .before in omega (arith, annotations-few (s .args .t) (s .pre .0))
 
 array-copy-out-x : tie.Need-array-copy-out-x Inv-loop μ-loop
-array-copy-out-x c = let s = c .before .before .before .before .before in omega (arith, at-most (s .args .t) (s .pre .0))
+array-copy-out-x c = let s = c .before .before .before .before .before in omega (arith, annotations-few (s .args .t) (s .pre .0))
 
 put-annotation-requires : tie.Need-put-annotation-requires Inv-loop μ-loop
 put-annotation-requires c κs =
@@ -43,7 +44,7 @@ put-annotation-requires c κs =
     (item-within (s .args .t) (s .pre .0) (i .i) (omega arith), (omega (arith, s .pre .1 .1 .0, l), omega (arith, s .pre .1 .1 .1, l)))
 
 add-i : tie.Need-add-i Inv-loop μ-loop
-add-i c = let s = c .before .before .before .before .before .before .before .before .before .before in omega (arith, at-most (s .args .t) (s .pre .0))
+add-i c = let s = c .before .before .before .before .before .before .before .before .before .before in omega (arith, annotations-few (s .args .t) (s .pre .0))
 
 loop-less : tie.Need-loop-less Inv-loop μ-loop
 loop-less c = omega arith
@@ -55,7 +56,7 @@ loop-again c =
     let l = a .t .annotations .items in
     let p = c .before .before .put-annotation in (
       omega arith,
-      rw (tabulate-more (λ (j : ℕ). annotationOf (itemAt l j)) (i .i), each-more (resourcesIf true) (firstOnes l (i .i)) (annotationOf (itemAt l (i .i))))
+      rw (tabulate-more (λ (j : ℕ). annotationOf (itemAt l j)) (i .i), each-snoc (resourcesIf true) (firstOnes l (i .i)) (annotationOf (itemAt l (i .i))))
           (adds-more (a .s .now) (i .s) (p .last .0) (804 * a .a) (each (resourcesIf true) (firstOnes l (i .i))) (resourcesIf true (annotationOf (itemAt l (i .i)))) (i .inv .1) (p .ensures)),
     )
 

@@ -1,10 +1,10 @@
 use mathlib.Core.Bool.{true}
 use mathlib.Core.List.{List, [], _∷_}
 use mathlib.Core.Path.{_≡_, sym}
-use Rattle.fields.specs.Tabulate.{tabulate, tabulate-more}
 use Rattle.records.specs.declared.Annotation.{Annotation}
 use Prim.Native.Nat.{ℕ, _≤_, _-_}
 use native.Mathlib.Omega.{arith}
+use Rattle.lists.specs.Tabulating.{tabulate, tabulate-more}
 use Rattle.giving.specs.Giving.{listedAt, listedTo, ofArrays}
 use Rattle.giving.specs.GivingLaws.{few, listed-below}
 use Rattle.filling.specs.Filling.{Adds}

@@ -4,7 +4,7 @@ use Prim.Native.Nat.{_≤_, _<_, _-_}
 use native.Mathlib.Omega.{arith}
 use borrow.Author.Needs.{needs}
 use lib.ListN.{length}
-use Rattle.rows.specs.Lists.{length-mapped}
+use Rattle.lists.specs.Tabulating.{length-mapped}
 use Rattle.handing.specs.Handing.{TakesIf, placeAt}
 use Rattle.handing.specs.Steps.{place-low, Gathering, gathering-none, gathering-more, gathering-all, hands-from}
 use Rattle.handing.proofs.gather.Statement.{statement}

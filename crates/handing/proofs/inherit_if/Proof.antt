@@ -1,6 +1,6 @@
 use mathlib.Core.Path.{refl, ap, _∙_}
 use native.Mathlib.Omega.{arith}
-use Rattle.rows.specs.Lists.{never}
+use Rattle.lists.specs.Tests.{never}
 use Rattle.types.specs.declared.TypeInfo.{TypeInfo}
 use Rattle.handing.specs.Steps.{takes-nothing}
 use Rattle.handing.proofs.inherit_if.Statement.{statement}

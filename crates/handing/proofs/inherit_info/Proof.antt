@@ -3,7 +3,7 @@ use Prim.Native.Nat.{ℕ}
 use native.Mathlib.Omega.{arith}
 use borrow.Author.Needs.{needs}
 use lib.ListN.{length}
-use Rattle.rows.specs.Lists.{length-mapped}
+use Rattle.lists.specs.Tabulating.{length-mapped}
 use Rattle.rows.specs.RowLaws.{one-shifted}
 use Rattle.types.specs.declared.TypeInfo.{TypeInfo}
 use Rattle.own_associates.specs.Owning.{AllFit, OwnOf}

@@ -7,8 +7,8 @@ use borrow.Author.Tests.{not-true, not-false}
 use lib.ListN.{getD}
 use Rattle.lists.specs.Lists.{sameList}
 use Rattle.lists.specs.Tests.{and-both}
+use Rattle.lists.specs.Tabulating.{tabulate}
 use Rattle.definitions.specs.Making.{sameMark}
-use Rattle.fields.specs.Tabulate.{tabulate}
 use Rattle.making.specs.Making.{markAs, markAt, marksOf}
 use Rattle.identical.specs.Identical.{same-none, same-more, places-differ, counts-differ}
 use Rattle.identical.proofs.same_marks.Statement.{statement}

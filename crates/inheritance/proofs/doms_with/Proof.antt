@@ -3,7 +3,7 @@ use Prim.Native.Nat.{_-_, _≤_, _<_}
 use native.Mathlib.Omega.{arith}
 use borrow.Author.Needs.{needs}
 use lib.ListN.{length, getD, length-set}
-use Rattle.rows.specs.Lists.{length-mapped}
+use Rattle.lists.specs.Tabulating.{length-mapped}
 use Rattle.inheritance.specs.OwnLaws.{WithFirst, first-step}
 use Rattle.inheritance.proofs.doms_with.Statement.{statement}
 use Rattle.inheritance.proofs.doms_with.Tie as tie

@@ -6,7 +6,7 @@ use Prim.Native.Nat.{_-_, _≤_, _<_}
 use native.Mathlib.Omega.{arith}
 use lib.ListN.{length, take, getD}
 use Rattle.lists.specs.Lists.{ascends}
-use Rattle.rows.specs.Lists.{length-mapped}
+use Rattle.lists.specs.Tabulating.{length-mapped}
 use Rattle.definitions.specs.Records.{Name}
 use Rattle.definitions.specs.Orders.{nameBefore}
 use Rattle.definitions.specs.Inherited.{dedupOne, dedupOnto}

@@ -3,7 +3,7 @@ use mathlib.Core.Path.{sym, _∙_}
 use Prim.Native.Nat.{_-_, _≤_, _<_}
 use native.Mathlib.Omega.{arith}
 use borrow.Author.Needs.{needs}
-use Rattle.rows.specs.Lists.{and-left}
+use Rattle.lists.specs.Tests.{and-left}
 use Rattle.associates.specs.Step.{reached}
 use Rattle.interpreting.specs.EntryLaws.{Onward, onward-start, onward-skipped, onward-taken, onward-room, onward-end}
 use Rattle.interpreting.proofs.interpret_entry.Statement.{statement}

@@ -2,7 +2,7 @@ use mathlib.Core.Path.{_≡_, refl, ap, _∙_}
 use Prim.Native.Nat.{ℕ, _-_, _≤_, _<_}
 use native.Mathlib.Omega.{arith}
 use lib.ListN.{length, take, getD}
-use Rattle.rows.specs.Lists.{length-mapped}
+use Rattle.lists.specs.Tabulating.{length-mapped}
 use Rattle.dedup.specs.EntryLaws.{zeros}
 use Rattle.dedup.specs.Reading.{tableOf, read, readAll}
 use Rattle.interpreting.specs.Annotations.{typeReached, typeNames, Added}

@@ -3,7 +3,7 @@ use native.Mathlib.Omega.{arith}
 use Rattle.inheritance.specs.Own.{DomsWith}
 use Rattle.interpreting.specs.Annotations.{typeReached, asOwn}
 use Rattle.interpreting.specs.AnnotationsLaws.{added-none, added-as}
-use Rattle.interpreting.specs.OwnLaws.{no-parents, own-resources, own-fits, own-size, plain-one, plain-none}
+use Rattle.interpreting.specs.OwnLaws.{own-resources, own-fits, own-size, plain-one, plain-none}
 use borrow.Author.Needs.{needs}
 use Rattle.interpreting.proofs.interpret_own.Statement.{statement}
 use Rattle.interpreting.proofs.interpret_own.Tie as tie
@@ -11,6 +11,7 @@ use Rattle.interpreting.proofs.interpret_own.Reads as reads
 use Rattle.interpreting.proofs.interpret_own.Lts as lts
 use Rattle.inheritance.proofs.doms_with.Reads as doms-with-reads
 use Rattle.inheritance.proofs.words_of.Reads as words-of-reads
+use Rattle.synthetic.specs.MadeLaws.{names-none}
 use Rattle.interpreting.proofs.no_doms.Reads as no-doms-reads
 use Rattle.interpreting.proofs.with_entry.Reads as with-entry-reads
 
@@ -66,7 +67,7 @@ returns-2 c =
     let E = c .before .before .before .before .before .doms-with in
     let d = subst (λ D. DomsWith D (a .a) (E .result)) (c .before .before .before .before .before .before .no-doms .ensures) (E .ensures) in
     added-as (a .t) (a .place) (a .limit) _ _ _ 15 (typeReached (a .s) (a .made .now)) (a .buf .now) _ _ (plain-one (a .a) k) (own-size (a .a) (w .result) (E .result) (s .pre .1 .0 .own) (w .ensures) d)
-    (c .before .before .with-entry .ensures .added (asOwn (a .a)) (own-resources (a .a) (w .result) (E .result) (s .pre .1 .0 .own) (w .ensures) d k) (sym (no-parents (a .t))))
+    (c .before .before .with-entry .ensures .added (asOwn (a .a)) (own-resources (a .a) (w .result) (E .result) (s .pre .1 .0 .own) (w .ensures) d k) (sym (names-none (a .t))))
 
 pub interpret-own-spec : {M : Type 1} → statement M
 interpret-own-spec =

@@ -2,7 +2,7 @@ use mathlib.Core.Path.{_≡_, refl, ap, _∙_}
 use Prim.Native.Nat.{ℕ, _-_, _*_, _≤_, _<_}
 use native.Mathlib.Omega.{arith}
 use lib.ListN.{length, take}
-use Rattle.rows.specs.Lists.{length-mapped}
+use Rattle.lists.specs.Tabulating.{length-mapped}
 use Rattle.interpreting.specs.Annotations.{typeReached, plainOf, Added}
 use Rattle.interpreting.specs.AnnotationsLaws.{added-none, added-then, added-as}
 use Rattle.interpreting.specs.OwnLaws.{plain-step}

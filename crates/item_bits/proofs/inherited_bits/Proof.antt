@@ -1,5 +1,6 @@
 use Rattle.facts.specs.Facts.{tableIn}
-use Rattle.item_bits.specs.ItemBitsLaws.{counts-none, counts-one, not-true, not-false}
+use borrow.Author.Tests.{not-true, not-false}
+use Rattle.item_bits.specs.ItemBitsLaws.{counts-none, counts-one}
 use Rattle.item_bits.proofs.inherited_bits.Statement.{statement}
 use Rattle.item_bits.proofs.inherited_bits.Tie as tie
 use Rattle.item_bits.proofs.inherited_bits.Reads as reads

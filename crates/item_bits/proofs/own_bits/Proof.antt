@@ -6,13 +6,13 @@ use lib.ListN.{length}
 use Rattle.facts.specs.Facts.{tableIn}
 use Rattle.definitions.specs.Records.{Item}
 use Rattle.lists.specs.Lists.{each}
+use Rattle.lists.specs.Tabulating.{tabulate, each-start}
 use Rattle.definitions.specs.Packing.{itemBits}
-use Rattle.fields.specs.Tabulate.{tabulate}
 use Rattle.synthetic.specs.Made.{created}
 use Rattle.rows.specs.declared.Row.{Row}
 use borrow.Author.Needs.{length-unmapped, needs}
 use Rattle.item_bits.specs.Counts.{ownAt}
-use Rattle.packing.specs.PackingLaws.{each-none, more-long}
+use Rattle.packing.specs.PackingLaws.{more-long}
 use Rattle.item_bits.specs.ItemBitsLaws.{own-all, own-count}
 use Rattle.item_bits.proofs.own_bits.Statement.{statement}
 use Rattle.item_bits.proofs.own_bits.Tie as tie
@@ -31,7 +31,7 @@ abbrev μ-loop : tie.MeasureT-loop
 loop-holds : tie.Need-loop-holds Inv-loop μ-loop
 loop-holds c =
     let a = c .before .args in
-    omega (arith, ap length (each-none itemBits (ownAt (tableIn (a .f .now)) (a .place) (a .word) (a .x))))
+    omega (arith, ap length (each-start itemBits (ownAt (tableIn (a .f .now)) (a .place) (a .word) (a .x))))
 
 -- src/lib.rt:114:32
 array-read-alone : tie.Need-array-read-alone Inv-loop μ-loop

@@ -1,7 +1,8 @@
 use Rattle.facts.specs.Facts.{tableIn}
 use Rattle.bits.specs.WriteLaws.{wrote-none}
-use Rattle.item_bits.specs.ItemBitsLaws.{inherited-bits, not-true, not-false}
+use Rattle.item_bits.specs.ItemBitsLaws.{inherited-bits}
 use borrow.Author.Needs.{needs}
+use borrow.Author.Tests.{not-true, not-false}
 use Rattle.item_bits.proofs.write_inherited.Statement.{statement}
 use Rattle.item_bits.proofs.write_inherited.Tie as tie
 use Rattle.item_bits.proofs.write_inherited.Reads as reads

@@ -4,13 +4,13 @@ use native.Mathlib.Omega.{arith}
 use lib.ListN.{length}
 use Rattle.facts.specs.Facts.{tableIn}
 use Rattle.lists.specs.Lists.{each}
+use Rattle.lists.specs.Tabulating.{tabulate, each-start, each-next}
 use Rattle.definitions.specs.Packing.{itemBits}
-use Rattle.fields.specs.Tabulate.{tabulate}
 use borrow.Author.Needs.{length-unmapped, needs}
 use Rattle.item_bits.specs.Counts.{ownAt}
 use Rattle.bits.specs.Writing.{Wrote}
 use Rattle.bits.specs.WriteLaws.{wrote-none, wrote-then}
-use Rattle.packing.specs.PackingLaws.{each-none, each-more, room-next, wrote-long}
+use Rattle.packing.specs.PackingLaws.{room-next, wrote-long}
 use Rattle.item_bits.specs.ItemBitsLaws.{own-all}
 use Rattle.item_bits.proofs.write_own.Statement.{statement}
 use Rattle.item_bits.proofs.write_own.Tie as tie
@@ -29,7 +29,7 @@ abbrev μ-loop : tie.MeasureT-loop
 loop-holds : tie.Need-loop-holds Inv-loop μ-loop
 loop-holds c =
     let a = c .before .before .args in
-    (omega arith, rw (each-none itemBits (ownAt (tableIn (a .f .now)) (a .place) (a .word) (a .x))) (wrote-none _ _))
+    (omega arith, rw (each-start itemBits (ownAt (tableIn (a .f .now)) (a .place) (a .word) (a .x))) (wrote-none _ _))
 
 -- src/lib.rt:163:32
 array-read-alone : tie.Need-array-read-alone Inv-loop μ-loop
@@ -76,7 +76,7 @@ loop-again c =
     let l = c .before .before .before .before .before .before .before .loop in
     let a = c .before .before .before .before .before .before .before .before .before .before .args in (
       omega arith,
-      rw (each-more itemBits (ownAt (tableIn (a .f .now)) (a .place) (a .word) (a .x)) (l .i))
+      rw (each-next itemBits (ownAt (tableIn (a .f .now)) (a .place) (a .word) (a .x)) (l .i))
           (wrote-then (l .inv .1) (rw (c .before .before .before .before .alone .ensures) at (c .before .before .write-making .ensures))),
     )
 

@@ -4,8 +4,8 @@ use native.Mathlib.Omega.{arith}
 use Prim.Native.Nat.{_-_, _≤_}
 use lib.ListN.{drop}
 use Rattle.lists.specs.Lists.{repeats}
+use Rattle.lists.specs.Places.{repeats-step, repeats-end}
 use Rattle.keys.specs.Keys.{keyAt, ofKeys, sameKey}
-use Rattle.spelling.specs.Scans.{repeats-step, repeats-end}
 use Rattle.keys.specs.KeyLaws.{length-ofKeys, key-of}
 use Rattle.keys.proofs.has_key_twice.Statement.{statement}
 use Rattle.keys.proofs.has_key_twice.Tie as tie

@@ -5,8 +5,8 @@ use denote.Ref.{now}
 use Prim.Native.Nat.{_-_, _≤_}
 use lib.ListN.{drop}
 use Rattle.lists.specs.Lists.{any}
+use Rattle.lists.specs.Places.{any-step, any-end}
 use Rattle.keys.specs.Keys.{keyAt, keysIn, ofKeys, sameKey, isAgain}
-use Rattle.spelling.specs.Scans.{any-step, any-end}
 use Rattle.keys.specs.KeyLaws.{length-ofKeys, key-of, same-key}
 use Rattle.keys.proofs.is_key_again.Statement.{statement}
 use Rattle.keys.proofs.is_key_again.Tie as tie

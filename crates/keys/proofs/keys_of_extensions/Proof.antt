@@ -2,10 +2,9 @@ use borrow.Author.Needs.{needs}
 use mathlib.Core.Path.{_≡_, sym, ap, _∙_}
 use native.Mathlib.Omega.{arith}
 use Prim.Native.Nat.{_-_, _≤_}
+use Rattle.lists.specs.Tabulating.{places, places-more, places-none}
 use Rattle.keys.specs.Keys.{ofKeys, extensionKey, extensionKeys}
-use Rattle.fields.specs.Tabulate.{places}
 use Rattle.types.specs.Extensions.{zeroExtension}
-use Rattle.keys.specs.KeyLaws.{places-more, places-none}
 use Rattle.keys.proofs.keys_of_extensions.Statement.{statement}
 use Rattle.keys.proofs.keys_of_extensions.Tie as tie
 

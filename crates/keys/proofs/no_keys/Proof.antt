@@ -1,5 +1,5 @@
 use mathlib.Core.Path.{refl}
-use Rattle.fields.specs.Tabulate.{tabulate}
+use Rattle.lists.specs.Tabulating.{tabulate}
 use Rattle.keys.specs.Keys.{ofKeys}
 use Rattle.keys.proofs.no_keys.Statement.{statement}
 use Rattle.keys.proofs.no_keys.Tie as tie

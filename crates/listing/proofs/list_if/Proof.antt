@@ -1,7 +1,7 @@
 use mathlib.Core.Path.{refl, sym, _∙_}
 use Rattle.lists.specs.Tests.{never}
-use Rattle.item_bits.specs.ItemBitsLaws.{not-true, not-false}
 use borrow.Author.Needs.{needs}
+use borrow.Author.Tests.{not-true, not-false}
 use Rattle.listing.proofs.list_if.Statement.{statement}
 use Rattle.listing.proofs.list_if.Tie as tie
 

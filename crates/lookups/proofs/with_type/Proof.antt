@@ -1,9 +1,9 @@
 use native.Mathlib.Omega.{arith}
 use mathlib.Core.Path.{_≡_}
 use lib.ListN.{length}
-use Rattle.fields.specs.Tabulate.{length-mapped}
 use Rattle.lookups.specs.ListableLaws.{entered}
 use borrow.Author.Needs.{needs}
+use Rattle.lists.specs.Tabulating.{length-mapped}
 use Rattle.lookups.proofs.with_type.Statement.{statement}
 use Rattle.lookups.proofs.with_type.Tie as tie
 use Rattle.lookups.proofs.with_type.Reads as reads

@@ -6,7 +6,6 @@ use lib.ListN.{length, length-append}
 use mathlib.Core.Logic.{⊎-elim}
 use Rattle.fields.specs.Fields.{nameOf}
 use Rattle.fields.specs.FieldLaws.{length-ofNames}
-use Rattle.fields.specs.Tabulate.{tabulate}
 use Rattle.making.specs.Making.{parentsOf}
 use Rattle.making.specs.MakingLaws.{length-parentsOf}
 use Rattle.synthetic.specs.Made.{givenBy}
@@ -15,6 +14,7 @@ use Rattle.facts.specs.Facts.{extensionIn, extensionsIn}
 use Rattle.facts.specs.FactLaws.{extensions-count}
 use Rattle.made_parents.specs.ParentLaws.{extensionAt, extensions-all, short-parents, given-there, given-not}
 use borrow.Author.Needs.{needs}
+use Rattle.lists.specs.Tabulating.{tabulate}
 use Rattle.made_parents.proofs.extension_parents.Statement.{statement}
 use Rattle.made_parents.proofs.extension_parents.Tie as tie
 use Rattle.made_parents.proofs.extension_parents.Reads as reads

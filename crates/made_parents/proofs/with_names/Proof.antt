@@ -3,13 +3,13 @@ use mathlib.Core.Path.{_≡_, refl, sym, _∙_}
 use Prim.Native.Nat.{_+_, _*_, _-_, _≤_}
 use native.Mathlib.Omega.{arith}
 use Rattle.fields.specs.Fields.{ofNames}
-use Rattle.fields.specs.Tabulate.{tabulate}
 use Rattle.making.specs.Making.{parentsOf}
 use Rattle.synthetic.specs.MadeLaws.{snoc-more}
 use Rattle.facts.specs.Facts.{extensionIn}
 use Rattle.facts.specs.FactLaws.{parents-count}
 use Rattle.made_parents.specs.ParentLaws.{parentIn, parent-in}
 use borrow.Author.Needs.{needs}
+use Rattle.lists.specs.Tabulating.{tabulate}
 use Rattle.made_parents.proofs.with_names.Statement.{statement}
 use Rattle.made_parents.proofs.with_names.Tie as tie
 use Rattle.made_parents.proofs.with_names.Reads as reads

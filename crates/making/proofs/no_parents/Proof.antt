@@ -1,5 +1,5 @@
 use mathlib.Core.Path.{refl}
-use Rattle.fields.specs.Tabulate.{tabulate}
+use Rattle.lists.specs.Tabulating.{tabulate}
 use Rattle.making.specs.Making.{parentsOf}
 use Rattle.making.proofs.no_parents.Statement.{statement}
 use Rattle.making.proofs.no_parents.Tie as tie

@@ -9,7 +9,8 @@ use borrow.Author.Needs.{needs}
 use borrow.Author.Tests.{ne-eqb, eq-eqb, not-true, not-false}
 use lib.ListN.{take, length, getD}
 use Rattle.lists.specs.Lists.{all}
-use Rattle.ordering.specs.Lists.{or-left, or-right, or-false-both, elem, elem-step, elem-at, tab, all-tab-step, all-tab-fails}
+use Rattle.lists.specs.Tests.{or-left, or-right, or-false-both}
+use Rattle.ordering.specs.Lists.{elem, elem-step, elem-at, tab, all-tab-step, all-tab-fails}
 use Rattle.ordering.specs.Reading.{parentAt, selfIn}
 use Rattle.ordering.specs.Rounds.{parentsIn, settled}
 use Rattle.ordering.proofs.all_placed.Statement.{statement}
@@ -81,10 +82,10 @@ parents-again c =
     ⊎-elim
     (λ w.
     let e = elem-at (getD (p .places) (a .base + q .i) 0) (a .t7) (a .n) (w .2 .j) (omega (arith, w .2 .inv .0)) (omega (arith, w .2 .inv .0)) (w .4 .taken) in
-    (omega arith, rw (all-tab-step (λ k. parentAt p (a .base + k)) (settled p (take (a .n) (a .t7))) (q .i), q .inv .1) (or-right (selfIn p (parentAt p (a .base + q .i))) _ e)))
+    (omega arith, rw (all-tab-step (λ k. parentAt p (a .base + k)) (settled p (take (a .n) (a .t7))) (q .i), q .inv .1) (or-right (selfIn p (parentAt p (a .base + q .i))) e)))
     (λ w.
     let e = sym (c .before .is-self .ensures) ∙ not-false _ (w .left) in
-    (omega arith, rw (all-tab-step (λ k. parentAt p (a .base + k)) (settled p (take (a .n) (a .t7))) (q .i), q .inv .1) (or-left _ (elem (getD (p .places) (a .base + q .i) 0) (take (a .n) (a .t7))) e)))
+    (omega arith, rw (all-tab-step (λ k. parentAt p (a .base + k)) (settled p (take (a .n) (a .t7))) (q .i), q .inv .1) (or-left (elem (getD (p .places) (a .base + q .i) 0) (take (a .n) (a .t7))) e)))
     (c .if1 .came)
 
 returns : tie.Need-returns Inv-loop μ-loop Inv-parents μ-parents
@@ -102,7 +103,7 @@ returns c =
     rw (
       ne-eqb i (a .count) (λ q. omega (arith, w .0 .taken)),
       all-tab-fails (λ k. parentAt p (a .base + k)) (settled p (take (a .n) (a .t7))) (a .count) i (w .0 .taken)
-          (or-false-both _ _ (sym (w .3 .ensures) ∙ not-true _ (w .4 .taken)) f),
+          (or-false-both (sym (w .3 .ensures) ∙ not-true _ (w .4 .taken)) f),
     ))
     (c .parents-test .came)
 

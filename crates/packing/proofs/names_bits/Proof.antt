@@ -6,10 +6,10 @@ use Prim.Native.Nat.{ℕ}
 use native.Mathlib.Omega.{arith}
 use lib.ListN.{length}
 use Rattle.lists.specs.Lists.{each}
+use Rattle.lists.specs.Tabulating.{tabulate, each-start}
 use Rattle.definitions.specs.Packing.{nameBits}
-use Rattle.fields.specs.Tabulate.{tabulate}
 use Rattle.packing.specs.Order.{nameIn}
-use Rattle.packing.specs.PackingLaws.{each-none, more-long, names-all}
+use Rattle.packing.specs.PackingLaws.{more-long, names-all}
 use Rattle.packing.proofs.names_bits.Statement.{statement}
 use Rattle.packing.proofs.names_bits.Tie as tie
 
@@ -22,7 +22,7 @@ abbrev μ-loop : tie.MeasureT-loop
 loop-holds : tie.Need-loop-holds Inv-loop μ-loop
 loop-holds c =
     let a = c .args in
-    omega (arith, ap length (each-none nameBits (nameIn (a .firsts) (a .seconds) (a .t3))))
+    omega (arith, ap length (each-start nameBits (nameIn (a .firsts) (a .seconds) (a .t3))))
 
 array-read-name-at : tie.Need-array-read-name-at Inv-loop μ-loop
 array-read-name-at c = search needs

@@ -4,10 +4,10 @@ use mathlib.Core.Path.{_≡_, ap}
 use native.Mathlib.Omega.{arith}
 use lib.ListN.{length, getD}
 use Rattle.lists.specs.Lists.{each}
+use Rattle.lists.specs.Tabulating.{tabulate, each-start}
 use Rattle.definitions.specs.Packing.{parentBits}
-use Rattle.fields.specs.Tabulate.{tabulate}
 use Rattle.making.specs.Making.{parentAt}
-use Rattle.packing.specs.PackingLaws.{each-none, more-long, parent-long, parents-all, parents-long}
+use Rattle.packing.specs.PackingLaws.{more-long, parent-long, parents-all, parents-long}
 use Rattle.packing.proofs.parents_bits.Statement.{statement}
 use Rattle.packing.proofs.parents_bits.Tie as tie
 
@@ -18,7 +18,7 @@ abbrev μ-loop : tie.MeasureT-loop
 μ-loop t total₀ i₀ total i = t .count - i
 
 loop-holds : tie.Need-loop-holds Inv-loop μ-loop
-loop-holds c = omega (arith, ap length (each-none parentBits (parentAt (c .args .t1))))
+loop-holds c = omega (arith, ap length (each-start parentBits (parentAt (c .args .t1))))
 
 element-copy-out-parent-bits : tie.Need-element-copy-out-parent-bits Inv-loop μ-loop
 element-copy-out-parent-bits c = search needs

@@ -3,12 +3,12 @@ use Prim.Native.Nat.{_-_, _≤_}
 use mathlib.Core.Path.{refl}
 use native.Mathlib.Omega.{arith}
 use Rattle.lists.specs.Lists.{each}
+use Rattle.lists.specs.Tabulating.{tabulate, each-start, each-next}
 use Rattle.definitions.specs.Packing.{parentBits}
 use Rattle.bits.specs.Writing.{Wrote}
 use Rattle.bits.specs.WriteLaws.{wrote-none, wrote-then}
-use Rattle.fields.specs.Tabulate.{tabulate}
 use Rattle.making.specs.Making.{parentAt}
-use Rattle.packing.specs.PackingLaws.{each-none, each-more, parents-all, room-next, wrote-long}
+use Rattle.packing.specs.PackingLaws.{parents-all, room-next, wrote-long}
 use Rattle.packing.proofs.write_each_parent.Statement.{statement}
 use Rattle.packing.proofs.write_each_parent.Tie as tie
 
@@ -19,7 +19,7 @@ abbrev μ-loop : tie.MeasureT-loop
 μ-loop buf₀ t at₀ i₀ buf at i = t .count - i
 
 loop-holds : tie.Need-loop-holds Inv-loop μ-loop
-loop-holds c = (omega arith, rw (each-none parentBits (parentAt (c .before .args .t3))) (wrote-none _ _))
+loop-holds c = (omega arith, rw (each-start parentBits (parentAt (c .before .args .t3))) (wrote-none _ _))
 
 element-copy-out-t12 : tie.Need-element-copy-out-t12 Inv-loop μ-loop
 element-copy-out-t12 c = search needs
@@ -44,7 +44,7 @@ loop-less c = search needs
 loop-again : tie.Need-loop-again Inv-loop μ-loop
 loop-again c =
     let t = c .before .before .before .before .before .before .before .before .before .before .args .t3 in
-    (omega arith, rw (each-more parentBits (parentAt t) (c .before .before .before .before .before .before .before .before .loop .i)) (wrote-then (c .before .before .before .before .before .before .before .before .loop .inv .1) (c .before .before .write-parent .ensures)))
+    (omega arith, rw (each-next parentBits (parentAt t) (c .before .before .before .before .before .before .before .before .loop .i)) (wrote-then (c .before .before .before .before .before .before .before .before .loop .inv .1) (c .before .before .write-parent .ensures)))
 
 same-length : tie.Need-same-length Inv-loop μ-loop
 same-length c = wrote-long (c .before .loop .inv .1)

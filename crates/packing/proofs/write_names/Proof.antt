@@ -4,12 +4,12 @@ use mathlib.Core.Path.{_≡_, refl}
 use native.Mathlib.Omega.{arith}
 use lib.ListN.{length}
 use Rattle.lists.specs.Lists.{each}
+use Rattle.lists.specs.Tabulating.{tabulate, each-start, each-next}
 use Rattle.definitions.specs.Packing.{nameBits}
 use Rattle.bits.specs.Writing.{Wrote}
 use Rattle.bits.specs.WriteLaws.{wrote-none, wrote-then}
-use Rattle.fields.specs.Tabulate.{tabulate}
 use Rattle.packing.specs.Order.{nameIn}
-use Rattle.packing.specs.PackingLaws.{each-none, each-more, names-all, room-next, wrote-long}
+use Rattle.packing.specs.PackingLaws.{names-all, room-next, wrote-long}
 use Rattle.packing.proofs.write_names.Statement.{statement}
 use Rattle.packing.proofs.write_names.Tie as tie
 
@@ -22,7 +22,7 @@ abbrev μ-loop : tie.MeasureT-loop
 loop-holds : tie.Need-loop-holds Inv-loop μ-loop
 loop-holds c =
     let a = c .before .args in
-    (omega arith, rw (each-none nameBits (nameIn (a .firsts) (a .seconds) (a .t5))) (wrote-none _ _))
+    (omega arith, rw (each-start nameBits (nameIn (a .firsts) (a .seconds) (a .t5))) (wrote-none _ _))
 
 array-read-name-at : tie.Need-array-read-name-at Inv-loop μ-loop
 array-read-name-at c = search needs
@@ -50,7 +50,7 @@ loop-less c = search needs
 loop-again : tie.Need-loop-again Inv-loop μ-loop
 loop-again c =
     let a = c .before .before .before .before .before .before .before .before .args in
-    (omega arith, rw (each-more nameBits (nameIn (a .firsts) (a .seconds) (a .t5)) (c .before .before .before .before .before .before .loop .i)) (wrote-then (c .before .before .before .before .before .before .loop .inv .1) (rw (c .before .before .before .name-at .ensures) at (c .before .before .write-name .ensures))))
+    (omega arith, rw (each-next nameBits (nameIn (a .firsts) (a .seconds) (a .t5)) (c .before .before .before .before .before .before .loop .i)) (wrote-then (c .before .before .before .before .before .before .loop .inv .1) (rw (c .before .before .before .name-at .ensures) at (c .before .before .write-name .ensures))))
 
 same-length : tie.Need-same-length Inv-loop μ-loop
 same-length c = wrote-long (c .before .loop .inv .1)

@@ -3,8 +3,10 @@ use Prim.Native.Nat.{ℕ, _≤_, _<_, _*_, _-_, _/_, _%_}
 use native.Mathlib.Omega.{arith}
 use borrow.Author.Needs.{needs}
 use lib.ListN.{length, getD, length-set}
-use Rattle.parents.specs.Compact.{itemAt, listedBy, Named}
-use Rattle.parents.specs.ParentLaws.{stored, stored-eighth}
+use Rattle.lists.specs.Places.{stored}
+use Rattle.types.specs.Types.{itemAt}
+use Rattle.parents.specs.Compact.{listedBy, Named}
+use Rattle.parents.specs.ParentLaws.{stored-eighth}
 use Rattle.parents.proofs.with_names.Statement.{statement}
 use Rattle.parents.proofs.with_names.Tie as tie
 
@@ -105,8 +107,8 @@ loop-again c =
       stored-eighth (λ k x. x ≡ itemAt ts k .name .first) (i .r .firsts) (i .at) _ e (i .inv .8) refl,
       stored-eighth (λ k x. x ≡ itemAt ts k .name .second) (i .r .seconds) (i .at) _ f (i .inv .9) refl,
       stored-eighth (λ k x. x ≡ listedBy ts k .count) (i .r .counts) (i .at) _ g (i .inv .10) refl,
-      stored (λ k x. x ≡ getD (listedBy ts (k / 8) .first) (k % 8) 0) (i .r .«parent_firsts») (i .at) _ (omega (arith, i .inv .4)) (i .inv .11) (c .before .first-at .ensures),
-      stored (λ k x. x ≡ getD (listedBy ts (k / 8) .second) (k % 8) 0) (i .r .«parent_seconds») (i .at) _ (omega (arith, i .inv .5)) (i .inv .12) (c .second-at .ensures),
+      stored 0 (λ k x. x ≡ getD (listedBy ts (k / 8) .first) (k % 8) 0) (i .r .«parent_firsts») (i .at) _ (omega (arith, i .inv .4)) (i .inv .11) (c .before .first-at .ensures),
+      stored 0 (λ k x. x ≡ getD (listedBy ts (k / 8) .second) (k % 8) 0) (i .r .«parent_seconds») (i .at) _ (omega (arith, i .inv .5)) (i .inv .12) (c .second-at .ensures),
     )
 
 returns : tie.Need-returns Inv-loop μ-loop

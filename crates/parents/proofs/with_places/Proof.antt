@@ -4,8 +4,8 @@ use native.Mathlib.Omega.{arith}
 use borrow.Author.Needs.{needs}
 use borrow.Author.Tests.{lt-ltb}
 use lib.ListN.{length, getD, length-set}
+use Rattle.lists.specs.Places.{stored}
 use Rattle.parents.specs.Compact.{Place, Looked}
-use Rattle.parents.specs.ParentLaws.{stored}
 use Rattle.parents.proofs.with_places.Statement.{statement}
 use Rattle.parents.proofs.with_places.Tie as tie
 
@@ -70,7 +70,7 @@ loop-again c =
       i .inv .6,
       i .inv .7,
       i .inv .8,
-      stored
+      stored 0
           (λ k x. k % 8 < getD (p .counts) (k / 8) 0 → Place (p .firsts) (p .seconds) (p .count) (getD (p .«parent_firsts») k 0) (getD (p .«parent_seconds») k 0) x)
           (i .r .places) (i .at) _ (omega (arith, i .inv .1, c .before .before .before .before .before .before .before .before .before .before .pre)) (i .inv .9)
           (λ h.

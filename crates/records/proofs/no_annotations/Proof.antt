@@ -1,5 +1,5 @@
 use mathlib.Core.Path.{refl}
-use Rattle.fields.specs.Tabulate.{tabulate, places}
+use Rattle.lists.specs.Tabulating.{tabulate, places}
 use Rattle.records.specs.Annotations.{ofAnnotations}
 use Rattle.records.proofs.no_annotations.Statement.{statement}
 use Rattle.records.proofs.no_annotations.Tie as tie

@@ -5,11 +5,11 @@ use denote.Ref.{now}
 use Rattle.definitions.specs.Bits.{bitsOf}
 use Prim.Native.Nat.{_+_}
 use lib.ListN.{length, drop, length-set}
+use Rattle.lists.specs.Tabulating.{length-mapped}
 use Rattle.definitions.specs.Parse.{repeatOnto, repeat}
 use Rattle.definitions.specs.Reading.{annotation}
 use Rattle.records.specs.Annotations.{annotationOf, ofAnnotations}
 use Rattle.records.specs.AnnotationLaws.{annotations-more}
-use Rattle.fields.specs.Tabulate.{length-mapped}
 use Rattle.fields.specs.ParseLaws.{repeat-none, repeat-done, repeat-refused}
 use Rattle.records.proofs.read_each_annotation.Statement.{statement}
 use Rattle.records.proofs.read_each_annotation.Tie as tie

@@ -2,7 +2,7 @@ use borrow.Author.Needs.{needs}
 use mathlib.Core.Path.{_≡_, sym, ap, _∙_}
 use native.Mathlib.Omega.{arith}
 use lib.ListN.{length, List·getD-eq-default}
-use Rattle.fields.specs.Tabulate.{length-mapped}
+use Rattle.lists.specs.Tabulating.{length-mapped}
 use Rattle.records.specs.Annotations.{annotationOf, zeroAnnotation}
 use Rattle.repeats.proofs.annotation_at.Statement.{statement}
 use Rattle.repeats.proofs.annotation_at.Tie as tie

@@ -5,9 +5,9 @@ use native.Mathlib.Omega.{arith}
 use Prim.Native.Nat.{_-_}
 use lib.ListN.{length, getD, drop, List·getD-eq-default}
 use Rattle.lists.specs.Lists.{any}
-use Rattle.spelling.specs.Scans.{any-step, any-end}
+use Rattle.lists.specs.Places.{any-step, any-end}
+use Rattle.lists.specs.Tabulating.{length-mapped}
 use Rattle.definitions.specs.Checks.{sameAnnotation}
-use Rattle.fields.specs.Tabulate.{length-mapped}
 use Rattle.records.specs.Annotations.{annotationOf, ofAnnotations, zeroAnnotation}
 use Rattle.repeats.specs.RepeatLaws.{annotation-of}
 use Rattle.records.specs.AnnotationLaws.{length-ofAnnotations}

@@ -4,7 +4,7 @@ use native.Mathlib.Omega.{arith}
 use Prim.Native.Nat.{_-_}
 use lib.ListN.{drop}
 use Rattle.lists.specs.Lists.{any}
-use Rattle.spelling.specs.Scans.{any-step, any-end}
+use Rattle.lists.specs.Places.{any-step, any-end}
 use Rattle.records.specs.Annotations.{annotationOf, ofAnnotations, zeroAnnotation}
 use Rattle.repeats.specs.Repeats.{repeatsWord}
 use Rattle.repeats.specs.RepeatLaws.{annotation-of}

@@ -7,7 +7,7 @@ use Prim.Native.Nat.{_-_}
 use lib.Dec.{eqb}
 use lib.ListN.{length, getD, drop, List·getD-eq-default}
 use Rattle.lists.specs.Lists.{any}
-use Rattle.spelling.specs.Scans.{any-step, any-end}
+use Rattle.lists.specs.Places.{any-step, any-end}
 use Rattle.repeats.specs.Repeats.{wordsOf}
 use Rattle.repeats.specs.RepeatLaws.{length-wordsOf, word-of}
 use Rattle.repeats.proofs.has_word_from.Statement.{statement}

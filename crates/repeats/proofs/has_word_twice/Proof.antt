@@ -5,7 +5,7 @@ use Prim.Native.Nat.{_-_}
 use lib.Dec.{eqb}
 use lib.ListN.{drop}
 use Rattle.lists.specs.Lists.{repeats}
-use Rattle.spelling.specs.Scans.{repeats-step, repeats-end}
+use Rattle.lists.specs.Places.{repeats-step, repeats-end}
 use Rattle.repeats.specs.Repeats.{wordsOf}
 use Rattle.repeats.specs.RepeatLaws.{length-wordsOf, word-of}
 use Rattle.repeats.proofs.has_word_twice.Statement.{statement}

@@ -6,7 +6,7 @@ use Prim.Native.Nat.{_-_}
 use lib.Dec.{eqb}
 use lib.ListN.{drop}
 use Rattle.lists.specs.Lists.{sameList}
-use Rattle.spelling.specs.Scans.{same-step, same-end, same-length}
+use Rattle.lists.specs.Places.{same-step, same-end, same-length}
 use Rattle.repeats.specs.Repeats.{rowsOf}
 use Rattle.repeats.specs.RepeatLaws.{length-rowsOf, row-of}
 use Rattle.repeats.proofs.is_same_rows.Statement.{statement}

@@ -5,8 +5,9 @@ use Prim.Native.Nat.{_-_}
 use lib.Dec.{eqb}
 use lib.ListN.{drop}
 use Rattle.lists.specs.Lists.{any, all}
+use Rattle.lists.specs.Places.{all-step, all-end}
 use Rattle.repeats.specs.Repeats.{wordsOf}
-use Rattle.repeats.specs.RepeatLaws.{length-wordsOf, word-of, all-step, all-end}
+use Rattle.repeats.specs.RepeatLaws.{length-wordsOf, word-of}
 use Rattle.repeats.proofs.is_within.Statement.{statement}
 use Rattle.repeats.proofs.is_within.Tie as tie
 

@@ -4,7 +4,7 @@ use native.Mathlib.Omega.{arith}
 use Prim.Native.Nat.{_-_}
 use lib.ListN.{drop}
 use Rattle.lists.specs.Lists.{repeats}
-use Rattle.spelling.specs.Scans.{repeats-step, repeats-end}
+use Rattle.lists.specs.Places.{repeats-step, repeats-end}
 use Rattle.definitions.specs.Checks.{sameAnnotation}
 use Rattle.records.specs.Annotations.{annotationOf, ofAnnotations, zeroAnnotation}
 use Rattle.repeats.specs.RepeatLaws.{annotation-of}

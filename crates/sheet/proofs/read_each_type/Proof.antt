@@ -6,12 +6,12 @@ use denote.Ref.{now}
 use borrow.Author.Tests.{not-true, not-false}
 use Prim.Native.Nat.{ℕ, _+_, _<_}
 use lib.ListN.{length, drop, length-set}
+use Rattle.lists.specs.Tabulating.{length-mapped}
 use Rattle.definitions.specs.Bits.{bitsOf}
 use Rattle.definitions.specs.Parse.{repeatOnto, repeat}
 use Rattle.definitions.specs.Reading.{typeInfo}
 use Rattle.types.specs.Types.{typeInfoOf, ofTypes}
 use Rattle.types.specs.TypeLaws.{types-more}
-use Rattle.fields.specs.Tabulate.{length-mapped}
 use Rattle.fields.specs.ParseLaws.{repeat-none, repeat-done, repeat-refused}
 use Rattle.sheet.specs.Sheets.{typesIn, namesIn, Noted}
 use Rattle.sheet.specs.SheetLaws.{noted-more, none-read}

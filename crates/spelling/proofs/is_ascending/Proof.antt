@@ -5,10 +5,10 @@ use mathlib.Core.List.{[]}
 use Prim.Native.Nat.{_-_, _≤_}
 use lib.ListN.{drop}
 use Rattle.lists.specs.Lists.{ascends}
+use Rattle.lists.specs.Places.{ascends-end}
 use Rattle.words.specs.Words.{ofWords}
 use Rattle.words.specs.WordLaws.{length-ofWords}
 use Rattle.definitions.specs.Orders.{bytesBefore}
-use Rattle.spelling.specs.Scans.{ascends-end}
 use Rattle.spelling.specs.SpellingLaws.{ascends-words}
 use Rattle.spelling.proofs.is_ascending.Statement.{statement}
 use Rattle.spelling.proofs.is_ascending.Tie as tie

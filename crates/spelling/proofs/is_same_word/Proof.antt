@@ -6,9 +6,9 @@ use Prim.Native.Nat.{_-_, _≤_}
 use lib.Dec.{eqb}
 use lib.ListN.{drop}
 use Rattle.lists.specs.Lists.{sameList}
+use Rattle.lists.specs.Places.{same-end, same-length}
 use Rattle.words.specs.Words.{wordOf}
 use Rattle.words.specs.WordLaws.{length-wordOf}
-use Rattle.spelling.specs.Scans.{same-end, same-length}
 use Rattle.spelling.specs.SpellingLaws.{same-bytes}
 use Rattle.spelling.proofs.is_same_word.Statement.{statement}
 use Rattle.spelling.proofs.is_same_word.Tie as tie

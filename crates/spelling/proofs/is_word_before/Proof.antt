@@ -5,10 +5,10 @@ use borrow.Author.Tests.{lt-ltb, le-ltb, eq-eqb, ne-eqb}
 use Prim.Native.Nat.{_-_, _≤_}
 use lib.ListN.{drop}
 use Rattle.lists.specs.Lists.{listBefore}
+use Rattle.lists.specs.Places.{before-left, before-right}
 use Rattle.words.specs.Words.{wordOf}
 use Rattle.words.specs.WordLaws.{length-wordOf}
 use Rattle.definitions.specs.Orders.{bytesBefore}
-use Rattle.spelling.specs.Scans.{before-left, before-right}
 use Rattle.spelling.specs.SpellingLaws.{before-bytes}
 use Rattle.spelling.proofs.is_word_before.Statement.{statement}
 use Rattle.spelling.proofs.is_word_before.Tie as tie

@@ -6,9 +6,9 @@ use Prim.Native.Nat.{_+_, _-_, _≤_}
 use lib.Dec.{eqb}
 use lib.ListN.{drop}
 use Rattle.lists.specs.Lists.{sameList, placeOf}
+use Rattle.lists.specs.Places.{place-found, place-step, place-end}
 use Rattle.words.specs.Words.{wordOf, ofWords}
 use Rattle.words.specs.WordLaws.{length-ofWords}
-use Rattle.spelling.specs.Scans.{place-found, place-step, place-end}
 use Rattle.spelling.specs.SpellingLaws.{word-of}
 use Rattle.spelling.proofs.place_of.Statement.{statement}
 use Rattle.spelling.proofs.place_of.Tie as tie

@@ -1,7 +1,7 @@
 use mathlib.Core.Path.{refl}
-use Rattle.fields.specs.Tabulate.{tabulate, places}
 use Rattle.words.specs.Words.{wordOf}
 use borrow.Author.Needs.{needs}
+use Rattle.lists.specs.Tabulating.{tabulate, places}
 use Rattle.spelling.proofs.self_word.Statement.{statement}
 use Rattle.spelling.proofs.self_word.Tie as tie
 

@@ -4,8 +4,8 @@ use Prim.Native.Nat.{ℕ, _+_, _-_, _≤_, _<_}
 use native.Mathlib.Omega.{arith}
 use borrow.Author.Needs.{needs}
 use lib.ListN.{length, getD, length-append}
+use Rattle.lists.specs.Tabulating.{tabulate, places}
 use Rattle.fields.specs.Fields.{nameOf}
-use Rattle.fields.specs.Tabulate.{tabulate, places}
 use Rattle.making.specs.Making.{parentsOf}
 use Rattle.making.specs.MakingLaws.{length-parentsOf}
 use Rattle.definitions.specs.Records.{Extension}

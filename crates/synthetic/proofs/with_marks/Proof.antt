@@ -4,7 +4,7 @@ use Prim.Native.Nat.{_+_, _-_, _≤_}
 use native.Mathlib.Omega.{arith}
 use borrow.Author.Needs.{needs}
 use lib.ListN.{getD}
-use Rattle.fields.specs.Tabulate.{tabulate}
+use Rattle.lists.specs.Tabulating.{tabulate}
 use Rattle.making.specs.Making.{markAs, marksOf}
 use Rattle.records.specs.Marks.{ofMarks}
 use Rattle.synthetic.specs.MadeLaws.{snoc-more}

@@ -4,8 +4,8 @@ use Prim.Native.Nat.{_+_, _-_, _≤_}
 use native.Mathlib.Omega.{arith}
 use borrow.Author.Needs.{needs}
 use lib.ListN.{getD}
+use Rattle.lists.specs.Tabulating.{tabulate}
 use Rattle.fields.specs.Fields.{twoWords, ofNames}
-use Rattle.fields.specs.Tabulate.{tabulate}
 use Rattle.making.specs.Making.{parentsOf}
 use Rattle.synthetic.specs.MadeLaws.{snoc-more}
 use Rattle.synthetic.proofs.with_names.Statement.{statement}

@@ -1,7 +1,7 @@
 use mathlib.Core.Path.{refl}
-use Rattle.fields.specs.Tabulate.{tabulate, places}
 use Rattle.types.specs.Extensions.{ofExtensions}
 use borrow.Author.Needs.{needs}
+use Rattle.lists.specs.Tabulating.{tabulate, places}
 use Rattle.types.proofs.no_extensions.Statement.{statement}
 use Rattle.types.proofs.no_extensions.Tie as tie
 

@@ -1,7 +1,7 @@
 use mathlib.Core.Path.{refl}
-use Rattle.fields.specs.Tabulate.{tabulate, places}
 use Rattle.types.specs.Types.{ofTypes}
 use borrow.Author.Needs.{needs}
+use Rattle.lists.specs.Tabulating.{tabulate, places}
 use Rattle.types.proofs.no_types.Statement.{statement}
 use Rattle.types.proofs.no_types.Tie as tie
 

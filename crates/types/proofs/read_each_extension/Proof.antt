@@ -5,11 +5,11 @@ use denote.Ref.{now}
 use Rattle.definitions.specs.Bits.{bitsOf}
 use Prim.Native.Nat.{_+_}
 use lib.ListN.{length, drop, length-set}
+use Rattle.lists.specs.Tabulating.{length-mapped}
 use Rattle.definitions.specs.Parse.{repeatOnto, repeat}
 use Rattle.definitions.specs.Reading.{extension}
 use Rattle.types.specs.Extensions.{extensionOf, ofExtensions}
 use Rattle.types.specs.TypeLaws.{extensions-more}
-use Rattle.fields.specs.Tabulate.{length-mapped}
 use Rattle.fields.specs.ParseLaws.{repeat-none, repeat-done, repeat-refused}
 use Rattle.types.proofs.read_each_extension.Statement.{statement}
 use Rattle.types.proofs.read_each_extension.Tie as tie

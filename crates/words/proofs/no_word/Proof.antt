@@ -1,5 +1,5 @@
 use mathlib.Core.Path.{refl}
-use Rattle.fields.specs.Tabulate.{tabulate, places}
+use Rattle.lists.specs.Tabulating.{tabulate, places}
 use Rattle.words.specs.Words.{wordOf}
 use Rattle.words.proofs.no_word.Statement.{statement}
 use Rattle.words.proofs.no_word.Tie as tie

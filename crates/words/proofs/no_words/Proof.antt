@@ -1,7 +1,7 @@
 use mathlib.Core.Path.{refl}
-use Rattle.fields.specs.Tabulate.{tabulate, places}
 use Rattle.words.specs.Words.{ofWords}
 use borrow.Author.Needs.{needs}
+use Rattle.lists.specs.Tabulating.{tabulate, places}
 use Rattle.words.proofs.no_words.Statement.{statement}
 use Rattle.words.proofs.no_words.Tie as tie
 

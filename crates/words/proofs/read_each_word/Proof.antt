@@ -5,11 +5,11 @@ use denote.Ref.{now}
 use Rattle.definitions.specs.Bits.{bitsOf}
 use Prim.Native.Nat.{_+_}
 use lib.ListN.{length, drop, length-set}
+use Rattle.lists.specs.Tabulating.{length-mapped}
 use Rattle.definitions.specs.Parse.{repeatOnto, repeat}
 use Rattle.definitions.specs.Reading.{word}
 use Rattle.words.specs.Words.{wordOf, ofWords}
 use Rattle.words.specs.WordLaws.{words-more}
-use Rattle.fields.specs.Tabulate.{length-mapped}
 use Rattle.fields.specs.ParseLaws.{repeat-none, repeat-done, repeat-refused}
 use Rattle.words.proofs.read_each_word.Statement.{statement}
 use Rattle.words.proofs.read_each_word.Tie as tie
