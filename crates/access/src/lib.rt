@@ -113,7 +113,7 @@ fn end_synthesis(
     requires { ⌜ (order .found ≡ true) × (1536 ≤ length (now diagnosis)) ⌝ }
     ensures { λ r. ⌜ Scheduled types extensions resource p (now (listing .entry)) (now (diagnosis .entry)) (outcomeOf r (now (listing .exit)) (now (diagnosis .exit))) ⌝ }
 {
-    let report = synthesis::synthesize(types, extensions, resource, p, diagnosis);
+    let report = synthesis::apply_associate_annotations(types, extensions, resource, p, diagnosis);
     if 0 < report.rows {
         return Answer::Diagnosed(9, report.rows, report.more);
     }

@@ -1,4 +1,4 @@
-// `interpret_associate`, after compile.rs: one word of an annotation.
+// One word of an annotation, which `interpret_associate` of compile.rs goes through.
 use fields::Name;
 use rows::Row;
 use table::Table;

@@ -1,4 +1,4 @@
-// `interpret_associate`, after compile.rs: what a word's classes come to, and the rows of kinds 4, 5 and 6.
+// What a word's classes come to, and the rows of kinds 4, 5 and 6, after `interpret_associate` of compile.rs.
 use fields::Name;
 use rows::Row;
 use table::Table;

@@ -1,4 +1,4 @@
-// What all annotations of one type come to, after `interpret_inherited_annotations` of compile.rs.
+// What the annotations of one type come to, after `interpret_associate` and `interpret_inherited_annotations` of compile.rs.
 use annotations::AnnotationInfo;
 use associates::Progress;
 use dedup::Entry;
@@ -42,7 +42,7 @@ fn is_due(words: Row, word: usize, ended: bool) -> bool
 }
 
 // One annotation, its words ascending.
-pub fn interpret_entry(
+pub fn interpret_associate(
     t: Table,
     place: usize,
     e: Entry,
@@ -104,7 +104,7 @@ fn with_entry(
         rows: s.rows,
         made: s.made,
     };
-    let r = interpret_entry(t, place, e, doms, p, made, buf, limit);
+    let r = interpret_associate(t, place, e, doms, p, made, buf, limit);
     let clean = still_clean(s.clean, r.failed);
     Told {
         clean: clean,
@@ -175,7 +175,7 @@ fn interpret_owns(
 }
 
 // 'then the inherited ones as the dedup leaves them'.
-fn interpret_inherited(
+fn interpret_extra(
     t: Table,
     place: usize,
     h: Inherited,
@@ -203,7 +203,7 @@ fn interpret_inherited(
 }
 
 // All annotations of the type at a place: its own associates, and what it inherits. The rows go behind the first n.
-pub fn interpret_type(
+pub fn interpret_inherited_annotations(
     t: Table,
     place: usize,
     own: OwnAssociates,
@@ -230,7 +230,7 @@ pub fn interpret_type(
         made: 0,
     };
     let p = interpret_owns(t, place, own, s, &mut made, buf, limit);
-    let r = interpret_inherited(t, place, h, p, &mut made, buf, limit);
+    let r = interpret_extra(t, place, h, p, &mut made, buf, limit);
     Interpreted {
         rows: r.rows,
         clean: r.clean,

@@ -1,4 +1,4 @@
-// The synthesis of a map that has an order, and the rows of refusal 9.
+// The synthesis of a map that has an order, and the rows of refusal 9, after `inherit_annotations` and `apply_associate_annotations` of compile.rs.
 use dedup::Inherited;
 use hearing::Flags;
 use ordering::Parents;
@@ -42,8 +42,8 @@ fn receive(p: Parents, types: Types, store: &mut [u64], t: usize, flags: Flags) 
     got
 }
 
-// Type t, of this record, is interpreted, its parents being so.
-fn play(
+// Type t, of this record, takes what its parents hand on and is interpreted; its parents were, in the loop that calls this and not by recursion.
+fn inherit_annotations(
     table: Table,
     types: Types,
     info: TypeInfo,
@@ -61,7 +61,15 @@ fn play(
     let flags = hearing::flags_of(p, t, fresh, d.ok);
     let got = receive(p, types, store, t, flags);
     let own = own_associates::own_associates(info);
-    let told = interpreting::interpret_type(table, t, own, got, diagnosis, 256, d.rows);
+    let told = interpreting::interpret_inherited_annotations(
+        table,
+        t,
+        own,
+        got,
+        diagnosis,
+        256,
+        d.rows,
+    );
     let ok = hearing::with_ok(d.ok, t, flags.all, told.clean);
     Played {
         ok: ok,
@@ -90,7 +98,7 @@ fn play_all(
         let t = items[i] as usize;
         let fresh = flags[i];
         let info = types.items[t];
-        d = play(table, types, info, p, store, diagnosis, t, fresh, d);
+        d = inherit_annotations(table, types, info, p, store, diagnosis, t, fresh, d);
         i += 1;
     }
     d.rows
@@ -138,7 +146,7 @@ fn play_in_room(table: Table, types: Types, p: Parents, diagnosis: &mut [u8], tr
 }
 
 // The rows of refusal 9: 'the first 256 rows', 'and no other byte'.
-pub fn synthesize(
+pub fn apply_associate_annotations(
     types: Types,
     extensions: Extensions,
     resource: u8,

@@ -5,8 +5,8 @@ use borrow.Author.Needs.{needs}
 use Rattle.access.proofs.end_synthesis.Statement.{statement}
 use Rattle.access.proofs.end_synthesis.Tie as tie
 
-synthesize-requires : tie.Need-synthesize-requires
-synthesize-requires c κs =
+apply-associate-annotations-requires : tie.Need-apply-associate-annotations-requires
+apply-associate-annotations-requires c κs =
     let p = c .before .before .before .pre in
     let o = p .1 .0 in
     let f = p .1 .1 .0 in
@@ -18,7 +18,7 @@ same-length c = search needs
 returns : tie.Need-returns
 returns c =
     let p = c .before .before .before .before .before .before .before .before .pre in
-    let y = c .before .before .before .before .synthesize in
+    let y = c .before .before .before .before .apply-associate-annotations in
     record {
       due = λ s h.
           let q = y .ensures .written s (record { held = held _ _ _ _ _ (p .1 .0) s h (p .1 .1 .0); word = h .word }) in
@@ -44,7 +44,7 @@ same-length-3 c = search needs
 returns-2 : tie.Need-returns-2
 returns-2 c =
     let p = c .before .before .before .before .before .before .before .before .before .before .before .before .before .before .pre in
-    let y = c .before .before .before .before .before .before .before .before .before .before .synthesize in
+    let y = c .before .before .before .before .before .before .before .before .before .before .apply-associate-annotations in
     let w = c .before .before .before .before .write-schedule in
     record {
       due = λ s h.
@@ -59,7 +59,7 @@ pub end-synthesis-spec : {M : Type 1} → statement M
 end-synthesis-spec =
     tie.close
     (tie.spec
-    synthesize-requires
+    apply-associate-annotations-requires
     same-length
     returns
     write-schedule-requires

@@ -6,12 +6,12 @@ use Rattle.interpreting.proofs.with_entry.Statement.{statement}
 use Rattle.interpreting.proofs.with_entry.Tie as tie
 use Rattle.interpreting.proofs.with_entry.Reads as reads
 use Rattle.interpreting.proofs.with_entry.Lts as lts
-use Rattle.interpreting.proofs.interpret_entry.Reads as interpret-entry-reads
+use Rattle.interpreting.proofs.interpret_associate.Reads as interpret-associate-reads
 use Rattle.interpreting.proofs.still_clean.Reads as still-clean-reads
 
 -- src/lib.rt:107:9
-interpret-entry-requires : tie.Need-interpret-entry-requires
-interpret-entry-requires c κs = search needs
+interpret-associate-requires : tie.Need-interpret-associate-requires
+interpret-associate-requires c κs = search needs
 
 -- src/lib.rt:108:9
 still-clean-requires : tie.Need-still-clean-requires
@@ -26,7 +26,7 @@ returns : tie.Need-returns
 returns c =
     let s = c .before .before .before .before .before .before .before in
     let a = s .args in
-    let e = c .before .before .before .interpret-entry in
+    let e = c .before .before .before .interpret-associate in
     record {
       added = λ x us ps.
           added-entry (a .t) (a .place) (a .limit) x (a .e) (a .doms) (typeReached (a .s) (a .made .now)) (a .buf .now) (reached (e .result) _) _ _ us ps (e .ensures) (c .still-clean .ensures);
@@ -34,4 +34,4 @@ returns c =
 
 pub with-entry-spec : {M : Type 1} → statement M
 with-entry-spec =
-    tie.close (tie.spec interpret-entry-requires still-clean-requires same-length returns)
+    tie.close (tie.spec interpret-associate-requires still-clean-requires same-length returns)

@@ -9,7 +9,7 @@ use Rattle.synthesis.proofs.play_all.Statement.{statement}
 use Rattle.synthesis.proofs.play_all.Tie as tie
 use Rattle.synthesis.proofs.play_all.Reads as reads
 use Rattle.synthesis.proofs.play_all.Lts as lts
-use Rattle.synthesis.proofs.play.Reads as play-reads
+use Rattle.synthesis.proofs.inherit_annotations.Reads as inherit-annotations-reads
 
 abbrev Inv-loop : tie.InvT-loop
 Inv-loop table p store₀ diagnosis₀ types count items flags d₀ i₀ store diagnosis d i = (i ≤ count) × (length store ≡ length store₀) × (length diagnosis ≡ length diagnosis₀) × PlayedTo table types p diagnosis₀ (record { count = count; items = items; fresh = flags; seen = 0 }) i store diagnosis d
@@ -35,8 +35,8 @@ mul-info c = let u = c .before .before .before .before .before .before .pre in o
 element-copy-out-info : tie.Need-element-copy-out-info Inv-loop μ-loop
 element-copy-out-info c = let u = c .before .before .before .before .before .before .pre in omega (arith, u .trail .below (c .before .loop .i) (c .loop-test .taken), u .held .reads .most)
 
-play-requires : tie.Need-play-requires Inv-loop μ-loop
-play-requires c κs =
+inherit-annotations-requires : tie.Need-inherit-annotations-requires Inv-loop μ-loop
+inherit-annotations-requires c κs =
     let s = c .before .before .before .before .before .before .before .before .before in
     let u = s .pre in
     let l = c .before .before .before .before .loop in
@@ -57,7 +57,7 @@ loop-again c =
     let l = c .before .before .before .before .before .before .before .before .before .loop in
     let k = c .before .before .before .before .before .before .before .before .loop-test .taken in
     let n : length (s .args .trail .items) ≡ 64 = search (needs, s .good .1 .1 .1 .1 .1 .0) in
-    let y = c .before .before .before .before .play in (
+    let y = c .before .before .before .before .inherit-annotations in (
       omega arith,
       y .ensures .long ∙ l .inv .1,
       y .kept .1 .1 .1 .1 .1 .0 ∙ l .inv .2,
@@ -87,7 +87,7 @@ play-all-spec =
     array-read-fresh
     mul-info
     element-copy-out-info
-    play-requires
+    inherit-annotations-requires
     add-i
     loop-less
     loop-again

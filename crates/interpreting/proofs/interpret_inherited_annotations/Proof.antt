@@ -3,11 +3,11 @@ use native.Mathlib.Omega.{arith}
 use Rattle.interpreting.specs.Annotations.{typeReached}
 use Rattle.interpreting.specs.AnnotationsLaws.{added-then, nothing-room, type-done, type-nothing}
 use borrow.Author.Needs.{needs}
-use Rattle.interpreting.proofs.interpret_type.Statement.{statement}
-use Rattle.interpreting.proofs.interpret_type.Tie as tie
-use Rattle.interpreting.proofs.interpret_type.Reads as reads
-use Rattle.interpreting.proofs.interpret_type.Lts as lts
-use Rattle.interpreting.proofs.interpret_inherited.Reads as interpret-inherited-reads
+use Rattle.interpreting.proofs.interpret_inherited_annotations.Statement.{statement}
+use Rattle.interpreting.proofs.interpret_inherited_annotations.Tie as tie
+use Rattle.interpreting.proofs.interpret_inherited_annotations.Reads as reads
+use Rattle.interpreting.proofs.interpret_inherited_annotations.Lts as lts
+use Rattle.interpreting.proofs.interpret_extra.Reads as interpret-extra-reads
 use Rattle.interpreting.proofs.interpret_owns.Reads as interpret-owns-reads
 
 -- src/lib.rt:220:13
@@ -24,8 +24,8 @@ interpret-owns-requires c κs =
     (s .pre .ground, (s .pre .own, nothing-room (a .t) (a .place) (a .limit) _ 180 refl (omega arith)))
 
 -- src/lib.rt:233:9
-interpret-inherited-requires : tie.Need-interpret-inherited-requires
-interpret-inherited-requires c κs =
+interpret-extra-requires : tie.Need-interpret-extra-requires
+interpret-extra-requires c κs =
     let s = c .before .before .before .before .before .before .before .before .before .before in
     let g = s .pre .ground in
     let o = c .before .before .before .before .interpret-owns in (
@@ -42,11 +42,11 @@ returns-2 : tie.Need-returns-2
 returns-2 c =
     let a = c .before .before .before .before .before .before .before .before .before .before .before .before .before .args in
     let o = c .before .before .before .before .before .before .before .interpret-owns in
-    let i = c .before .before .interpret-inherited in
+    let i = c .before .before .interpret-extra in
     type-done (a .t) (a .place) (a .limit) (a .own) (a .h) (a .n) _ (a .buf .now) _ (typeReached (i .result) _) _ refl
     (added-then (a .t) (a .place) (a .limit) _ _ 180 200 _ (typeReached (o .result) _) _ (a .buf .now) _ _ (o .ensures) (i .ensures))
 
-pub interpret-type-spec : {M : Type 1} → statement M
-interpret-type-spec =
+pub interpret-inherited-annotations-spec : {M : Type 1} → statement M
+interpret-inherited-annotations-spec =
     tie.close
-    (tie.spec returns interpret-owns-requires interpret-inherited-requires same-length returns-2)
+    (tie.spec returns interpret-owns-requires interpret-extra-requires same-length returns-2)

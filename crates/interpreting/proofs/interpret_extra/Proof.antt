@@ -8,10 +8,10 @@ use Rattle.dedup.specs.Reading.{tableOf, read, readAll}
 use Rattle.interpreting.specs.Annotations.{typeReached, typeNames, Added}
 use Rattle.interpreting.specs.AnnotationsLaws.{added-none, added-then, added-as}
 use Rattle.interpreting.specs.InheritedLaws.{apart-items, inherited-all, read-resources, read-parents, total, total-none, total-most, total-more, total-room, read-step}
-use Rattle.interpreting.proofs.interpret_inherited.Statement.{statement}
-use Rattle.interpreting.proofs.interpret_inherited.Tie as tie
-use Rattle.interpreting.proofs.interpret_inherited.Reads as reads
-use Rattle.interpreting.proofs.interpret_inherited.Lts as lts
+use Rattle.interpreting.proofs.interpret_extra.Statement.{statement}
+use Rattle.interpreting.proofs.interpret_extra.Tie as tie
+use Rattle.interpreting.proofs.interpret_extra.Reads as reads
+use Rattle.interpreting.proofs.interpret_extra.Lts as lts
 use Rattle.interpreting.proofs.with_entry.Reads as with-entry-reads
 
 abbrev Inv-loop : tie.InvT-loop
@@ -100,8 +100,8 @@ returns c =
     added-as (a .t) (a .place) (a .limit) _ _ _ 200 (typeReached (a .s) (a .made .now)) (a .buf .now) (typeReached (l .p) (l .made)) (l .buf) (inherited-all (typeNames (a .t)) (a .h) (l .i) e)
     (omega (arith, ap (λ (k : ℕ). total (take k (a .h .list .items))) e, total-most (take (a .h .list .count) (a .h .list .items)) (apart-items (a .h) (s .pre .1 .0 .good)))) (l .inv .2)
 
-pub interpret-inherited-spec : {M : Type 1} → statement M
-interpret-inherited-spec =
+pub interpret-extra-spec : {M : Type 1} → statement M
+interpret-extra-spec =
     tie.close
     (tie.spec
     Inv-loop

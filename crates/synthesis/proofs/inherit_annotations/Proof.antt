@@ -9,13 +9,13 @@ use Rattle.own_associates.specs.declared.OwnAssociates.{OwnAssociates}
 use Rattle.ordering.specs.Reading.{valid}
 use Rattle.synthesis.specs.PlayLaws.{flagged-by, turn-ready, turn-below, turn-low, turn-fits, type-ready, plays}
 use borrow.Author.Needs.{needs}
-use Rattle.synthesis.proofs.play.Statement.{statement}
-use Rattle.synthesis.proofs.play.Tie as tie
-use Rattle.synthesis.proofs.play.Reads as reads
-use Rattle.synthesis.proofs.play.Lts as lts
+use Rattle.synthesis.proofs.inherit_annotations.Statement.{statement}
+use Rattle.synthesis.proofs.inherit_annotations.Tie as tie
+use Rattle.synthesis.proofs.inherit_annotations.Reads as reads
+use Rattle.synthesis.proofs.inherit_annotations.Lts as lts
 use Rattle.hearing.proofs.flags_of.Reads as flags-of-reads
 use Rattle.hearing.proofs.with_ok.Reads as with-ok-reads
-use Rattle.interpreting.proofs.interpret_type.Reads as interpret-type-reads
+use Rattle.interpreting.proofs.interpret_inherited_annotations.Reads as interpret-inherited-annotations-reads
 use Rattle.own_associates.proofs.own_associates.Reads as own-associates-reads
 use Rattle.synthesis.proofs.receive.Reads as receive-reads
 
@@ -40,8 +40,8 @@ own-associates-requires c κs =
     let s = c .before .before .before .before .before .before .before in
     subst (λ (x : TypeInfo). AllFit x) (s .pre .1) (turn-fits _ _ _ _ _ _ (s .pre .0))
 
-interpret-type-requires : tie.Need-interpret-type-requires
-interpret-type-requires c κs =
+interpret-inherited-annotations-requires : tie.Need-interpret-inherited-annotations-requires
+interpret-inherited-annotations-requires c κs =
     let s = c .before .before .before .before .before .before .before .before .before in
     type-ready _ _ _ _ _ _ (s .pre .0) _ _ _ (c .before .before .before .before .receive .ensures) _ (own-here (s .args .info) (s .args .types) (s .args .t) (c .before .own-associates .result) (s .pre .1) (c .before .own-associates .ensures))
 
@@ -57,16 +57,16 @@ same-length-2 c = search needs
 returns : tie.Need-returns
 returns c =
     let s = c .before .before .before .before .before .before .before .before .before .before .before .before .before in
-    plays _ _ _ _ _ _ (s .pre .0) _ _ _ (c .before .before .before .before .before .before .before .before .receive .ensures) _ (own-here (s .args .info) (s .args .types) (s .args .t) (c .before .before .before .before .before .own-associates .result) (s .pre .1) (c .before .before .before .before .before .own-associates .ensures)) _ (s .args .d) _ _ _ (c .before .before .before .before .before .before .before .before .before .before .flags-of .ensures) (c .before .before .before .interpret-type .ensures) (c .with-ok .ensures)
+    plays _ _ _ _ _ _ (s .pre .0) _ _ _ (c .before .before .before .before .before .before .before .before .receive .ensures) _ (own-here (s .args .info) (s .args .types) (s .args .t) (c .before .before .before .before .before .own-associates .result) (s .pre .1) (c .before .before .before .before .before .own-associates .ensures)) _ (s .args .d) _ _ _ (c .before .before .before .before .before .before .before .before .before .before .flags-of .ensures) (c .before .before .before .interpret-inherited-annotations .ensures) (c .with-ok .ensures)
 
-pub play-spec : {M : Type 1} → statement M
-play-spec =
+pub inherit-annotations-spec : {M : Type 1} → statement M
+inherit-annotations-spec =
     tie.close
     (tie.spec
     flags-of-requires
     receive-requires
     own-associates-requires
-    interpret-type-requires
+    interpret-inherited-annotations-requires
     with-ok-requires
     same-length
     same-length-2

@@ -3,10 +3,10 @@ use Rattle.lookups.specs.Held.{listable}
 use Rattle.visiting.specs.Ranks.{orderly}
 use Rattle.synthesis.specs.SynthesisLaws.{ready-in-room, synthesized-few, synthesized-many}
 use borrow.Author.Needs.{needs}
-use Rattle.synthesis.proofs.synthesize.Statement.{statement}
-use Rattle.synthesis.proofs.synthesize.Tie as tie
-use Rattle.synthesis.proofs.synthesize.Reads as reads
-use Rattle.synthesis.proofs.synthesize.Lts as lts
+use Rattle.synthesis.proofs.apply_associate_annotations.Statement.{statement}
+use Rattle.synthesis.proofs.apply_associate_annotations.Tie as tie
+use Rattle.synthesis.proofs.apply_associate_annotations.Reads as reads
+use Rattle.synthesis.proofs.apply_associate_annotations.Lts as lts
 use Rattle.lookups.proofs.table_of.Reads as table-of-reads
 use Rattle.synthesis.proofs.play_in_room.Reads as play-in-room-reads
 use Rattle.visiting.proofs.trail_of.Reads as trail-of-reads
@@ -38,8 +38,8 @@ returns-2 c =
     let s = c .before .before .before .before .before .before .before .before in
     synthesized-few _ _ _ _ _ (c .before .before .before .before .before .before .table-of .ensures) _ (c .before .before .before .before .before .trail-of .ensures) _ _ _ (s .pre .1) (c .before .before .before .play-in-room .ensures) (omega arith)
 
-pub synthesize-spec : {M : Type 1} → statement M
-synthesize-spec =
+pub apply-associate-annotations-spec : {M : Type 1} → statement M
+apply-associate-annotations-spec =
     tie.close
     (tie.spec
     table-of-requires

@@ -6,10 +6,10 @@ use borrow.Author.Needs.{needs}
 use Rattle.lists.specs.Tests.{and-left}
 use Rattle.associates.specs.Step.{reached}
 use Rattle.interpreting.specs.EntryLaws.{Onward, onward-start, onward-skipped, onward-taken, onward-room, onward-end}
-use Rattle.interpreting.proofs.interpret_entry.Statement.{statement}
-use Rattle.interpreting.proofs.interpret_entry.Tie as tie
-use Rattle.interpreting.proofs.interpret_entry.Reads as reads
-use Rattle.interpreting.proofs.interpret_entry.Lts as lts
+use Rattle.interpreting.proofs.interpret_associate.Statement.{statement}
+use Rattle.interpreting.proofs.interpret_associate.Tie as tie
+use Rattle.interpreting.proofs.interpret_associate.Reads as reads
+use Rattle.interpreting.proofs.interpret_associate.Lts as lts
 use Rattle.associates.proofs.interpret_word.Reads as interpret-word-reads
 use Rattle.interpreting.proofs.is_due.Reads as is-due-reads
 
@@ -98,8 +98,8 @@ returns c =
     let d = onward-end (s .args .t) (s .args .place) (s .args .e) (s .args .t4) (s .args .limit) _ (s .args .buf .now) (l .w) (reached (l .p) (l .made)) (l .buf) (l .inv .1) (omega arith) (l .inv .0) in
     record { rows = d .rows; items = d .items; failed = d .failed; holding = d .holding; count = d .count }
 
-pub interpret-entry-spec : {M : Type 1} → statement M
-interpret-entry-spec =
+pub interpret-associate-spec : {M : Type 1} → statement M
+interpret-associate-spec =
     tie.close
     (tie.spec
     Inv-loop
