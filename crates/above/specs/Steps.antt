@@ -14,11 +14,11 @@ use Rattle.rows.specs.declared.Row.{Row}
 use Rattle.rows.specs.Rows.{has, hasBit, either, empty, none}
 use Rattle.rows.specs.RowLaws.{has-either, has-none, bit-either, bit-one, bit-none, one-shifted}
 use Rattle.ordering.specs.Lists.{any-tab-step, any-tab-same}
-use Rattle.ordering.specs.Reading.{Parent, howMany, listed, Valid}
+use Rattle.ordering.specs.Reading.{Parent, howMany, listed}
 use Rattle.ordering.specs.declared.Parents.{Parents}
 use Rattle.ancestry.specs.Rows.{ParentsBelow}
-use Rattle.ancestry.specs.Gathering.{parent, parent-below}
-use Rattle.above.specs.Tables.{rowAt, slotOf, upTo, WithType, hasIn, United, Passed, WithMaking, ListedRoom, DirectIn, Direct, TypesBelow, PassingIn}
+use Rattle.ancestry.specs.Gathering.{parent}
+use Rattle.above.specs.Tables.{rowAt, slotOf, upTo, WithType, hasIn, United, Passed, WithMaking, DirectIn, Direct, TypesBelow, PassingIn}
 
 pub has-empty : (k : ℕ) → has empty k ≡ false
 unfolding none
@@ -107,9 +107,6 @@ module _ (counts places : List ℕ) (t : ℕ) where
   direct-all i x e d = record { bits = λ a. d .bits a ∙ ap (λ (n : ℕ). any (λ j. eqb (getD places (8 * t + j) 0) a) (upTo n)) e }
 
 module _ (p : Parents) (t : ℕ) where
-  pub listed-room : Valid p → t < p .count → ParentsBelow p t → ListedRoom (p .counts) (p .places) t
-  listed-room v h b = record { type = omega (arith, v .types); parents = v .parents t h; place = λ i l. omega (arith, v .types, parent-below p t b i l) }
-
   -- the row that the arrays give is that of the listed parents
   pub direct-is : (x : ℕ) → DirectIn (p .counts) (p .places) t x → Direct p t x
   unfolding listed

@@ -45,12 +45,6 @@ pub record WithMaking (table : List ℕ) (own : Row) (types count : ℕ) (r : Ro
 
 -- ---- direct parents
 
--- the parents of type t stand within the arrays, and their places are below 64
-pub record ListedRoom (counts places : List ℕ) (t : ℕ) : Type 0 where
-  pub type : t < 64
-  pub parents : getD counts t 0 ≤ 8
-  pub place : (i : ℕ) → i < getD counts t 0 → getD places (8 * t + i) 0 < 64
-
 -- the row of the types at the places of the parents of type t
 pub record DirectIn (counts places : List ℕ) (t x : ℕ) : Type 0 where
   pub bits : (a : ℕ) → hasBit x a ≡ any (λ i. eqb (getD places (8 * t + i) 0) a) (upTo (getD counts t 0))

@@ -5,7 +5,8 @@ use rows::Row;
 ghost use mathlib.Core.Path.{_≡_};
 ghost use Prim.Native.Nat.{_<_, _≤_, _*_, _+_};
 ghost use lib.ListN.{length};
-ghost use Rattle.above.specs.Tables.{rowAt, WithType, United, Passed, ListedRoom, DirectIn, TypesBelow, PassingIn};
+ghost use Rattle.ancestry.specs.Rows.{ListedRoom};
+ghost use Rattle.above.specs.Tables.{rowAt, WithType, United, Passed, DirectIn, TypesBelow, PassingIn};
 
 // The row at a place.
 fn row_at(s: &[u64], at: usize) -> Row

@@ -3,16 +3,17 @@ use mathlib.Core.Bool.{Bool, false, _||_, or-assoc}
 use mathlib.Core.List.{List, _∷_, List·Memᴰ·head, Memᴰ·append-right}
 use mathlib.Core.Path.{_≡_, refl, sym, ap, _∙_, subst}
 use Prim.Native.Nat.{ℕ, _+_, _*_, _%_, _^_, _≤_, _<_}
+use native.Mathlib.Omega.{arith}
 use lib.Bits.{bitOr}
 use lib.Dec.{eqb}
 use lib.ListN.{getD}
 use Rattle.lists.specs.Lists.{In, any}
 use Rattle.rows.specs.Rows.{hasBit}
 use Rattle.rows.specs.RowLaws.{bit-either, bit-one, bit-none, one-shifted}
-use Rattle.ordering.specs.Lists.{tab, tab-split, any-tab-step}
-use Rattle.ordering.specs.Reading.{Parent, parentAt, howMany, listed}
+use Rattle.ordering.specs.Lists.{tab, tab-split, any-tab-step, any-tab-same}
+use Rattle.ordering.specs.Reading.{Parent, parentAt, howMany, listed, Valid}
 use Rattle.ordering.specs.declared.Parents.{Parents}
-use Rattle.ancestry.specs.Rows.{Joined, reaches, ParentsBelow, Gathered}
+use Rattle.ancestry.specs.Rows.{Joined, reaches, ParentsBelow, ListedRoom, reachesIn, GatheredIn, Gathered}
 
 pub joined-is : (row over place : ℕ) → place < 64 → Joined row over place (bitOr (bitOr row (1 * 2 ^ place % 2 ^ 64)) over)
 joined-is row over place h =
@@ -38,18 +39,30 @@ module _ (p : Parents) (t : ℕ) where
   pub parent-below : ParentsBelow p t → (i : ℕ) → i < howMany p t → getD (p .places) (8 * t + i) 0 < p .count
   parent-below b i h = b .lower (parent i) (parent-listed i h)
 
-  module _ (rows : List ℕ) where
-    -- the first i parents, and what is above each of them
-    pub record Gathering (i row : ℕ) : Type 0 where
-      pub bits : (a : ℕ) → hasBit row a ≡ any (reaches rows a) (tab parent i)
+  pub listed-room : Valid p → t < p .count → ParentsBelow p t → ListedRoom (p .counts) (p .places) t
+  listed-room v h b = record { type = omega (arith, v .types); parents = v .parents t h; place = λ i l. omega (arith, v .types, parent-below b i l) }
 
-    pub gathering-none : Gathering 0 0
-    gathering-none = record { bits = bit-none }
+  -- what the arrays give is what the listed parents do
+  pub gathered-is : (rows : List ℕ) (row : ℕ) → GatheredIn (p .counts) (p .places) rows t row → Gathered p rows t row
+  unfolding listed
+  gathered-is rows row g =
+      record { bits = λ a. g .bits a ∙ any-tab-same (λ i. getD (p .places) (8 * t + i) 0) (reachesIn rows a) parent (reaches rows a) (howMany p t) (λ i h. refl) }
 
-    pub gathering-more : (i row r : ℕ) → Gathering i row → Joined row (getD rows (parent i .place) 0) (parent i .place) r → Gathering (i + 1) r
-    gathering-more i row r g j =
-        record { bits = λ a. j .bits a ∙ ap (λ (b : Bool). b || reaches rows a (parent i)) (g .bits a) ∙ sym (any-tab-step parent (reaches rows a) i) }
+module _ (places : List ℕ) (t : ℕ) (rows : List ℕ) where
+  -- the place of the parent that type t lists at i
+  abbrev placeAt : ℕ → ℕ
+  placeAt i = getD places (8 * t + i) 0
 
-    pub gathering-all : (i row : ℕ) → i ≡ howMany p t → Gathering i row → Gathered p rows t row
-    unfolding listed
-    gathering-all i row e g = record { bits = λ a. g .bits a ∙ ap (λ (n : ℕ). any (reaches rows a) (tab parent n)) e }
+  -- the first i parents, and what is above each of them
+  pub record Gathering (i row : ℕ) : Type 0 where
+    pub bits : (a : ℕ) → hasBit row a ≡ any (reachesIn rows a) (tab placeAt i)
+
+  pub gathering-none : Gathering 0 0
+  gathering-none = record { bits = bit-none }
+
+  pub gathering-more : (i row r : ℕ) → Gathering i row → Joined row (getD rows (placeAt i) 0) (placeAt i) r → Gathering (i + 1) r
+  gathering-more i row r g j =
+      record { bits = λ a. j .bits a ∙ ap (λ (b : Bool). b || reachesIn rows a (placeAt i)) (g .bits a) ∙ sym (any-tab-step placeAt (reachesIn rows a) i) }
+
+  pub gathering-all : (counts : List ℕ) (i row : ℕ) → i ≡ getD counts t 0 → Gathering i row → GatheredIn counts places rows t row
+  gathering-all counts i row e g = record { bits = λ a. g .bits a ∙ ap (λ (n : ℕ). any (reachesIn rows a) (tab placeAt n)) e }

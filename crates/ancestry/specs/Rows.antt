@@ -2,14 +2,14 @@
 use mathlib.Core.Bool.{Bool, true, false, _||_}
 use mathlib.Core.List.{List, map}
 use mathlib.Core.Path.{_≡_}
-use Prim.Native.Nat.{ℕ, _≤_, _<_}
+use Prim.Native.Nat.{ℕ, _+_, _*_, _≤_, _<_}
 use lib.Dec.{eqb}
 use lib.ListN.{length, getD}
 use Rattle.lists.specs.Lists.{In, any}
 use Rattle.definitions.specs.Map.{TypeMap, Declaration, declarationOf, mapOf}
 use Rattle.definitions.specs.Items.{ancestors}
 use Rattle.rows.specs.Rows.{hasBit}
-use Rattle.ordering.specs.Lists.{below}
+use Rattle.ordering.specs.Lists.{tab, below}
 use Rattle.ordering.specs.Reading.{Parent, listed, typeAt, Reads}
 use Rattle.ordering.specs.Rounds.{final, listsSelf}
 use Rattle.ordering.specs.Organized.{placesIn}
@@ -53,6 +53,20 @@ reaches rows a q = eqb (q .place) a || hasBit (getD rows (q .place) 0) a
 -- the parents of type t are declared
 pub record ParentsBelow (p : Parents) (t : ℕ) : Type 0 where
   pub lower : (q : Parent) → In q (listed p t) → q .place < p .count
+
+-- the parents of type t stand within the arrays, and their places are below 64
+pub record ListedRoom (counts places : List ℕ) (t : ℕ) : Type 0 where
+  pub type : t < 64
+  pub parents : getD counts t 0 ≤ 8
+  pub place : (i : ℕ) → i < getD counts t 0 → getD places (8 * t + i) 0 < 64
+
+-- a is the type at the place, or above it
+abbrev pub reachesIn : List ℕ → ℕ → ℕ → Bool
+reachesIn rows a place = eqb place a || hasBit (getD rows place 0) a
+
+-- the types at the places of the parents of type t, and what is above each of them
+pub record GatheredIn (counts places rows : List ℕ) (t row : ℕ) : Type 0 where
+  pub bits : (a : ℕ) → hasBit row a ≡ any (reachesIn rows a) (tab (λ i. getD places (8 * t + i) 0) (getD counts t 0))
 
 -- the parents of type t, and what is above each of them
 pub record Gathered (p : Parents) (rows : List ℕ) (t row : ℕ) : Type 0 where

@@ -6,7 +6,7 @@ ghost use mathlib.Core.Path.{_≡_};
 ghost use Prim.Native.Nat.{_<_};
 ghost use lib.ListN.{length};
 ghost use Rattle.ordering.specs.Reading.{Valid};
-ghost use Rattle.ancestry.specs.Rows.{Joined, ParentsBelow, Gathered, Ordered, Ancestors};
+ghost use Rattle.ancestry.specs.Rows.{Joined, ListedRoom, GatheredIn, Ordered, Ancestors};
 
 // Row t has bit a set exactly if type a is a proper ancestor of type t.
 pub struct Ancestry {
@@ -23,19 +23,17 @@ fn joined(row: u64, above: u64, place: usize) -> u64
     row | bit | above
 }
 
-// The row of type t, whose parents have theirs.
-fn gathered(p: Parents, rows: [u64; 64], t: usize) -> u64
-    requires { ⌜ Valid p ⌝ }
-    requires { ⌜ (t < p .count) × ParentsBelow p t ⌝ }
-    ensures { λ r. ⌜ Gathered p rows t r ⌝ }
+// The row of type t, whose parents have theirs. The parents stand in the counts and the places of `Parents`.
+fn gathered<'a>(counts: &'a [u8; 64], places: &'a [u8; 512], rows: [u64; 64], t: usize) -> u64
+    requires { ⌜ ListedRoom (now counts) (now places) t ⌝ }
+    ensures { λ r. ⌜ GatheredIn (now (counts .entry)) (now (places .entry)) rows t r ⌝ }
 {
-    let count = p.counts[t] as usize;
+    let count = counts[t] as usize;
     let base = 8 * t;
     let mut row: u64 = 0;
     let mut i = 0;
     while i < count {
-        let at = base + i;
-        let place = p.places[at] as usize;
+        let place = places[base + i] as usize;
         let above = rows[place];
         row = joined(row, above, place);
         i += 1;
@@ -65,7 +63,7 @@ pub fn find_ancestors(p: Parents, o: Order) -> Ancestry
     let mut i = 0;
     while i < count {
         let t = items[i] as usize;
-        rows[t] = gathered(p, rows, t);
+        rows[t] = gathered(&p.counts, &p.places, rows, t);
         i += 1;
     }
     Ancestry { rows: rows }

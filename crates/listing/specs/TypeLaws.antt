@@ -20,10 +20,9 @@ use Rattle.types.specs.declared.Types.{Types}
 use Rattle.types.specs.declared.Extensions.{Extensions}
 use Rattle.ordering.specs.Reading.{noType, valid}
 use Rattle.ordering.specs.declared.Parents.{Parents}
-use Rattle.ancestry.specs.Rows.{RowOf}
+use Rattle.ancestry.specs.Rows.{RowOf, ListedRoom}
+use Rattle.ancestry.specs.Gathering.{listed-room}
 use Rattle.held_laws.specs.HeldLaws.{count-parents, type-at, parents-below}
-use Rattle.above.specs.Tables.{ListedRoom}
-use Rattle.above.specs.Steps.{listed-room}
 use Rattle.own_classes.specs.OwnClasses.{OwnedOf}
 use Rattle.own_classes.specs.declared.Owned.{Owned}
 use Rattle.own_table.specs.OwnTable.{TakesOwn}

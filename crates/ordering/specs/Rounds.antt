@@ -13,7 +13,7 @@ use lib.Seq.{length-take-le}
 use Rattle.lists.specs.Lists.{any, all}
 use Rattle.lists.specs.Tests.{never, same-test, and-left, and-right, or-elim, or-left, or-right}
 use Rattle.lists.specs.Appending.{any-append}
-use Rattle.ordering.specs.Lists.{all-imp, elem, elem-left, elem-cases, all-of, tab, below, below-in, below-is, below-most, below-none, below-full, below-split}
+use Rattle.ordering.specs.Lists.{all-imp, elem, elem-left, elem-cases, all-of, tab, any-tab-same, below, below-in, below-is, below-most, below-none, below-full, below-split}
 use Rattle.ordering.specs.Reading.{Parent, parentAt, listed, selfIn, placesOf}
 use Rattle.ordering.specs.declared.Parents.{Parents}
 use Rattle.ordering.specs.declared.Placed.{Placed}
@@ -69,6 +69,19 @@ placed p (suc k) = round p (placed p k)
 -- what is placed after as many rounds as there are types
 unfoldable pub final : Parents → List ℕ
 final p = placed p (p .count)
+
+-- whether the parent at a place is `self`, and whether one of `count` from `base` on is, the arrays being held apart
+abbrev pub selfAt : ℕ → List ℕ → List ℕ → ℕ → Bool
+selfAt word firsts seconds at = eqb (getD firsts at 0) word && eqb (getD seconds at 0) 255
+
+unfoldable pub selfFrom : ℕ → List ℕ → List ℕ → ℕ → ℕ → Bool
+selfFrom word firsts seconds base count = any (selfAt word firsts seconds) (tab (λ i. base + i) count)
+
+pub self-from : (p : Parents) (t : ℕ) → any (selfIn p) (listed p t) ≡ selfFrom (p .«self_word») (p .«parent_firsts») (p .«parent_seconds») (8 * t) (getD (p .counts) t 0)
+unfolding listed selfFrom
+self-from p t =
+    any-tab-same (λ i. parentAt p (8 * t + i)) (selfIn p) (λ i. 8 * t + i) (selfAt (p .«self_word») (p .«parent_firsts») (p .«parent_seconds»)) (getD (p .counts) t 0)
+    (λ i h. refl)
 
 -- whether a parent is listed as `self`
 unfoldable pub listsSelf : Parents → Bool

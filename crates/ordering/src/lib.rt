@@ -7,8 +7,8 @@ ghost use lib.Dec.{eqb};
 ghost use lib.ListN.{length, take};
 ghost use Rattle.lists.specs.Lists.{any};
 ghost use Rattle.ordering.specs.Lists.{elem};
-ghost use Rattle.ordering.specs.Reading.{Valid, placesOf, listed, selfIn};
-ghost use Rattle.ordering.specs.Rounds.{parentsIn, allPlaced, freeIn, round, placed, final, listsSelf};
+ghost use Rattle.ordering.specs.Reading.{Valid, placesOf};
+ghost use Rattle.ordering.specs.Rounds.{parentsIn, allPlaced, freeIn, round, placed, final, selfFrom, listsSelf};
 ghost use Rattle.ordering.specs.Organized.{Organized};
 
 // The names and the parents of the types, in name order. A name is its two words, 255 for none.
@@ -193,21 +193,21 @@ pub fn place_all(p: Parents) -> Placed
     out
 }
 
-// Whether type t lists `self`.
-fn lists_self(p: Parents, t: usize) -> bool
-    requires { ⌜ Valid p ⌝ }
-    requires { ⌜ t < p .count ⌝ }
-    ensures { λ r. ⌜ r ≡ any (selfIn p) (listed p t) ⌝ }
+// Whether one of `count` parents from `base` on is `self`.
+fn lists_self<'a>(
+    firsts: &'a [u8; 512],
+    seconds: &'a [u8; 512],
+    word: u8,
+    base: usize,
+    count: usize,
+) -> bool
+    requires { ⌜ base + count ≤ 512 ⌝ }
+    ensures { λ r. ⌜ r ≡ selfFrom word (now (firsts .entry)) (now (seconds .entry)) base count ⌝ }
 {
-    let word = p.self_word;
-    let count = p.counts[t] as usize;
-    let base = 8 * t;
     let mut i = 0;
     while i < count {
         let at = base + i;
-        let first = p.parent_firsts[at];
-        let second = p.parent_seconds[at];
-        if is_self(word, first, second) {
+        if is_self(word, firsts[at], seconds[at]) {
             return true;
         }
         i += 1;
@@ -221,9 +221,11 @@ pub fn inherits_self(p: Parents) -> bool
     ensures { λ r. ⌜ r ≡ listsSelf p ⌝ }
 {
     let types = p.count;
+    let word = p.self_word;
     let mut t: usize = 0;
     while t < types {
-        if lists_self(p, t) {
+        let count = p.counts[t] as usize;
+        if lists_self(&p.parent_firsts, &p.parent_seconds, word, 8 * t, count) {
             return true;
         }
         t += 1;

@@ -8,7 +8,7 @@ ghost use mathlib.Core.Path.{_≡_};
 ghost use Prim.Native.Nat.{_<_, _≤_, _*_};
 ghost use lib.ListN.{length};
 ghost use Rattle.rows.specs.Rows.{has};
-ghost use Rattle.above.specs.Tables.{ListedRoom};
+ghost use Rattle.ancestry.specs.Rows.{ListedRoom};
 ghost use Rattle.makings.specs.Makings.{Makes};
 ghost use Rattle.facts.specs.Facts.{tableIn};
 ghost use Rattle.type_items.specs.Scenes.{SiteOf, Ready, Staged, CountsWord, CountsType, RoomForWord, RoomForType, WritesWord, WritesType};

@@ -1,79 +1,58 @@
 -- No parent passed is `self`.
 use mathlib.Core.Bool.{false}
-use mathlib.Core.Path.{_≡_, sym, _∙_}
-use Prim.Native.Nat.{_≤_, _-_, _+_, _*_}
+use mathlib.Core.Path.{_≡_, refl, sym, _∙_}
+use Prim.Native.Nat.{_≤_, _-_, _+_}
 use native.Mathlib.Omega.{arith}
 use borrow.Author.Needs.{needs}
-use lib.ListN.{getD}
-use Rattle.lists.specs.Lists.{any}
 use Rattle.ordering.specs.Lists.{tab, any-tab-step, any-tab-at}
-use Rattle.ordering.specs.Reading.{parentAt, listed, selfIn}
+use Rattle.ordering.specs.Rounds.{selfAt, selfFrom}
 use Rattle.ordering.proofs.lists_self.Statement.{statement}
 use Rattle.ordering.proofs.lists_self.Tie as tie
 
 abbrev Inv-loop : tie.InvT-loop
-Inv-loop t p word count base i₀ i = (i ≤ count) × (any (selfIn p) (tab (λ k. parentAt p (8 * t + k)) i) ≡ false)
+Inv-loop firsts seconds word base count i₀ i = (i ≤ count) × (selfFrom word firsts seconds base i ≡ false)
 
 abbrev μ-loop : tie.MeasureT-loop
-μ-loop t p word count base i₀ i = count - i
-
-element-copy-out-count : tie.Need-element-copy-out-count Inv-loop μ-loop
-element-copy-out-count c = search needs
-
-cast-count : tie.Need-cast-count Inv-loop μ-loop
-cast-count c = search needs
-
-mul-base : tie.Need-mul-base Inv-loop μ-loop
-mul-base c = search needs
+μ-loop firsts seconds word base count i₀ i = count - i
 
 loop-holds : tie.Need-loop-holds Inv-loop μ-loop
-loop-holds c = search needs
+unfolding selfFrom
+loop-holds c = (omega arith, refl)
 
 add-at : tie.Need-add-at Inv-loop μ-loop
-add-at c =
-    let s = c .before .before .before in
-    omega (arith, s .pre .0 .types, s .pre .0 .parents _ (s .pre .1))
+add-at c = omega arith
 
-element-copy-out-first : tie.Need-element-copy-out-first Inv-loop μ-loop
-element-copy-out-first c =
-    let s = c .before .before .before in
-    omega (arith, s .pre .0 .types, s .pre .0 .parents _ (s .pre .1))
+element-copy-out-is-self : tie.Need-element-copy-out-is-self Inv-loop μ-loop
+element-copy-out-is-self c = omega arith
 
-element-copy-out-second : tie.Need-element-copy-out-second Inv-loop μ-loop
-element-copy-out-second c =
-    let s = c .before .before .before .before in
-    omega (arith, s .pre .0 .types, s .pre .0 .parents _ (s .pre .1))
+element-copy-out-is-self-2 : tie.Need-element-copy-out-is-self-2 Inv-loop μ-loop
+element-copy-out-is-self-2 c = omega arith
 
 is-self-requires : tie.Need-is-self-requires Inv-loop μ-loop
 is-self-requires c κs = search needs
 
 returns : tie.Need-returns Inv-loop μ-loop
-unfolding listed
+unfolding selfFrom
 returns c =
-    let s = c .before .before .before .before .before .before .before in
-    let a = s .args in
-    let i = c .before .before .before .before .before .loop .i in
-    sym (any-tab-at (λ k. parentAt (a .t1) (8 * a .t + k)) (selfIn (a .t1)) _ i (c .before .before .before .before .loop-test .taken) (sym (c .before .is-self .ensures) ∙ c .if1 .taken))
+    let a = c .before .before .before .before .before .before .args in
+    sym (any-tab-at (λ k. a .base + k) (selfAt (a .word) (a .firsts .now) (a .seconds .now)) (a .count) (c .before .before .before .before .before .loop .i) (c .before .before .before .before .loop-test .taken) (sym (c .before .is-self .ensures) ∙ c .if1 .taken))
 
 add-i : tie.Need-add-i Inv-loop μ-loop
-add-i c =
-    let s = c .before .before .before .before .before .before .before in
-    omega (arith, s .pre .0 .types, s .pre .0 .parents _ (s .pre .1))
+add-i c = omega arith
 
 loop-less : tie.Need-loop-less Inv-loop μ-loop
 loop-less c = omega arith
 
 loop-again : tie.Need-loop-again Inv-loop μ-loop
+unfolding selfFrom
 loop-again c =
-    let s = c .before .before .before .before .before .before .before in
-    let a = s .args in
+    let a = c .before .before .before .before .before .before .args in
     let q = c .before .before .before .before .before .loop in
-    (omega arith, rw (any-tab-step (λ k. parentAt (a .t1) (8 * a .t + k)) (selfIn (a .t1)) (q .i), q .inv .1) (sym (c .before .is-self .ensures) ∙ c .if1 .left))
+    (omega arith, rw (any-tab-step (λ k. a .base + k) (selfAt (a .word) (a .firsts .now) (a .seconds .now)) (q .i), q .inv .1) (sym (c .before .is-self .ensures) ∙ c .if1 .left))
 
 returns-2 : tie.Need-returns-2 Inv-loop μ-loop
-unfolding listed
 returns-2 c =
-    let e : c .before .loop .i ≡ getD (c .before .before .before .args .t1 .counts) (c .before .before .before .args .t) 0 = omega arith in
+    let e : c .before .loop .i ≡ c .before .before .args .count = omega arith in
     rw (← e) (sym (c .before .loop .inv .1))
 
 pub lists-self-spec : {M : Type 1} → statement M
@@ -82,13 +61,10 @@ lists-self-spec =
     (tie.spec
     Inv-loop
     μ-loop
-    element-copy-out-count
-    cast-count
-    mul-base
     loop-holds
     add-at
-    element-copy-out-first
-    element-copy-out-second
+    element-copy-out-is-self
+    element-copy-out-is-self-2
     is-self-requires
     returns
     add-i
