@@ -1,5 +1,5 @@
 -- Test by test, what the definitions answer to either call.
-use mathlib.Core.Bool.{Bool, true, false, not, cond}
+use mathlib.Core.Bool.{Bool, true, false, not}
 use mathlib.Core.List.{List, [], _∷_, _++_}
 use mathlib.Core.Logic.{⊎-elim}
 use mathlib.Core.Path.{_≡_, refl, sym, ap, _∙_}
@@ -11,7 +11,7 @@ use Rattle.lists.specs.Lists.{null}
 use Rattle.lists.specs.Tests.{by}
 use Rattle.definitions.specs.Bits.{bitsOf, size, pack}
 use Rattle.definitions.specs.Records.{Sheet}
-use Rattle.definitions.specs.Parse.{Parsed, done, refused}
+use Rattle.definitions.specs.Parse.{done, refused}
 use Rattle.definitions.specs.Reading.{sheet}
 use Rattle.definitions.specs.Checks.{badFill, badWords, somethingTwice}
 use Rattle.definitions.specs.Map.{TypeMap, typeMapOf}

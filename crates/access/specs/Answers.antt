@@ -1,5 +1,5 @@
 -- What the answers mean: 01's number, size, row count and flag for each case; 'parts of the answer not named are 0'.
-use mathlib.Core.Bool.{Bool, false}
+use mathlib.Core.Bool.{false}
 use mathlib.Core.List.{List}
 use Prim.Native.Nat.{ℕ}
 use Rattle.definitions.specs.Answer as rules

@@ -5,10 +5,8 @@ use mathlib.Core.Path.{_≡_, sym, ap, _∙_}
 use Prim.Native.Nat.{ℕ, _<_}
 use borrow.Author.Tests.{ltb-true, not-true, not-false}
 use lib.Dec.{ltb}
-use lib.ListN.{length, getD, take}
 use Rattle.lists.specs.Tests.{by}
 use Rattle.lists.specs.Appending.{map-checked}
-use Rattle.definitions.specs.Bits.{size, pack}
 use Rattle.definitions.specs.Map.{TypeMap}
 use Rattle.definitions.specs.Order.{organizeTypeMap}
 use Rattle.definitions.specs.Packing.{orderBits}

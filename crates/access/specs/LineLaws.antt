@@ -5,7 +5,6 @@ use mathlib.Core.Logic.{⊎-elim}
 use mathlib.Core.Path.{_≡_, refl, sym, ap, _∙_}
 use Prim.Native.Nat.{ℕ, _≤_}
 use borrow.Author.Tests.{ltb-false, not-false}
-use lib.Dec.{eqb, ltb}
 use lib.ListN.{length}
 use Rattle.lists.specs.Lists.{null}
 use Rattle.lists.specs.Tests.{never, null-nil}
@@ -14,12 +13,11 @@ use Rattle.definitions.specs.Records.{Sheet}
 use Rattle.definitions.specs.Parse.{Parsed, done, refused}
 use Rattle.definitions.specs.Reading.{sheet}
 use Rattle.definitions.specs.Checks.{badFill, badWords, somethingTwice}
-use Rattle.definitions.specs.Map.{TypeMap, typeMapOf}
+use Rattle.definitions.specs.Map.{typeMapOf}
 use Rattle.definitions.specs.Order.{hasOrder}
 use Rattle.definitions.specs.Packing.{scheduleBits}
 use Rattle.definitions.specs.Relisted.{Holds}
 use Rattle.definitions.specs.Answer.{schedule, Input, Outcome, refusedBy, restOf, sheetOf, scheduleOf, synthesisRows, overwrite, refusals, accept, firstRefusal, mapIn, outcome}
-use Rattle.line_laws.specs.Statements.{Readable, lineMap, Accepted}
 use Rattle.line_laws.specs.Refused.{accepted-is-tested}
 use Rattle.line_laws.specs.Lines.{items-are-lines}
 use Rattle.line_laws.specs.Once.{items-once}

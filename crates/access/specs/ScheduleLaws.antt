@@ -24,7 +24,7 @@ use Rattle.line_laws.specs.Statements.{lineMap, anyRefused}
 use Rattle.synthesis_laws.specs.Rows.{rows-are-tested}
 use Rattle.access.specs.declared.Answer.{Answer}
 use Rattle.access.specs.Answers.{outcomeOf}
-use Rattle.access.specs.Ending.{listed, ended, Unordered, answerFor}
+use Rattle.access.specs.Ending.{ended, Unordered, answerFor}
 use Rattle.access.specs.EndLaws.{unordered-so, listed-so}
 use Rattle.access.specs.Starting.{Starts, Started, rowsOf, Rows}
 

@@ -1,5 +1,5 @@
 -- What tests 1 to 7 leave, and what the compact form makes of it.
-use mathlib.Core.Bool.{Bool, true, false}
+use mathlib.Core.Bool.{false}
 use mathlib.Core.List.{List}
 use mathlib.Core.Path.{_≡_, sym, ap, _∙_}
 use Prim.Native.Nat.{ℕ, _≤_, _<_}
@@ -23,7 +23,7 @@ use Rattle.decoding.specs.Decoding.{turnedBack, whole, decoded}
 use Rattle.decoding.specs.Answers.{mapIn, decodedOf}
 use Rattle.decoding.specs.DecodingLaws.{whole-is-held}
 use Rattle.access.specs.Answers.{inputOf}
-use Rattle.access.specs.Ending.{ended, Ended}
+use Rattle.access.specs.Ending.{Ended}
 use Rattle.access.specs.Starting.{Starts, Scheduled}
 use Rattle.access.specs.Testing.{early, Passed, Tests}
 use Rattle.access.specs.AnswerLaws.{untouched, one, two, turned, remains}

@@ -1,21 +1,19 @@
 -- In the order each parent stands before its children.
-use mathlib.Core.Bool.{Bool, true, false, _&&_, _||_, not}
-use mathlib.Core.List.{List, _∷_, _++_}
-use mathlib.Core.Logic.{_⊎_, inl, inr, ⊎-elim}
+use mathlib.Core.Bool.{true, false, not}
+use mathlib.Core.List.{List, _++_}
 use mathlib.Core.Path.{_≡_, refl, sym, ap, _∙_, subst}
 use Prim.Native.Nat.{ℕ, zero, suc, _+_, _-_, _≤_, _<_}
 use native.Mathlib.Omega.{arith}
-use native.Mathlib.Numerals.{add-one}
-use borrow.Author.Tests.{eqb-true, eqb-false, eq-eqb, ltb-true, ltb-false}
+use borrow.Author.Tests.{eqb-true, eqb-false, ltb-true, ltb-false}
 use lib.Dec.{eqb, ltb}
 use lib.ListN.{length, getD, take, set, length-append, List·getD-append}
 use lib.Seq.{take-append-le, take-append-add, getD-append-add, getD-set-same, getD-set-other, take-all}
-use Rattle.lists.specs.Lists.{In, any, all}
-use Rattle.ordering.specs.Lists.{all-imp, elem, elem-left, elem-cases, elem-step, elem-at, any-tab-out, tab, below-is}
+use Rattle.lists.specs.Lists.{In, any}
+use Rattle.ordering.specs.Lists.{all-imp, elem, elem-left, elem-step, elem-at, any-tab-out, below-is}
 use Rattle.ordering.specs.Reading.{Parent, listed, selfIn, Reads}
 use Rattle.ordering.specs.Rounds.{settled, isReady, free, next, round, placed, final, listsSelf, earlier, count-full}
 use Rattle.ordering.specs.Names.{whole-order, no-self}
-use Rattle.ordering.specs.Organized.{placesIn, Organized}
+use Rattle.ordering.specs.Organized.{Organized}
 use Rattle.ordering.specs.declared.Parents.{Parents}
 use Rattle.ordering.specs.declared.Order.{Order}
 use Rattle.lists.specs.Tests as tests

@@ -1,5 +1,5 @@
 -- A row that is gathered parent by parent.
-use mathlib.Core.Bool.{Bool, false, _||_, or-assoc}
+use mathlib.Core.Bool.{Bool, _||_, or-assoc}
 use mathlib.Core.List.{List, _∷_, List·Memᴰ·head, Memᴰ·append-right}
 use mathlib.Core.Path.{_≡_, refl, sym, ap, _∙_, subst}
 use Prim.Native.Nat.{ℕ, _+_, _*_, _%_, _^_, _≤_, _<_}

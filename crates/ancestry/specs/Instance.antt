@@ -1,13 +1,12 @@
 -- A map, its compact form and its order: what the code asks is no empty demand, and the rows are what it makes.
 -- Type `a`, type `b` under `a`, type `c` under `b`, listed twice.
-use mathlib.Core.Bool.{true, false}
+use mathlib.Core.Bool.{true}
 use mathlib.Core.List.{List, [], _∷_, _++_}
 use mathlib.Core.Path.{_≡_, refl}
 use Prim.Native.Nat.{ℕ, zero, suc, _<_}
 use native.Mathlib.Omega.{arith}
 use lib.ListN.{replicate}
 use Rattle.lists.specs.Tests.{cons-elim}
-use Rattle.definitions.specs.Orders.{sameName}
 use Rattle.definitions.specs.Map.{TypeMap, declarationOf, mapOf}
 use Rattle.definitions.specs.Items.{parentsOf, reached, ancestors}
 use Rattle.rows.specs.Rows.{hasBit}

@@ -1,28 +1,28 @@
 -- From names to places: the row that is gathered from the parents' rows has the ancestors.
-use mathlib.Core.Bool.{Bool, true, false, _&&_, _||_}
+use mathlib.Core.Bool.{Bool, true, _&&_}
 use mathlib.Core.List.{List, map, Memᴰ·map, Memᴰ·of-map}
 use mathlib.Core.Logic.{_⊎_, inl, inr, ⊎-elim, _↔_}
 use mathlib.Core.Path.{_≡_, refl, sym, ap, _∙_, subst}
-use Prim.Native.Nat.{ℕ, _≤_, _<_}
+use Prim.Native.Nat.{ℕ, _<_}
 use native.Mathlib.Omega.{arith}
 use lib.Dec.{eqb}
-use lib.ListN.{length, getD}
+use lib.ListN.{getD}
 use borrow.Author.Tests.{eq-eqb, ne-eqb, eqb-true}
-use Rattle.lists.specs.Lists.{In, any, filter}
+use Rattle.lists.specs.Lists.{In, filter}
 use Rattle.lists.specs.Tests.{same-test, or-cases, or-left, or-right, any-in, any-of, any-none, filter-in, filter-of}
 use Rattle.lists.specs.Lexicographic.{same-numbers, numbers-same}
 use Rattle.lists.specs.Appending.{map-map}
-use Rattle.definitions.specs.Records.{Name, TypeInfo}
+use Rattle.definitions.specs.Records.{Name}
 use Rattle.definitions.specs.Orders.{sameName, elemName}
-use Rattle.definitions.specs.Map.{TypeMap, Declaration, Map, declarationOf, mapOf}
+use Rattle.definitions.specs.Map.{TypeMap, Declaration, declarationOf, mapOf}
 use Rattle.definitions.specs.Items.{parentsOf, ancestors}
 use Rattle.rows.specs.Rows.{hasBit}
-use Rattle.ordering.specs.Lists.{elem, below, below-in, below-is, below-same, filter-below}
+use Rattle.ordering.specs.Lists.{below, below-in, below-is, below-same, filter-below}
 use Rattle.ordering.specs.Reading.{Parent, listed, typeAt, placeIn, parentIn, Reads}
 use Rattle.ordering.specs.Names.{place-same, types-are}
 use Rattle.ordering.specs.declared.Parents.{Parents}
 use Rattle.ancestry.specs.Rows.{declarationAt, typesIn, RowOf, Ancestors, reaches, Gathered}
-use Rattle.ancestry.specs.Unroll.{ancestors-filtered, OneName, Above, ancestor-above, above-ancestor}
+use Rattle.ancestry.specs.Unroll.{ancestors-filtered, OneName, ancestor-above, above-ancestor}
 
 -- ---- members of `below`
 

@@ -1,7 +1,6 @@
 -- In a map no two of whose types have one name, an ancestor of T is a parent of T or an ancestor of one.
 use mathlib.Core.Bool.{Bool, true, _||_}
-use mathlib.Core.List.{List}
-use mathlib.Core.Logic.{_⊎_, inl, inr, ⊎-elim, _↔_}
+use mathlib.Core.Logic.{_⊎_, inl, inr, ⊎-elim}
 use mathlib.Core.Path.{_≡_, refl, sym, subst}
 use Prim.Native.Nat.{ℕ, zero, suc}
 use lib.ListN.{length}

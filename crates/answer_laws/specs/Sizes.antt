@@ -1,9 +1,9 @@
 -- Every part of an answer fits 32 bits, whatever the input: so a caller in C or Rust can be given three numbers of 32 bits.
-use mathlib.Core.Bool.{Bool, true, false}
+use mathlib.Core.Bool.{Bool}
 use mathlib.Core.List.{List, [], _∷_, _++_}
 use mathlib.Core.Logic.{⊎-elim}
 use mathlib.Core.Path.{_≡_, refl, sym, ap, _∙_, subst}
-use Prim.Native.Nat.{ℕ, _+_, _*_, _/_, _^_, _≤_, _<_}
+use Prim.Native.Nat.{ℕ, _+_, _*_, _≤_}
 use native.Mathlib.Omega.{arith}
 use lib.Dec.{ltb}
 use lib.ListN.{length, take, drop, length-append}
@@ -17,7 +17,7 @@ use Rattle.definitions.specs.Map.{TypeMap, typeMapOf}
 use Rattle.definitions.specs.Order.{organizeTypeMap}
 use Rattle.definitions.specs.Legal.{Every}
 use Rattle.definitions.specs.Packing.{orderBits, scheduleBits, countedBits, itemBits}
-use Rattle.definitions.specs.Answer.{standard, Call, schedule, order, Input, Refusal, refusedBy, sheetOf, itemsFor, scheduleOf, bitsWritten, refusals, refuse, accept, firstRefusal, mapIn, outcome}
+use Rattle.definitions.specs.Answer.{Call, schedule, order, Input, Refusal, refusedBy, sheetOf, itemsFor, scheduleOf, bitsWritten, refusals, refuse, accept, firstRefusal, mapIn, outcome}
 use Rattle.bits.specs.NumberLaws.{length-packTo}
 use Rattle.line_laws.specs.Statements.{Readable}
 use Rattle.line_laws.specs.Within.{Within}

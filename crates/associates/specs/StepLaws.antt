@@ -1,18 +1,18 @@
 -- Laws of one word of an annotation.
 use mathlib.Core.Bool.{Bool, true, false, cond}
-use mathlib.Core.List.{List, [], _∷_, _++_}
+use mathlib.Core.List.{List, [], _∷_}
 use mathlib.Core.Path.{_≡_, refl, sym, ap, _∙_, subst}
-use Prim.Native.Nat.{ℕ, zero, suc, _+_, _≤_, _<_}
+use Prim.Native.Nat.{ℕ, _≤_}
 use native.Mathlib.Omega.{arith}
 use lib.ListN.{length, getD, length-append}
 use Rattle.lists.specs.Lists.{null, filter, firstOf}
 use Rattle.lists.specs.Tests.{never}
 use Rattle.rows.specs.declared.Row.{Row}
-use Rattle.definitions.specs.Records.{Name, Mark, AssociatedResource, Item, synthesized, extension}
+use Rattle.definitions.specs.Records.{Name, Mark, Item, synthesized, extension}
 use Rattle.definitions.specs.Map.{Map, Declaration}
-use Rattle.definitions.specs.Making.{declared, classNames, isResource, extensionParents, marksOf, createSyntheticResource}
+use Rattle.definitions.specs.Making.{extensionParents, createSyntheticResource}
 use Rattle.definitions.specs.Packing.{rowBytes}
-use Rattle.definitions.specs.Synthesis.{Verdict, unknownClasses, ends, noResource, duplicate, makes, judge, classRow, isDuplicate, withMaking, Interpreted, interpreted, behindRow, behindRows, firstParents, interpretWords}
+use Rattle.definitions.specs.Synthesis.{Verdict, unknownClasses, ends, noResource, duplicate, makes, judge, classRow, isDuplicate}
 use Rattle.fields.specs.Fields.{twoWords}
 use Rattle.making.specs.Making as making
 use Rattle.making.specs.Making.{itemOf}
@@ -24,10 +24,9 @@ use Rattle.synthetic.specs.Made.{classesOf, firstsOf, Fits, created}
 use Rattle.interpretation.specs.Emit.{emitBytes, emit, name-bytes}
 use Rattle.interpretation.specs.Judged.{isUnknown, isOther}
 use Rattle.interpretation.specs.JudgedLaws.{row-bytes}
-use Rattle.duplicates.specs.Held.{heldItems}
 use Rattle.emitting.specs.Emitting.{State}
 use Rattle.emitting.specs.Emitting as emitting
-use Rattle.associates.specs.Step.{Reached, rowsIn, endsIn, failsIn, itemsIn, verdictOf, SteppedBy}
+use Rattle.associates.specs.Step.{Reached, verdictOf, SteppedBy}
 
 -- ---- the verdict
 

@@ -1,8 +1,7 @@
 -- The words of an annotation, one after the other: the definitions' recursion goes by the verdict of each word.
 use mathlib.Core.Bool.{Bool, true, false, cond}
-use mathlib.Core.List.{List, [], _∷_, _++_, map, append-nil}
+use mathlib.Core.List.{List, [], _∷_, map, append-nil}
 use mathlib.Core.Path.{_≡_, refl, sym, ap}
-use Prim.Native.Nat.{ℕ}
 use Rattle.lists.specs.Lists.{null, filter, firstOf}
 use Rattle.definitions.specs.Records.{Name, AssociatedResource, Item}
 use Rattle.definitions.specs.Map.{Map, Declaration}

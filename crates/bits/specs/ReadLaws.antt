@@ -13,7 +13,6 @@ use lib.Seq
 use Rattle.definitions.specs.Bits.{bit, toBits, bitsOf, num}
 use Rattle.definitions.specs.Parse.{Parsed, done, refused, fieldOnto, field}
 use Rattle.bits.specs.declared.Cursor.{Cursor}
-use Rattle.bits.specs.declared.Read.{Read}
 use Rattle.bits.specs.declared.Read.the-variants.{Value, Past}
 use Rattle.bits.specs.Reading.{readAt, pickRead, ofRead}
 use Rattle.bits.specs.NumberLaws.{length-toBits, length-bitsOf, num-lt, num-toBits}

@@ -6,7 +6,6 @@ use lib.Dec.{leb}
 use lib.ListN.{length, drop}
 use Rattle.definitions.specs.Bits.{num}
 use Rattle.definitions.specs.Parse.{Parsed, done, refused}
-use Rattle.bits.specs.declared.Cursor.{Cursor}
 use Rattle.bits.specs.declared.Read.{Read}
 use Rattle.bits.specs.declared.Read.the-variants.{Value, Past}
 

@@ -2,16 +2,14 @@
 use mathlib.Core.Bool.{Bool, true, false}
 use mathlib.Core.List.{List, []}
 use mathlib.Core.Path.{_≡_, refl, sym, ap, _∙_}
-use Prim.Native.Nat.{ℕ, _≤_}
-use lib.ListN.{length}
+use Prim.Native.Nat.{ℕ}
 use Rattle.lists.specs.Tests.{by, never}
 use Rattle.definitions.specs.Bits.{bitsOf}
 use Rattle.definitions.specs.Parse.{Parsed, done, refused}
 use Rattle.definitions.specs.Records.{Sheet}
 use Rattle.definitions.specs.Reading.{sheet}
 use Rattle.definitions.specs.Checks.{badFill, badWords, somethingTwice}
-use Rattle.definitions.specs.Map.{TypeMap, typeMapOf}
-use Rattle.definitions.specs.Relisted.{Holds}
+use Rattle.definitions.specs.Map.{TypeMap}
 use Rattle.decoding.specs.Decoding.{Decoding, turnedBack, whole, wholeOf, tested, ofParsed, decoded}
 use Rattle.decoding.specs.Statements.{HeldIsWhole, Held, WholeIsHeld, Why, unread, fill, words, twice, TurnedBackWhy}
 

@@ -1,17 +1,16 @@
 -- Laws of held makings.
-use mathlib.Core.Bool.{Bool, true, false, _&&_, _||_, not, cond, or-false, or-assoc, and-false}
+use mathlib.Core.Bool.{Bool, true, false, _&&_, _||_, not, or-false, and-false}
 use mathlib.Core.List.{List, [], _∷_, _++_}
-use mathlib.Core.Path.{_≡_, refl, sym, ap, ap₂, _∙_}
+use mathlib.Core.Path.{_≡_, refl, sym, ap, _∙_}
 use Prim.Native.Nat.{ℕ, zero, suc, _+_, _*_, _≤_, _<_}
 use native.Mathlib.Numerals.{add-one}
 use native.Mathlib.Omega.{arith}
-use borrow.Author.Tests.{ne-eqb, eq-eqb, eqb-true, eqb-false, lt-ltb, le-ltb}
+use borrow.Author.Tests.{ne-eqb, eqb-true, eqb-false}
 use lib.Dec.{eqb, ltb}
 use lib.ListN.{length, getD, set, length-set}
 use lib.Seq
-use Rattle.lists.specs.Lists.{any, null, keep, sameList}
-use Rattle.lists.specs.Tests.{by, never, not-so}
-use Rattle.lists.specs.Lexicographic.{same-numbers}
+use Rattle.lists.specs.Lists.{any, null, keep}
+use Rattle.lists.specs.Tests.{by}
 use Rattle.lists.specs.Appending.{any-append}
 use Rattle.rows.specs.declared.Row.{Row}
 use Rattle.definitions.specs.Records.{Name, Mark, Item, synthesized, extension}
@@ -21,7 +20,7 @@ use Rattle.definitions.specs.Making.{declared, createSyntheticResource, extensi
 use Rattle.definitions.specs.Synthesis.{withMaking}
 use Rattle.fields.specs.Fields.{optional, twoWords}
 use Rattle.table.specs.declared.Table.{Table}
-use Rattle.table.specs.Table.{nameAt, declarationAt, tableMap, Sound, Finds, typeAt}
+use Rattle.table.specs.Table.{nameAt, declarationAt, tableMap, Sound, Finds}
 use Rattle.table.specs.TableLaws.{declared-at, none-there}
 use Rattle.synthetic.specs.Made.{Fits, created}
 use Rattle.store.specs.Store.{rowAt, putRow}

@@ -1,7 +1,6 @@
 -- What the exported calls answer: the number is returned, and the size, the count of rows and the flag go into a lent slice of three numbers.
 use mathlib.Core.Bool.{Bool, true, false, cond}
 use mathlib.Core.List.{List, [], _∷_}
-use mathlib.Core.Path.{_≡_}
 use Prim.Native.Nat.{ℕ, _^_, _<_}
 use lib.Dec.{eqb, ltb}
 use lib.ListN.{length}

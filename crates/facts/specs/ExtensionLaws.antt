@@ -1,7 +1,7 @@
 -- Extensions that are put, place by place.
-use mathlib.Core.Bool.{Bool, cond}
+use mathlib.Core.Bool.{cond}
 use mathlib.Core.List.{List}
-use mathlib.Core.Path.{_≡_, refl, sym, ap, ap₂, _∙_}
+use mathlib.Core.Path.{_≡_, refl, ap, ap₂, _∙_}
 use Prim.Native.Nat.{ℕ, _+_, _*_, _≤_, _<_}
 use native.Mathlib.Omega.{arith}
 use borrow.Author.Tests.{eqb-true, eqb-false, ltb-true}
@@ -28,7 +28,7 @@ use Rattle.facts.specs.FactLaws.{
   parent-second,
 }
 use Rattle.facts.specs.Laying.{Copied, ExtensionLaid, ExtensionsLaid, FewExtensions, Headed}
-use Rattle.facts.specs.LayingLaws.{kept, keeps-set, keeps-more, four, four-put}
+use Rattle.facts.specs.LayingLaws.{kept, keeps-more, four, four-put}
 
 -- ---- an extension
 

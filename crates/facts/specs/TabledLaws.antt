@@ -1,12 +1,11 @@
 -- The bytes that hold all the types and the extensions are their table.
 use mathlib.Core.List.{List}
 use mathlib.Core.Path.{_≡_, refl, sym, ap, _∙_, subst}
-use Prim.Native.Nat.{ℕ, _≤_, _<_}
+use Prim.Native.Nat.{ℕ, _≤_}
 use native.Mathlib.Omega.{arith}
-use lib.ListN.{length, getD}
 use Rattle.lists.specs.Tabulating.{tabulate-same}
 use Rattle.definitions.specs.Records as records
-use Rattle.types.specs.Types.{typeInfoOf, zeroType, ofTypes}
+use Rattle.types.specs.Types.{ofTypes}
 use Rattle.types.specs.Extensions.{ofExtensions}
 use Rattle.types.specs.declared.Types.{Types}
 use Rattle.types.specs.declared.Extensions.{Extensions}

@@ -2,17 +2,17 @@
 use mathlib.Core.Bool.{Bool, true, false, _&&_, cond, and-true}
 use mathlib.Core.List.{List, [], _∷_, _++_}
 use mathlib.Core.Path.{_≡_, refl, sym, ap, ap₂, _∙_}
-use Prim.Native.Nat.{ℕ, zero, suc, _+_, _^_, _≤_, _<_}
+use Prim.Native.Nat.{ℕ, _+_, _≤_, _<_}
 use native.Mathlib.Omega.{arith}
 use borrow.Author.Tests.{leb-true, ltb-true, eqb-true, eqb-false, eq-eqb, ne-eqb}
 use lib.Dec.{leb, ltb, eqb}
-use lib.ListN.{length, getD, set, drop}
+use lib.ListN.{length, getD, set}
 use lib.Seq
 use Rattle.lists.specs.Lists.{sameList}
 use Rattle.lists.specs.Tabulating.{tabulate-set, length-tabulate}
 use Rattle.lists.specs.Tests.{and-left, and-right}
 use Rattle.definitions.specs.Orders.{sameName}
-use Rattle.definitions.specs.Parse.{Parsed, done, refused, Parser, next, pure, refuse, choose, field, allowed, between, repeatOnto, repeat, counted}
+use Rattle.definitions.specs.Parse.{Parsed, done, refused, Parser, next, pure, refuse, choose, field, allowed, between, repeat, counted}
 use Rattle.definitions.specs.Reading.{wordField}
 use Rattle.fields.specs.ParseLaws.{repeat-length}
 use Rattle.fields.specs.Fields.{ofByte, ofWordIfFlag, twoWords, nameOf, ofNames}

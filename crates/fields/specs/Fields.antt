@@ -1,5 +1,5 @@
 -- What the answers of the code mean: each as the definitions' parsers give it, for the bits bs of the sheet.
-use mathlib.Core.Bool.{Bool, true, false, cond}
+use mathlib.Core.Bool.{Bool, cond}
 use mathlib.Core.List.{List, [], _∷_}
 use Prim.Native.Nat.{ℕ}
 use lib.Dec.{eqb}

@@ -1,14 +1,12 @@
 -- Laws of the definitions' parsers.
-use mathlib.Core.Bool.{Bool, true, false, _&&_}
+use mathlib.Core.Bool.{Bool}
 use mathlib.Core.List.{List, [], _∷_, _++_, map, map-append}
 use mathlib.Core.Path.{_≡_, refl, sym, ap, _∙_}
-use Prim.Native.Nat.{ℕ, zero, suc, _+_, _-_, _^_, _≤_, _<_}
+use Prim.Native.Nat.{ℕ, zero, suc, _+_, _-_, _≤_, _<_}
 use native.Mathlib.Numerals.{sub-one}
 use native.Mathlib.Omega.{arith}
-use borrow.Author.Tests.{leb-true, ltb-true}
-use lib.Dec.{leb, ltb}
 use lib.ListN.{length, length-append}
-use Rattle.definitions.specs.Parse.{Parsed, done, refused, Parser, next, pure, refuse, choose, field, allowed, between, repeatOnto, repeat, counted}
+use Rattle.definitions.specs.Parse.{Parsed, done, refused, Parser, next, pure, between, repeatOnto, repeat, counted}
 
 -- ---- repetition
 

@@ -11,8 +11,8 @@ use Rattle.lists.specs.Lists.{sameList}
 use Rattle.lists.specs.Tests.{by, never, not-so, and-right}
 use Rattle.lists.specs.Tabulating.{tabulate, tabulate-more, length-tabulate}
 use Rattle.definitions.specs.Orders.{sameName}
-use Rattle.fields.specs.Fields.{optional, twoWords}
-use Rattle.definitions.specs.Records.{Item, Mark, makelistMark, deriveMark}
+use Rattle.fields.specs.Fields.{optional}
+use Rattle.definitions.specs.Records.{makelistMark}
 use Rattle.definitions.specs.Making.{sameMark, sameItem}
 use Rattle.making.specs.declared.Parent.{Parent}
 use Rattle.making.specs.declared.Making.{Making}

@@ -1,5 +1,5 @@
 -- What `interpret_associate` finds of a word's classes, over a table.
-use mathlib.Core.Bool.{Bool, true, false, _&&_, not, cond}
+use mathlib.Core.Bool.{Bool, not, cond}
 use mathlib.Core.List.{List, [], _∷_, map}
 use Prim.Native.Nat.{ℕ}
 use lib.Dec.{ltb}
@@ -13,7 +13,6 @@ use Rattle.definitions.specs.Orders.{dotted}
 use Rattle.definitions.specs.Making.{declared, isResource}
 use Rattle.table.specs.declared.Table.{Table}
 use Rattle.table.specs.Table.{tableMap}
-use Rattle.synthetic.specs.Made.{classesOf}
 
 abbrev pub className : ℕ → ℕ → Name
 className word k = dotted (domAt k) word

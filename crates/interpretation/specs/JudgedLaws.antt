@@ -1,34 +1,31 @@
 -- Laws of a word's classes.
-use mathlib.Core.Bool.{Bool, true, false, _&&_, not, cond}
-use mathlib.Core.List.{List, [], _∷_, _++_, map}
+use mathlib.Core.Bool.{Bool, true, false, _&&_, not}
+use mathlib.Core.List.{List, [], _∷_, map}
 use mathlib.Core.Path.{_≡_, refl, sym, ap, _∙_}
 use Prim.Native.Nat.{ℕ, zero, suc, _+_, _-_, _≤_, _<_}
 use native.Mathlib.Omega.{arith}
-use borrow.Author.Tests.{lt-ltb, le-ltb, ltb-true, ltb-false, eq-eqb, ne-eqb, lt-leb, le-leb}
+use borrow.Author.Tests.{le-ltb, ltb-true, ltb-false, ne-eqb, lt-leb, le-leb}
 use lib.Dec.{eqb, ltb, leb}
 use lib.ListN.{getD, length}
-use Rattle.lists.specs.Lists.{null, all, filter, firstOf}
+use Rattle.lists.specs.Lists.{all, filter, firstOf}
 use Rattle.lists.specs.Tests.{by, never}
 use Rattle.emitting.specs.Emitting as emitting
 use Rattle.rows.specs.declared.Row.{Row}
 use Rattle.rows.specs.Rows.{has}
-use Rattle.rows.specs.Lists.{between}
-use Rattle.annotations.specs.Reading.{domAt, domsOf}
 use Rattle.definitions.specs.Records.{Name}
-use Rattle.definitions.specs.Orders.{dotted}
-use Rattle.definitions.specs.Making.{declared, isResource, isResourceVariant}
+use Rattle.definitions.specs.Making.{declared, isResourceVariant}
 use Rattle.definitions.specs.Map.{Declaration}
 use Rattle.definitions.specs.Packing.{rowBytes}
 use Rattle.definitions.specs.Synthesis.{classRow}
 use Rattle.fields.specs.Fields.{twoWords}
 use Rattle.types.specs.Types.{variantOf}
 use Rattle.table.specs.declared.Table.{Table}
-use Rattle.table.specs.Table.{declarationAt, tableMap, Sound, typeAt}
+use Rattle.table.specs.Table.{declarationAt, Sound}
 use Rattle.table.specs.TableLaws.{declared-at}
 use Rattle.synthetic.specs.Made.{ClassAt, classesOf}
 use Rattle.synthetic.specs.MadeLaws.{between-step, between-end, class-names}
 use Rattle.interpretation.specs.Emit.{emitBytes, emit, name-bytes}
-use Rattle.interpretation.specs.Judged.{className, isUnknown, isOther, classesWith, classIf}
+use Rattle.interpretation.specs.Judged.{className, isUnknown, isOther, classesWith}
 
 -- all classes
 pub classes-with : (f : Name → Bool) (doms : Row) (word : ℕ) → classesWith f doms word 0 201 ≡ filter f (classesOf doms word)

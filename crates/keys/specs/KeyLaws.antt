@@ -1,5 +1,5 @@
 -- Laws of keys.
-use mathlib.Core.Bool.{Bool, _&&_, _||_, and-true}
+use mathlib.Core.Bool.{Bool, _&&_, and-true}
 use mathlib.Core.List.{[], _∷_, _++_}
 use mathlib.Core.Path.{_≡_, ap, ap₂, _∙_, sym}
 use Prim.Native.Nat.{ℕ, _+_, _<_}
@@ -21,7 +21,7 @@ use Rattle.types.specs.declared.TypeInfo.{TypeInfo}
 use Rattle.types.specs.declared.Types.{Types}
 use Rattle.types.specs.declared.Extensions.{Extensions}
 use Rattle.types.specs.declared.Extension.{Extension}
-use Rattle.keys.specs.Keys.{Key, keyOf, keyAt, ofKeys, sameKey, sameBytes, typeKey, typeKeys, extensionKey, extensionKeys, sameTypeName, sameExtensionKey}
+use Rattle.keys.specs.Keys.{Key, keyOf, keyAt, ofKeys, sameKey, sameBytes, typeKeys, extensionKeys, sameTypeName, sameExtensionKey}
 use Rattle.keys.specs.declared.Keys.{Keys}
 
 pub length-ofKeys : (t : Keys) → length (ofKeys t) ≡ t .count

@@ -1,6 +1,5 @@
 -- 01's example is a map whose schedule can be asked for.
 use mathlib.Core.Path.{refl}
-use Rattle.lists.specs.Lists.{placeOf}
 use Rattle.definitions.specs.Map.{typeMapOf, numberOf}
 use Rattle.held_laws.specs.Instance.{example, exampleTypes, exampleExtensions, exampleParents, example-held}
 use Rattle.listing.specs.Schedules.{Schedulable}

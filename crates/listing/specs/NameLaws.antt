@@ -1,11 +1,10 @@
 -- The names that are written are those of the order.
 use mathlib.Core.List.{[], _∷_, List·Memᴰ·head, List·Memᴰ·tail}
-use mathlib.Core.Path.{_≡_, refl, sym, ap, ap₂, _∙_}
+use mathlib.Core.Path.{_≡_, refl, ap₂, _∙_}
 use Prim.Native.Nat.{ℕ, _<_}
 use native.Mathlib.Omega.{arith}
 use borrow.Author.Tests.{ltb-true, ne-eqb}
 use lib.Dec.{ltb}
-use lib.ListN.{length, getD}
 use Rattle.lists.specs.Appending.{map-checked}
 use Rattle.definitions.specs.Records.{Name, Sheet}
 use Rattle.definitions.specs.Map.{typeMapOf}

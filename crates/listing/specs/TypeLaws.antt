@@ -1,7 +1,7 @@
 -- The items of a map, type by type.
 use mathlib.Core.Bool.{Bool}
-use mathlib.Core.List.{List, [], _∷_, _++_, map, map-append, append-nil}
-use mathlib.Core.Path.{_≡_, refl, sym, ap, ap₂, _∙_, subst}
+use mathlib.Core.List.{List, [], _∷_, _++_, map, map-append}
+use mathlib.Core.Path.{_≡_, refl, sym, ap, _∙_, subst}
 use Prim.Native.Nat.{ℕ, zero, suc, _+_, _*_, _≤_, _<_}
 use native.Mathlib.Omega.{arith}
 use lib.ListN.{length, getD}
@@ -20,7 +20,7 @@ use Rattle.types.specs.declared.Types.{Types}
 use Rattle.types.specs.declared.Extensions.{Extensions}
 use Rattle.ordering.specs.Reading.{noType, valid}
 use Rattle.ordering.specs.declared.Parents.{Parents}
-use Rattle.ancestry.specs.Rows.{RowOf, ListedRoom}
+use Rattle.ancestry.specs.Rows.{ListedRoom}
 use Rattle.ancestry.specs.Gathering.{listed-room}
 use Rattle.held_laws.specs.HeldLaws.{count-parents, type-at, parents-below}
 use Rattle.own_classes.specs.OwnClasses.{OwnedOf}

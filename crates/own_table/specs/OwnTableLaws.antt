@@ -1,6 +1,6 @@
 -- What is put is found again.
 use mathlib.Core.Bool.{Bool}
-use mathlib.Core.List.{List, [], _∷_, map, List·Memᴰ·head, List·Memᴰ·tail, List·Memᴰ·not-nil}
+use mathlib.Core.List.{List, [], _∷_, List·Memᴰ·head, List·Memᴰ·tail}
 use mathlib.Core.Path.{_≡_, refl, sym, ap, ap₂, _∙_, subst}
 use Prim.Native.Nat.{ℕ, zero, suc, _+_, _*_, _≤_, _<_}
 use native.Mathlib.Omega.{arith}
@@ -14,7 +14,7 @@ use Rattle.definitions.specs.Map.{Declaration}
 use Rattle.lists.specs.Tabulating.{tabulate-same, tabulate-of}
 use Rattle.naming.specs.Naming.{numbers}
 use Rattle.annotations.specs.Reading.{domAt}
-use Rattle.own_classes.specs.OwnClasses.{ownedAt, chosen, OwnedOf}
+use Rattle.own_classes.specs.OwnClasses.{ownedAt, OwnedOf}
 use Rattle.own_classes.specs.declared.Owned.{Owned}
 use Rattle.own_table.specs.OwnTable.{Puts, Takes, OwnIn, PutsOwn, TakesOwn}
 

@@ -1,28 +1,26 @@
 -- The compact form reads the map of its types.
-use mathlib.Core.Bool.{Bool, true, false, cond}
+use mathlib.Core.Bool.{Bool, true, false}
 use mathlib.Core.List.{List, [], _∷_, map}
-use mathlib.Core.Path.{_≡_, refl, sym, ap, ap₂, _∙_, subst}
+use mathlib.Core.Path.{_≡_, refl, sym, ap, _∙_}
 use Prim.Native.Nat.{ℕ, zero, suc, _+_, _*_, _/_, _%_, _≤_, _<_}
 use native.Mathlib.Omega.{arith}
 use borrow.Author.Tests.{eqb-true, eqb-false}
 use lib.Dec.{eqb}
 use lib.ListN.{length, getD, set}
 use lib.Seq
-use Rattle.lists.specs.Lists.{sameList, placeOf}
+use Rattle.lists.specs.Lists.{placeOf}
 use Rattle.lists.specs.Tests.{by}
 use Rattle.lists.specs.Tabulating.{tabulate, places}
 use Rattle.definitions.specs.Records as records
-use Rattle.definitions.specs.Records.{Name}
 use Rattle.definitions.specs.Orders.{sameName}
 use Rattle.definitions.specs.Map.{TypeMap}
-use Rattle.definitions.specs.Packing.{nameBytes}
 use Rattle.fields.specs.Fields.{twoWords, ofNames}
 use Rattle.fields.specs.FieldLaws.{length-ofNames, same-words}
 use Rattle.types.specs.declared.Types.{Types}
 use Rattle.types.specs.Types.{typeInfoOf, zeroType, ofTypes, itemAt}
 use Rattle.types.specs.TypeLaws.{length-ofTypes}
 use Rattle.ordering.specs.Lists.{tab, tab-at, tab-same, map-tab}
-use Rattle.ordering.specs.Reading.{Parent, parentAt, howMany, listed, noType, typeAt, placeIn, firstWord, secondWord, parentIn, isName, ReadsType, Reads}
+use Rattle.ordering.specs.Reading.{Parent, parentAt, howMany, listed, noType, typeAt, placeIn, firstWord, secondWord, parentIn, ReadsType, Reads}
 use Rattle.ordering.specs.declared.Parents.{Parents}
 use Rattle.parents.specs.Compact.{listedBy, Few, isNamed, Place, Named, Looked}
 use Rattle.parents.specs.Parents.{Readable}

@@ -1,16 +1,16 @@
 -- Laws of annotations.
 use mathlib.Core.Bool.{Bool, true, false, _&&_, not, cond}
 use mathlib.Core.List.{List, [], _∷_, _++_, map}
-use mathlib.Core.Path.{_≡_, refl, sym, ap, _∙_}
-use Prim.Native.Nat.{ℕ, zero, suc, _+_, _≤_, _<_}
+use mathlib.Core.Path.{_≡_, refl}
+use Prim.Native.Nat.{ℕ, zero, suc, _+_, _<_}
 use native.Mathlib.Omega.{arith}
 use borrow.Author.Tests.{le-leb, lt-leb}
 use lib.Dec.{eqb, leb}
 use lib.ListN.{length, getD, set, drop}
 use Rattle.lists.specs.Tabulating.{places-set, length-places}
-use Rattle.definitions.specs.Parse.{Parsed, done, refused, Parser, next, _>>=_, pure, refuse, choose, field, allowed, between, flag, counted}
+use Rattle.definitions.specs.Parse.{Parsed, done, refused, next, _>>=_, pure, refuse, choose, field, allowed, between, counted}
 use Rattle.definitions.specs.Reading.{wordField, wordIfFlag, name, associated, associatedList, kinds, annotation}
-use Rattle.definitions.specs.Records.{Resource, AnnotationOf, makeList, associate, nestAssociate, alias, inherit, derive, noDerive}
+use Rattle.definitions.specs.Records.{Resource, AnnotationOf, associate, nestAssociate, alias, derive}
 use Rattle.fields.specs.ParseLaws.{counted-map}
 use Rattle.fields.specs.Fields.{ofNames, ofNamesRead}
 use Rattle.fields.specs.declared.NamesRead.{NamesRead}

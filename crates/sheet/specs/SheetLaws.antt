@@ -2,15 +2,15 @@
 use mathlib.Core.Bool.{Bool, true, false, _||_}
 use mathlib.Core.List.{List, [], _∷_, _++_}
 use mathlib.Core.Path.{_≡_, refl, sym, ap, ap₂, _∙_}
-use Prim.Native.Nat.{ℕ, zero, suc, _+_, _*_, _^_, _≤_, _<_}
+use Prim.Native.Nat.{ℕ, _+_, _*_, _^_, _≤_, _<_}
 use native.Mathlib.Omega.{arith}
-use borrow.Author.Tests.{le-leb, lt-leb, lt-ltb, le-ltb}
-use lib.Dec.{leb, ltb}
+use borrow.Author.Tests.{le-leb, lt-leb, lt-ltb}
+use lib.Dec.{ltb}
 use lib.ListN.{length, drop, set, length-drop, drop-of-length-le}
 use lib.Pow
 use Rattle.lists.specs.Lists.{any}
 use Rattle.lists.specs.Tabulating.{tabulate, places, places-set}
-use Rattle.definitions.specs.Bits.{bit, num, bitsOf}
+use Rattle.definitions.specs.Bits.{num, bitsOf}
 use Rattle.definitions.specs.Checks.{badFill}
 use Rattle.definitions.specs.Reading.{sheet}
 use Rattle.definitions.specs.Parse.{next}

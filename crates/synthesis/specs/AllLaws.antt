@@ -1,29 +1,24 @@
 -- All types, in the order of the trail.
-use mathlib.Core.Bool.{Bool, true, false, _||_}
-use mathlib.Core.List.{List, [], _∷_, _++_}
+use mathlib.Core.Bool.{Bool, true, false}
+use mathlib.Core.List.{List, [], _∷_}
 use mathlib.Core.Path.{_≡_, refl, sym, ap, _∙_, subst}
-use Prim.Native.Nat.{ℕ, zero, suc, _+_, _*_, _≤_, _<_}
+use Prim.Native.Nat.{ℕ, zero, suc, _+_, _<_}
 use native.Mathlib.Omega.{arith}
-use borrow.Author.Tests.{eqb-true, eqb-false, eq-eqb, ne-eqb}
+use borrow.Author.Tests.{eqb-true, eqb-false, ne-eqb}
 use lib.Dec.{eqb}
 use lib.ListN.{length, getD, take}
-use Rattle.lists.specs.Lists.{In, any}
-use Rattle.lists.specs.Tests.{by, never, not-so, or-elim}
+use Rattle.lists.specs.Lists.{any}
+use Rattle.lists.specs.Tests.{by, never, or-elim}
 use Rattle.lists.specs.Appending.{any-append}
 use Rattle.emitting.specs.Emitting as emitting
-use Rattle.definitions.specs.Records.{Sheet}
 use Rattle.definitions.specs.Orders.{sameName}
 use Rattle.definitions.specs.Map.{TypeMap, typeMapOf}
 use Rattle.types.specs.declared.Types.{Types}
-use Rattle.types.specs.declared.Extensions.{Extensions}
-use Rattle.rows.specs.Rows.{hasBit}
 use Rattle.rows.specs.RowLaws.{bit-none}
 use Rattle.ordering.specs.Lists.{tab, tab-step, elem, elem-at}
-use Rattle.ordering.specs.Reading.{Parent, listed, typeAt, Reads}
+use Rattle.ordering.specs.Reading.{typeAt, Reads}
 use Rattle.ordering.specs.declared.Parents.{Parents}
-use Rattle.held_map.specs.HeldMap.{HeldMap}
 use Rattle.table.specs.declared.Table.{Table}
-use Rattle.lookups.specs.TableOf.{TableOf}
 use Rattle.interpretation.specs.Emit.{emit}
 use Rattle.visit_laws.specs.Trail.{Reached, seenIn, playAll, nothingPlayed}
 use Rattle.visiting.specs.Trails.{itemAt, reachedAt, TrailOf}
@@ -32,7 +27,7 @@ use Rattle.handing.specs.Handing.{Stored, StoredParents}
 use Rattle.handing.specs.Keeping.{stored-parents}
 use Rattle.synthesis.specs.Going.{Going}
 use Rattle.synthesis.specs.GoingLaws.{same-name}
-use Rattle.synthesis.specs.Playing.{Room, Turn, Plays, AllReady, PlayedTo, AllPlayed}
+use Rattle.synthesis.specs.Playing.{Turn, Plays, AllReady, PlayedTo, AllPlayed}
 use Rattle.synthesis.specs.declared.Played.{Played}
 
 -- ---- places in the trail

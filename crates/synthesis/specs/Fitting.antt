@@ -1,19 +1,19 @@
 -- What a type's own associates and what it inherits come to fits a making.
-use mathlib.Core.Bool.{Bool, true, false}
-use mathlib.Core.List.{List, [], _∷_, _++_, map, List·Memᴰ·head, List·Memᴰ·tail, List·Memᴰ·not-nil, Memᴰ·map, Memᴰ·of-map}
-use mathlib.Core.Path.{_≡_, refl, sym, ap, ap₂, _∙_, subst}
-use Prim.Native.Nat.{ℕ, zero, suc, _+_, _≤_, _<_}
+use mathlib.Core.Bool.{true}
+use mathlib.Core.List.{List, [], _∷_, map, List·Memᴰ·head, List·Memᴰ·tail, List·Memᴰ·not-nil, Memᴰ·map, Memᴰ·of-map}
+use mathlib.Core.Path.{_≡_, refl, sym, ap, subst}
+use Prim.Native.Nat.{ℕ, zero, suc, _≤_, _<_}
 use native.Mathlib.Omega.{arith}
 use borrow.Author.Tests.{ltb-true, ltb-false, eqb-true}
 use lib.Dec.{eqb, ltb}
 use lib.ListN.{length, getD, take, length-map, length-take}
 use lib.Seq.{getD-take}
-use Rattle.lists.specs.Lists.{In, any, filter}
+use Rattle.lists.specs.Lists.{In, any}
 use Rattle.lists.specs.Sorting.{sort-is}
 use Rattle.lists.specs.Tests.{by, any-of, filter-of}
 use Rattle.lists.specs.Places.{getD-in}
 use Rattle.rows.specs.declared.Row.{Row}
-use Rattle.rows.specs.Rows.{has, hasBit, empty}
+use Rattle.rows.specs.Rows.{has, empty}
 use Rattle.rows.specs.Lists.{between-none}
 use Rattle.definitions.specs.Records.{Resource, AssociatedResource, makeList, associate, nestAssociate, alias, inherit, derive, noDerive, TypeInfo}
 use Rattle.definitions.specs.Records as records
@@ -24,13 +24,11 @@ use Rattle.definitions.specs.Annotations as definitions
 use Rattle.definitions.specs.Inherited.{ownAssociates}
 use Rattle.annotations.specs.declared.AnnotationInfo.{AnnotationInfo}
 use Rattle.annotations.specs.Reading.{domsOf, pairs, resourcesIn, infoOf}
-use Rattle.dedup.specs.declared.Entry.{Entry}
 use Rattle.dedup.specs.declared.Inherited.{Inherited}
 use Rattle.dedup.specs.Entries.{entriesOf}
 use Rattle.dedup.specs.EntryLaws.{zeros}
 use Rattle.dedup.specs.Reading.{tableOf, Good}
 use Rattle.inheritance.specs.Own as own
-use Rattle.inheritance.specs.Own.{Own, AllOwn}
 use Rattle.own_associates.specs.Owning.{listed, OwnOf}
 use Rattle.own_associates.specs.declared.OwnAssociates.{OwnAssociates}
 use Rattle.types.specs.Types.{typeInfoOf}
@@ -42,7 +40,7 @@ use Rattle.ordering.specs.Lists.{tab-length}
 use Rattle.ancestry.specs.Rows.{ParentsBelow}
 use Rattle.ancestry.specs.Gathering.{parent}
 use Rattle.table.specs.declared.Table.{Table}
-use Rattle.synthetic.specs.Made.{classesOf, namesIn, firstsOf, Fits}
+use Rattle.synthetic.specs.Made.{classesOf, firstsOf, Fits}
 use Rattle.synthetic.specs.MadeLaws.{names-none}
 use Rattle.above.specs.Steps.{has-empty}
 use Rattle.lookups.specs.TableOf.{TableOf}

@@ -1,5 +1,4 @@
 -- How far the synthesis is, and what it leaves.
-use mathlib.Core.Bool.{Bool}
 use mathlib.Core.List.{List}
 use mathlib.Core.Path.{_≡_}
 use Prim.Native.Nat.{ℕ, _<_}

@@ -1,20 +1,20 @@
 -- One type more.
-use mathlib.Core.Bool.{Bool, true, false, _&&_, _||_, not, or-false}
+use mathlib.Core.Bool.{Bool, false, _&&_, _||_, not, or-false}
 use mathlib.Core.List.{List, [], _∷_, _++_, map}
-use mathlib.Core.Path.{_≡_, refl, sym, ap, ap₂, _∙_, subst}
-use Prim.Native.Nat.{ℕ, zero, suc, _+_, _≤_, _<_}
+use mathlib.Core.Path.{_≡_, refl, sym, ap, _∙_}
+use Prim.Native.Nat.{ℕ, zero, suc, _+_, _<_}
 use native.Mathlib.Omega.{arith}
-use borrow.Author.Tests.{eqb-true, eqb-false, ne-eqb, eq-eqb}
+use borrow.Author.Tests.{eqb-true}
 use lib.Dec.{eqb}
-use lib.ListN.{length, length-map}
-use Rattle.lists.specs.Lists.{any, all, null}
+use lib.ListN.{length}
+use Rattle.lists.specs.Lists.{all, null}
 use Rattle.lists.specs.Tests.{by, or-false-left, or-false-right, eqb-flip}
 use Rattle.lists.specs.Lexicographic.{numbers-same}
 use Rattle.definitions.specs.Records.{Name, TypeInfo}
 use Rattle.definitions.specs.Orders.{sameName}
 use Rattle.definitions.specs.Map.{TypeMap}
 use Rattle.definitions.specs.Inherited.{InheritedAnnotation}
-use Rattle.definitions.specs.Synthesis.{Interpreted, listedParents, interpretType}
+use Rattle.definitions.specs.Synthesis.{listedParents, interpretType}
 use Rattle.definitions.specs.Packing.{rowBytes}
 use Rattle.rows.specs.Rows.{hasBit}
 use Rattle.ordering.specs.Lists.{tab, tab-length, map-tab, tab-same}

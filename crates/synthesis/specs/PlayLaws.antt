@@ -1,19 +1,17 @@
 -- Type by type.
-use mathlib.Core.Bool.{Bool, true, false, _&&_, _||_}
-use mathlib.Core.List.{List, [], _∷_, _++_, map}
-use mathlib.Core.Path.{_≡_, refl, sym, ap, ap₂, _∙_, subst}
-use Prim.Native.Nat.{ℕ, zero, suc, _+_, _*_, _≤_, _<_}
+use mathlib.Core.Bool.{Bool, true, _&&_}
+use mathlib.Core.List.{List, [], _++_, map}
+use mathlib.Core.Path.{_≡_, sym, ap, ap₂, _∙_}
+use Prim.Native.Nat.{ℕ, _+_, _≤_, _<_}
 use native.Mathlib.Omega.{arith}
-use native.Mathlib.Numerals.{add-one}
-use lib.Dec.{eqb}
-use lib.ListN.{length, getD, take, length-map}
-use Rattle.lists.specs.Lists.{In, all, null, each}
-use Rattle.lists.specs.Tests.{by, and-left, and-right}
+use lib.ListN.{length, getD, length-map}
+use Rattle.lists.specs.Lists.{all, null}
+use Rattle.lists.specs.Tests.{by}
 use Rattle.lists.specs.Tabulating.{map-tabulate}
 use Rattle.lists.specs.Appending.{map-map}
 use Rattle.definitions.specs.Records.{Name, TypeInfo, Sheet}
 use Rattle.definitions.specs.Map.{TypeMap, Declaration, Map, declarationOf, mapOf, typeMapOf}
-use Rattle.definitions.specs.Inherited.{InheritedAnnotation, dedup, handedOn}
+use Rattle.definitions.specs.Inherited.{InheritedAnnotation, dedup}
 use Rattle.definitions.specs.Synthesis as definitions
 use Rattle.definitions.specs.Synthesis.{listedParents, interpretType, ownEntries, interpretAll}
 use Rattle.types.specs.Types.{typeInfoOf, zeroType}
@@ -21,10 +19,9 @@ use Rattle.types.specs.declared.Extensions.{Extensions}
 use Rattle.types.specs.declared.Types.{Types}
 use Rattle.types.specs.declared.TypeInfo as held
 use Rattle.rows.specs.Rows.{hasBit}
-use Rattle.ordering.specs.Lists.{tab, tab-length, tab-step}
+use Rattle.ordering.specs.Lists.{tab, tab-length}
 use Rattle.ordering.specs.Reading.{Parent, howMany, listed, typeAt, listed-length}
 use Rattle.ordering.specs.declared.Parents.{Parents}
-use Rattle.synthesis_laws.specs.Statements.{inheritedBy}
 use Rattle.dedup.specs.declared.Inherited.{Inherited}
 use Rattle.dedup.specs.Reading.{inheritedOf}
 use Rattle.own_associates.specs.Owning.{AllFit, OwnOf}
@@ -33,12 +30,11 @@ use Rattle.lookup_laws.specs.Bare.{bare, bareMap}
 use Rattle.lookups.specs.TableOf.{TableOf}
 use Rattle.lookups.specs.OverMap.{interpreted-is}
 use Rattle.table.specs.declared.Table.{Table}
-use Rattle.table.specs.Table.{nameAt, declarationAt, tableMap}
+use Rattle.table.specs.Table.{declarationAt, tableMap}
 use Rattle.interpretation.specs.Emit.{emit}
 use Rattle.interpreting.specs.Annotations.{typeNames, TypeReady, interpretedAt, TypeDone}
 use Rattle.interpreting.specs.declared.Interpreted.{Interpreted}
 use Rattle.interpreting.specs.OwnLaws.{own-entries}
-use Rattle.visit_laws.specs.Trail.{gotFrom, allOf}
 use Rattle.handing.specs.Handing.{namesOf, handedTo, StoredParents, Ready, Gathered, KeepsIt}
 use Rattle.handing.specs.Keeping.{eight, got-all}
 use Rattle.held_laws.specs.HeldLaws.{count-parents, type-at, parents-below, parents-are}

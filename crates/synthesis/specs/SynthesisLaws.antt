@@ -5,7 +5,7 @@ use mathlib.Core.Path.{_≡_, sym, ap, _∙_}
 use Prim.Native.Nat.{ℕ, _*_, _≤_, _<_}
 use native.Mathlib.Omega.{arith}
 use lib.ListN.{length}
-use Rattle.definitions.specs.Records.{Sheet, Row}
+use Rattle.definitions.specs.Records.{Sheet}
 use Rattle.definitions.specs.Map.{typeMapOf}
 use Rattle.definitions.specs.Synthesis.{synthesis}
 use Rattle.types.specs.declared.Types.{Types}
@@ -19,8 +19,8 @@ use Rattle.visiting.specs.Trails.{TrailOf}
 use Rattle.visiting.specs.Along.{rows-along}
 use Rattle.visiting.specs.declared.Trail.{Trail}
 use Rattle.emitting.specs.Emitting.{State}
-use Rattle.synthesis.specs.Playing.{AllReady, ReadyIn, ReadyInRoom, AllPlayed}
-use Rattle.synthesis.specs.Synthesized.{Synthesizes, Written, Synthesized, few, many}
+use Rattle.synthesis.specs.Playing.{AllReady, ReadyInRoom, AllPlayed}
+use Rattle.synthesis.specs.Synthesized.{Synthesizes, Synthesized, few, many}
 
 module _ (ts : Types) (es : Extensions) (resource : ℕ) (p : Parents) (tb : Table) (k : Tabled ts es resource tb) (r : Trail) (w : TrailOf p r) where
   pub all-ready : (s : Sheet) → Synthesizes s ts es resource p → (b : List ℕ) → 1536 ≤ length b → (n : ℕ) → 1801 * p .count ≤ n → n < 1000000

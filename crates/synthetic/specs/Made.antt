@@ -1,6 +1,6 @@
 -- What is made for a type and a word, over a table.
-use mathlib.Core.Bool.{Bool, true, false, _&&_, cond}
-use mathlib.Core.List.{List, [], _∷_, _++_, map}
+use mathlib.Core.Bool.{true, false, _&&_}
+use mathlib.Core.List.{List, map}
 use mathlib.Core.Path.{_≡_}
 use Prim.Native.Nat.{ℕ, _≤_, _<_}
 use lib.Dec.{eqb}
@@ -20,7 +20,7 @@ use Rattle.making.specs.Making as making
 use Rattle.types.specs.Extensions.{zeroExtension}
 use Rattle.types.specs.declared.Extensions.{Extensions}
 use Rattle.table.specs.declared.Table.{Table}
-use Rattle.table.specs.Table.{nameAt, declarationAt, tableMap, Sound, Finds, typeAt}
+use Rattle.table.specs.Table.{nameAt, declarationAt, tableMap, Finds}
 use Rattle.synthetic.specs.declared.Gathered.{Gathered}
 
 -- r is the place of the class of a dom that stands in the row; else the count

@@ -1,15 +1,15 @@
 -- Laws of makings over a table.
-use mathlib.Core.Bool.{Bool, true, false, _&&_, cond, and-assoc, and-true}
+use mathlib.Core.Bool.{Bool, true, false, _&&_, and-assoc, and-true}
 use mathlib.Core.List.{List, [], _∷_, _++_, map, append-nil, append-assoc}
 use mathlib.Core.Path.{_≡_, refl, sym, ap, _∙_, subst}
 use Prim.Native.Nat.{ℕ, zero, suc, _+_, _-_, _/_, _%_, _≤_, _<_}
 use native.Mathlib.Numerals.{add-one}
 use native.Mathlib.Omega.{arith}
-use borrow.Author.Tests.{lt-ltb, le-ltb, ltb-true, ltb-false, eq-eqb, ne-eqb, eqb-true, eqb-false}
-use lib.Dec.{eqb, ltb}
+use borrow.Author.Tests.{lt-ltb, le-ltb, eq-eqb, ne-eqb, eqb-true, eqb-false}
+use lib.Dec.{eqb}
 use lib.ListN.{length, getD, length-append, length-map}
-use Rattle.lists.specs.Lists.{all, each, filter, keep}
-use Rattle.lists.specs.Tests.{by, never}
+use Rattle.lists.specs.Lists.{all, each, filter}
+use Rattle.lists.specs.Tests.{by}
 use Rattle.lists.specs.Appending.{each-append, each-each, all-append, all-each, map-map, filter-append}
 use Rattle.lists.specs.Tabulating.{tabulate, tabulate-more}
 use Rattle.rows.specs.declared.Row.{Row}
@@ -17,11 +17,11 @@ use Rattle.rows.specs.Rows.{has, hasBit}
 use Rattle.rows.specs.Lists.{between, below, between-same, between-none}
 use Rattle.rows.specs.RowLaws.{bit-none}
 use Rattle.annotations.specs.Reading.{domAt, domsOf}
-use Rattle.definitions.specs.Records.{Name, Item}
+use Rattle.definitions.specs.Records.{Name}
 use Rattle.definitions.specs.Records as records
 use Rattle.definitions.specs.Orders.{sameName, dotted}
 use Rattle.definitions.specs.Map.{Declaration}
-use Rattle.definitions.specs.Making.{declared, classNames, extensionParents, marksOf, allVirtual, createSyntheticResource}
+use Rattle.definitions.specs.Making.{declared, extensionParents, marksOf, allVirtual, createSyntheticResource}
 use Rattle.definitions.specs.Synthesis.{firstParents}
 use Rattle.fields.specs.Fields.{nameOf, ofNames}
 use Rattle.records.specs.Marks.{ofMarks}

@@ -1,6 +1,6 @@
 -- The map of 01's example, held as a table.
 use mathlib.Core.Bool.{true, false}
-use mathlib.Core.List.{List, [], _∷_, _++_}
+use mathlib.Core.List.{List, [], _∷_}
 use mathlib.Core.Path.{_≡_, refl}
 use Prim.Native.Nat.{ℕ, zero, suc, _≤_, _<_}
 use native.Mathlib.Omega.{arith}
@@ -9,7 +9,6 @@ use Rattle.lists.specs.Tabulating.{tabulate, places}
 use Rattle.definitions.specs.Records.{domain, resource, makelistMark}
 use Rattle.definitions.specs.Map.{Map}
 use Rattle.records.specs.Marks.{ofMarks}
-use Rattle.records.specs.declared.Marks.{Marks}
 use Rattle.types.specs.Extensions.{zeroExtension, ofExtensions}
 use Rattle.table.specs.Table.{zeroMarks, nameAt, declarationAt, tableMap, Sound}
 use Rattle.table.specs.declared.Table.{Table}

@@ -1,22 +1,21 @@
 -- Laws of tables.
-use mathlib.Core.Bool.{Bool, true, false, cond}
-use mathlib.Core.List.{List, [], _∷_, _++_, append-nil}
-use mathlib.Core.Path.{_≡_, refl, sym, ap, ap₂, _∙_}
-use Prim.Native.Nat.{ℕ, zero, suc, _-_, _≤_, _<_}
+use mathlib.Core.Bool.{Bool, true, false}
+use mathlib.Core.List.{[], _∷_}
+use mathlib.Core.Path.{_≡_, refl, sym, ap, _∙_}
+use Prim.Native.Nat.{ℕ, zero, suc, _-_, _<_}
 use native.Mathlib.Numerals.{sub-one}
 use native.Mathlib.Omega.{arith}
-use borrow.Author.Tests.{lt-ltb, le-ltb, ltb-true, ltb-false, ne-eqb, eqb-true, eqb-false}
+use borrow.Author.Tests.{ltb-true, ltb-false, ne-eqb, eqb-true, eqb-false}
 use lib.Dec.{eqb, ltb}
-use lib.ListN.{getD}
-use Rattle.lists.specs.Lists.{filter, sameList}
+use Rattle.lists.specs.Lists.{filter}
 use Rattle.lists.specs.Lexicographic.{same-numbers, numbers-same}
-use Rattle.lists.specs.Tests.{by, never, not-so, same-test}
+use Rattle.lists.specs.Tests.{by, not-so}
 use Rattle.lists.specs.Appending.{filter-append}
 use Rattle.lists.specs.Tabulating.{tabulate, tabulate-of}
 use Rattle.lists.specs.Members.{filter-none}
 use Rattle.definitions.specs.Records.{Name}
 use Rattle.definitions.specs.Orders.{sameName, lookUp, dotted}
-use Rattle.definitions.specs.Map.{Declaration, Map}
+use Rattle.definitions.specs.Map.{Declaration}
 use Rattle.definitions.specs.Making.{declared}
 use Rattle.annotations.specs.Reading.{domAt}
 use Rattle.fields.specs.Fields.{twoWords}

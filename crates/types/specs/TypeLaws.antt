@@ -1,19 +1,19 @@
 -- Laws of types and extensions.
 use mathlib.Core.Bool.{Bool, true, false, _&&_, cond}
 use mathlib.Core.List.{List, [], _∷_, _++_}
-use mathlib.Core.Path.{_≡_, refl, sym, ap, _∙_}
+use mathlib.Core.Path.{_≡_, refl}
 use Prim.Native.Nat.{ℕ, zero, suc, _+_, _<_}
 use native.Mathlib.Omega.{arith}
 use borrow.Author.Tests.{le-leb, lt-leb}
 use lib.Dec.{eqb, leb}
 use lib.ListN.{length, getD, set}
 use Rattle.lists.specs.Tabulating.{places-set, length-places}
-use Rattle.definitions.specs.Parse.{Parsed, done, refused, Parser, next, _>>=_, pure, refuse, choose, field, allowed, between, flag, counted}
+use Rattle.definitions.specs.Parse.{Parsed, done, refused, next, _>>=_, pure, refuse, choose, field, allowed, between, flag}
 use Rattle.definitions.specs.Reading.{name, variant, typeInfo}
 use Rattle.definitions.specs.Records.{Variant, domain, resource, other}
 use Rattle.definitions.specs.Records as records
 use Rattle.fields.specs.Fields.{twoWords}
-use Rattle.types.specs.Types.{Heading, head, body, variantOf, typeInfoOf, zeroType, ofTypes}
+use Rattle.types.specs.Types.{head, body, variantOf, typeInfoOf, zeroType, ofTypes}
 use Rattle.types.specs.Extensions.{extensionOf, zeroExtension, ofExtensions}
 use Rattle.types.specs.declared.TypeInfo.{TypeInfo}
 use Rattle.types.specs.declared.Types.{Types}

@@ -1,7 +1,7 @@
 -- A map and its compact form: what the code asks is no empty demand, and what it gives is the trail of the visit.
 -- Type `a` under `b`, listed twice, and under `c`; type `b` under `c`; type `c`.
-use mathlib.Core.Bool.{true, false}
-use mathlib.Core.List.{List, [], _∷_, _++_}
+use mathlib.Core.Bool.{true}
+use mathlib.Core.List.{[], _∷_, _++_}
 use mathlib.Core.Path.{_≡_, refl}
 use Prim.Native.Nat.{ℕ, zero, suc, _<_}
 use native.Mathlib.Omega.{arith}
@@ -13,7 +13,7 @@ use Rattle.definitions.specs.Synthesis.{listedParents}
 use Rattle.visit_laws.specs.Trail.{reachAll, reach, reachEach, trail}
 use Rattle.rows.specs.Rows.{hasBit}
 use Rattle.ordering.specs.Lists.{tab}
-use Rattle.ordering.specs.Reading.{listed, placeIn, parentIn, typeAt, ReadsType, Reads}
+use Rattle.ordering.specs.Reading.{listed, placeIn, parentIn, ReadsType, Reads}
 use Rattle.ordering.specs.Instance.{under}
 use Rattle.ordering.specs.declared.Parents.{Parents}
 use Rattle.visiting.specs.Trails.{Orderly, reachedAt}

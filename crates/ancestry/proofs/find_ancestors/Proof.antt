@@ -1,7 +1,5 @@
-use Prim.Native.Nat.{ℕ, _≤_, _<_, _-_, _+_, _*_}
+use Prim.Native.Nat.{_≤_, _-_}
 use native.Mathlib.Omega.{arith}
-use borrow.Author.Needs.{needs}
-use mathlib.Core.Path.{_≡_, refl, sym, ap, _∙_}
 use Rattle.ancestry.specs.Gathering.{listed-room, gathered-is}
 use Rattle.ancestry.specs.Earlier.{Made, made-none, made-more, made-all, Turn, turn}
 use Rattle.ancestry.proofs.find_ancestors.Statement.{statement}

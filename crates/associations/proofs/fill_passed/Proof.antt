@@ -1,7 +1,5 @@
-use mathlib.Core.Path.{_≡_, refl, sym, ap, _∙_}
-use Prim.Native.Nat.{ℕ, _+_, _*_, _-_, _≤_, _<_}
+use Prim.Native.Nat.{_-_, _≤_}
 use native.Mathlib.Omega.{arith}
-use lib.ListN.{length}
 use Rattle.associations.specs.AssociationLaws.{PassedTo, passed-start, passed-step, passed-end}
 use Rattle.associations.proofs.fill_passed.Statement.{statement}
 use Rattle.associations.proofs.fill_passed.Tie as tie

@@ -1,4 +1,3 @@
-use mathlib.Core.Path.{sym, ap, _∙_}
 use borrow.Author.Needs.{needs}
 use Rattle.definitions.specs.Synthesis.{isDuplicate}
 use Rattle.table.specs.Table.{declarationAt}

@@ -1,8 +1,6 @@
-use Prim.Native.Nat.{ℕ, _-_, _≤_, _+_}
+use Prim.Native.Nat.{ℕ, _-_, _≤_}
 use native.Mathlib.Omega.{arith}
 use mathlib.Core.Path.{_≡_, subst}
-use lib.ListN.{length}
-use borrow.Author.Needs.{needs}
 use Rattle.facts.specs.Laying.{Copied}
 use Rattle.facts.specs.LayingLaws.{copied-none, copied-more}
 use Rattle.facts.proofs.lay_bytes.Statement.{statement}

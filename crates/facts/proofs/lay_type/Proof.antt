@@ -1,6 +1,3 @@
-use mathlib.Core.Path.{_∙_}
-use native.Mathlib.Omega.{arith}
-use lib.ListN.{length-set}
 use Rattle.facts.specs.LayingLaws.{five-long}
 use Rattle.facts.specs.TypeLaws.{few-marks, type-laid}
 use borrow.Author.Needs.{needs}

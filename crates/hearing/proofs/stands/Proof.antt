@@ -1,4 +1,4 @@
-use mathlib.Core.Path.{_≡_, sym, ap, _∙_}
+use mathlib.Core.Path.{sym, ap, _∙_}
 use Prim.Native.Nat.{ℕ, _/_, _^_}
 use lib.Bits.{and-mask}
 use lib.Dec.{eqb}

@@ -1,4 +1,3 @@
-use mathlib.Core.Path.{_≡_, sym}
 use Prim.Native.Nat.{_<_}
 use native.Mathlib.Omega.{arith}
 use lib.ListN.{length}

@@ -1,4 +1,4 @@
-use mathlib.Core.Path.{refl, _∙_}
+use mathlib.Core.Path.{refl}
 use Prim.Native.Nat.{ℕ, _*_}
 use lib.ListN.{replicate, length-replicate}
 use native.Mathlib.Omega.{arith}

@@ -1,4 +1,3 @@
-use mathlib.Core.Path.{_≡_, sym}
 use mathlib.Core.List.{_++_}
 use native.Mathlib.Omega.{arith}
 use Rattle.lists.specs.Lists.{each}

@@ -4,7 +4,7 @@ use mathlib.Core.Path.{_≡_, refl, sym, _∙_}
 use Prim.Native.Nat.{_≤_, _-_, _+_}
 use native.Mathlib.Omega.{arith}
 use borrow.Author.Needs.{needs}
-use Rattle.ordering.specs.Lists.{tab, any-tab-step, any-tab-at}
+use Rattle.ordering.specs.Lists.{any-tab-step, any-tab-at}
 use Rattle.ordering.specs.Rounds.{selfAt, selfFrom}
 use Rattle.ordering.proofs.lists_self.Statement.{statement}
 use Rattle.ordering.proofs.lists_self.Tie as tie

@@ -1,5 +1,5 @@
 use mathlib.Core.Path.{_≡_, sym}
-use Prim.Native.Nat.{_-_, _≤_, _<_}
+use Prim.Native.Nat.{_-_, _≤_}
 use native.Mathlib.Omega.{arith}
 use Rattle.own_table.specs.OwnTable.{Puts}
 use Rattle.own_table.specs.OwnTableLaws.{puts-none, puts-more}

@@ -1,4 +1,3 @@
-use mathlib.Core.Path.{_≡_, refl, sym, _∙_}
 use native.Mathlib.Omega.{arith}
 use borrow.Author.Needs.{needs}
 use Rattle.parents.specs.ParentLaws.{few-of, all-named, all-reads}

@@ -1,11 +1,10 @@
-use mathlib.Core.Bool.{true, false}
-use mathlib.Core.Path.{_≡_, refl, sym, _∙_}
+use mathlib.Core.Bool.{false}
+use mathlib.Core.Path.{_≡_, sym, _∙_}
 use Prim.Native.Nat.{ℕ, _≤_, _<_, _-_}
 use native.Mathlib.Omega.{arith}
 use borrow.Author.Needs.{needs}
 use borrow.Author.Count.{below-more}
-use lib.ListN.{length, getD}
-use Rattle.parents.specs.Compact.{isNamed, Place}
+use Rattle.parents.specs.Compact.{isNamed}
 use Rattle.parents.proofs.place_of.Statement.{statement}
 use Rattle.parents.proofs.place_of.Tie as tie
 

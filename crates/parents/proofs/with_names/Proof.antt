@@ -1,11 +1,11 @@
-use mathlib.Core.Path.{_≡_, refl, sym, _∙_}
+use mathlib.Core.Path.{_≡_, refl}
 use Prim.Native.Nat.{ℕ, _≤_, _<_, _*_, _-_, _/_, _%_}
 use native.Mathlib.Omega.{arith}
 use borrow.Author.Needs.{needs}
 use lib.ListN.{length, getD, length-set}
 use Rattle.lists.specs.Places.{stored}
 use Rattle.types.specs.Types.{itemAt}
-use Rattle.parents.specs.Compact.{listedBy, Named}
+use Rattle.parents.specs.Compact.{listedBy}
 use Rattle.parents.specs.ParentLaws.{stored-eighth}
 use Rattle.parents.proofs.with_names.Statement.{statement}
 use Rattle.parents.proofs.with_names.Tie as tie

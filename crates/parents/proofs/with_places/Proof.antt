@@ -1,11 +1,11 @@
-use mathlib.Core.Path.{_≡_, refl, sym, _∙_}
+use mathlib.Core.Path.{_≡_, refl, _∙_}
 use Prim.Native.Nat.{ℕ, _≤_, _<_, _-_, _/_, _%_}
 use native.Mathlib.Omega.{arith}
 use borrow.Author.Needs.{needs}
 use borrow.Author.Tests.{lt-ltb}
 use lib.ListN.{length, getD, length-set}
 use Rattle.lists.specs.Places.{stored}
-use Rattle.parents.specs.Compact.{Place, Looked}
+use Rattle.parents.specs.Compact.{Place}
 use Rattle.parents.proofs.with_places.Statement.{statement}
 use Rattle.parents.proofs.with_places.Tie as tie
 

@@ -1,10 +1,7 @@
-use mathlib.Core.List.{[]}
 use mathlib.Core.Logic.{⊎-elim}
-use mathlib.Core.Path.{_≡_, sym, ap, _∙_}
-use Prim.Native.Nat.{_+_, _-_, _≤_, _<_}
+use Prim.Native.Nat.{_-_, _≤_, _<_}
 use native.Mathlib.Omega.{arith}
 use borrow.Author.Needs.{needs}
-use lib.ListN.{getD, length}
 use Rattle.making.specs.Making.{marksOf}
 use Rattle.making.specs.MakingLaws.{length-marksOf}
 use Rattle.synthetic.specs.MadeLaws.{Stage, stage-start, stage-taken, stage-skipped, stage-room, stage-end}

@@ -1,4 +1,3 @@
-use mathlib.Core.Path.{_≡_}
 use borrow.Author.Needs.{needs}
 use Rattle.synthetic.proofs.with_class.Statement.{statement}
 use Rattle.synthetic.proofs.with_class.Tie as tie

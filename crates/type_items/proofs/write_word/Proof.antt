@@ -1,4 +1,3 @@
-use mathlib.Core.Path.{_≡_}
 use native.Mathlib.Omega.{arith}
 use Rattle.facts.specs.Facts.{tableIn}
 use Rattle.type_items.specs.WordLaws.{made-here, word-made}
