@@ -9,8 +9,8 @@ use Rattle.lists.specs.Lists.{In, any, filter, each, setOf}
 use Rattle.lists.specs.Tests.{any-of, filter-of, eqb-flip}
 use Rattle.lists.specs.Appending.{any-append, any-map, any-alike, any-each, filter-each, map-map}
 use Rattle.definitions.specs.Records.{Dom, Resource}
-use Rattle.definitions.specs.Orders.{sameName, domBefore, dotted}
-use Rattle.definitions.specs.Map.{TypeMap, Declaration, declarationOf, mapOf}
+use Rattle.definitions.specs.Comparisons.{sameName, domBefore, dotted}
+use Rattle.definitions.specs.Map.{TypeMap, LineType, lineTypeOf, lineMapOf}
 use Rattle.definitions.specs.Items.{owned, given, ofWord, hasWord, associateWord, parentsOf, ancestors, domsAbove, parentsAbove, wordsMade}
 use Rattle.rows.specs.declared.Row.{Row}
 use Rattle.rows.specs.Rows.{has, hasBit}
@@ -87,12 +87,12 @@ of-word r us b =
 -- ---- over the ancestors
 
 -- a test of the types of a row, asked by places
-any-types : (m : TypeMap) (n row : ℕ) (f : Declaration → Bool) → any f (typesIn m n row) ≡ any (λ a. hasBit row a && f (declarationAt m a)) (upTo n)
+any-types : (m : TypeMap) (n row : ℕ) (f : LineType → Bool) → any f (typesIn m n row) ≡ any (λ a. hasBit row a && f (declarationAt m a)) (upTo n)
 any-types m n row f = any-map f (declarationAt m) (ordering.below (hasBit row) n) ∙ any-below (λ a. f (declarationAt m a)) (hasBit row) n
 
 module _ (m : TypeMap) (n : ℕ) (table : List ℕ) (T : Table m n table) (row : ℕ) where
   -- the types of the row
-  abbrev above : List Declaration
+  abbrev above : List LineType
   above = typesIn m n row
 
   -- a word that a type of the row gives
@@ -119,7 +119,7 @@ module _ (m : TypeMap) (n : ℕ) (table : List ℕ) (T : Table m n table) (row :
       ∙ sym (ap (any g) (filter-each (λ (v : Resource). eqb (v .word) r) given above)))
 
   -- 'T and each r with a making': own has the words of the own Associates
-  pub words-made : (D : Declaration) (own made : Row) → ((k : ℕ) → has own k ≡ hasWord (owned D) k) → WithMaking table own row n made
+  pub words-made : (D : LineType) (own made : Row) → ((k : ℕ) → has own k ≡ hasWord (owned D) k) → WithMaking table own row n made
       → Bounded (owned D ++ each given above) → wordsMade D above ≡ below (has made) 200
   unfolding wordsMade
   words-made D own made e u b =
@@ -134,7 +134,7 @@ module _ (m : TypeMap) (n : ℕ) (table : List ℕ) (T : Table m n table) (row :
 module _ (p : Parents) (m : TypeMap) (r : Reads p m) (passed : List ℕ) where
   -- type t lists type a exactly if it inherits its name
   inherits-is : (t a : ℕ) → t < p .count → a < p .count → declarationAt m t .inherits (declarationAt m a .name) ≡ any (λ (q : Parent). eqb (q .place) a) (listed p t)
-  unfolding declarationOf parentIn
+  unfolding lineTypeOf parentIn
   inherits-is t a h k =
       any-alike (sameName (typeAt m a .name)) (λ n. eqb (placeIn m n) a) (λ n. ordering.same-list-sym (typeAt m a .name) n ∙ place-same p m r n a k) (typeAt m t .parents)
       ∙ sym (any-map (λ (q : Parent). eqb (q .place) a) (parentIn m) (typeAt m t .parents))
@@ -161,19 +161,19 @@ module _ (p : Parents) (m : TypeMap) (r : Reads p m) (passed : List ℕ) where
 
   -- the row of the words that each type passes on
   pub record Passes : Type 0 where
-    pub words : (a : ℕ) → a < p .count → (w : ℕ) → has (rowAt passed (4 * a)) w ≡ associateWord (declarationAt m a ∷ ancestors (mapOf m) (declarationAt m a)) w
+    pub words : (a : ℕ) → a < p .count → (w : ℕ) → has (rowAt passed (4 * a)) w ≡ associateWord (declarationAt m a ∷ ancestors (lineMapOf m) (declarationAt m a)) w
 
   -- 'Its first parents are P.r for each direct parent P that associates r, or has an ancestor that does, ascending by P, each once.'
   pub parents-passing : Passes → (t w x : ℕ) → t < p .count → Passing p passed t w x
-      → parentsAbove (mapOf m) (declarationAt m t) w ≡ map (λ a. dotted (typeAt m a .name) w) (ordering.below (hasBit x) (p .count))
-  unfolding parentsAbove parentsOf declarationOf
+      → parentsAbove (lineMapOf m) (declarationAt m t) w ≡ map (λ a. dotted (typeAt m a .name) w) (ordering.below (hasBit x) (p .count))
+  unfolding parentsAbove parentsOf lineTypeOf
   parents-passing c t w x h g =
       let D = declarationAt m in
       let n = p .count in
-      let i : Declaration → Bool = λ P. D t .inherits (P .name) in
-      let s : Declaration → Bool = λ P. associateWord (P ∷ ancestors (mapOf m) P) w in
-      let e : filter s (filter i (mapOf m .types)) ≡ map D (ordering.below (hasBit x) n) =
-      ap (λ (l : List Declaration). filter s (filter i l)) (types-at p m r)
+      let i : LineType → Bool = λ P. D t .inherits (P .name) in
+      let s : LineType → Bool = λ P. associateWord (P ∷ ancestors (lineMapOf m) P) w in
+      let e : filter s (filter i (lineMapOf m .types)) ≡ map D (ordering.below (hasBit x) n) =
+      ap (λ (l : List LineType). filter s (filter i l)) (types-at p m r)
       ∙ ap (filter s) (ordering.filter-below i D (λ a. true) n)
       ∙ ordering.filter-below s D (λ a. i (D a)) n
       ∙ ap (map D)
@@ -183,34 +183,34 @@ module _ (p : Parents) (m : TypeMap) (r : Reads p m) (passed : List ℕ) where
       ∙ sym (any-and (λ (q : Parent). eqb (q .place) a) (has (rowAt passed (4 * a)) w) (listed p t))
       ∙ sym (any-alike (passesAs passed w a) (λ (q : Parent). eqb (q .place) a && has (rowAt passed (4 * a)) w) (at-place w a) (listed p t))
       ∙ sym (g .bits a))) in
-      ap (map (λ (P : Declaration). dotted (P .name) w)) e ∙ map-map (λ (P : Declaration). dotted (P .name) w) D (ordering.below (hasBit x) n)
+      ap (map (λ (P : LineType). dotted (P .name) w)) e ∙ map-map (λ (P : LineType). dotted (P .name) w) D (ordering.below (hasBit x) n)
 
 -- the row that `words_passed` makes says what a type passes on
 pub passed-words : (p : Parents) (m : TypeMap) → Reads p m → (table : List ℕ) → Table m (p .count) table → (t row : ℕ) → t < p .count → RowOf p row t
-    → (out : Row) → Passed table t row (p .count) out → (w : ℕ) → has out w ≡ associateWord (declarationAt m t ∷ ancestors (mapOf m) (declarationAt m t)) w
+    → (out : Row) → Passed table t row (p .count) out → (w : ℕ) → has out w ≡ associateWord (declarationAt m t ∷ ancestors (lineMapOf m) (declarationAt m t)) w
 passed-words p m r table T t row h o out u w =
     u .bits w
     ∙ ap₂ (λ (a b : Bool). a || b) (T .words t h w)
-    (given-above m (p .count) table T row w ∙ ap (λ (l : List Declaration). associateWord l w) (sym (o .above m r)))
+    (given-above m (p .count) table T row w ∙ ap (λ (l : List LineType). associateWord l w) (sym (o .above m r)))
 
 -- ---- the ancestors of a type whose row is known
 
 module _ (p : Parents) (m : TypeMap) (r : Reads p m) (table : List ℕ) (T : Table m (p .count) table) (t row : ℕ) (o : RowOf p row t) where
   -- the proper ancestors of type t
-  abbrev As : List Declaration
-  As = ancestors (mapOf m) (declarationAt m t)
+  abbrev As : List LineType
+  As = ancestors (lineMapOf m) (declarationAt m t)
 
   pub inherited-are : (out : Row) → United table 0 row (p .count) out → (w : ℕ) → has out w ≡ associateWord As w
   inherited-are out u w = rw (o .above m r) (words-above m (p .count) table T row out u w)
 
   pub doms-are : (w : ℕ) → w < 200 → Bounded (each given As) → (out : Row) → United table (w + 1) row (p .count) out → domsAbove As w ≡ domsOf out
   doms-are w l b out u =
-      ap (λ (x : List Declaration). domsAbove x w) (o .above m r)
-      ∙ doms-above m (p .count) table T row w l (subst (λ (x : List Declaration). Bounded (each given x)) (o .above m r) b) out u
+      ap (λ (x : List LineType). domsAbove x w) (o .above m r)
+      ∙ doms-above m (p .count) table T row w l (subst (λ (x : List LineType). Bounded (each given x)) (o .above m r) b) out u
 
   pub words-are : (own made : Row) → ((k : ℕ) → has own k ≡ hasWord (owned (declarationAt m t)) k) → WithMaking table own row (p .count) made
       → Bounded (owned (declarationAt m t) ++ each given As) → wordsMade (declarationAt m t) As ≡ below (has made) 200
   words-are own made e u b =
       ap (wordsMade (declarationAt m t)) (o .above m r)
       ∙ words-made m (p .count) table T row (declarationAt m t) own made e u
-      (subst (λ (x : List Declaration). Bounded (owned (declarationAt m t) ++ each given x)) (o .above m r) b)
+      (subst (λ (x : List LineType). Bounded (owned (declarationAt m t) ++ each given x)) (o .above m r) b)

@@ -8,7 +8,7 @@ use Rattle.lists.specs.Lists.{In, each}
 use Rattle.lists.specs.Tests.{each-of}
 use Rattle.definitions.specs.Records.{Dom, Resource, Annotation, associate, nestAssociate, makeList, alias, inherit, derive, noDerive, TypeInfo}
 use Rattle.definitions.specs.Checks.{resourcesOf}
-use Rattle.definitions.specs.Map.{TypeMap, Declaration, declarationOf}
+use Rattle.definitions.specs.Map.{TypeMap, LineType, lineTypeOf}
 use Rattle.definitions.specs.Items.{associateOf, owned, given}
 use Rattle.line_laws.specs.Within.{WordsWithin, ResourceWithin, TypeWithin}
 use Rattle.annotations.specs.Reading.{domAt}
@@ -37,12 +37,12 @@ associate-in (inherit ns) i = i
 associate-in (derive t) i = i
 associate-in noDerive i = i
 
-given-within : (T : TypeInfo) → TypeWithin 200 T → (u : Resource) → In u (given (declarationOf T)) → ResourceWithin 200 u
-unfolding given declarationOf
+given-within : (T : TypeInfo) → TypeWithin 200 T → (u : Resource) → In u (given (lineTypeOf T)) → ResourceWithin 200 u
+unfolding given lineTypeOf
 given-within T w u i = let r = each-of resourcesOf (T .annotations) i in w .annotation (r .0) (r .1) .resource u (r .2)
 
-owned-within : (T : TypeInfo) → TypeWithin 200 T → (u : Resource) → In u (owned (declarationOf T)) → ResourceWithin 200 u
-unfolding owned declarationOf
+owned-within : (T : TypeInfo) → TypeWithin 200 T → (u : Resource) → In u (owned (lineTypeOf T)) → ResourceWithin 200 u
+unfolding owned lineTypeOf
 owned-within T w u i = let r = each-of associateOf (T .annotations) i in w .annotation (r .0) (r .1) .resource u (associate-in (r .0) (r .2))
 
 module _ (m : TypeMap) (n : ℕ) (w : (a : ℕ) → a < n → TypeWithin 200 (typeAt m a)) (row : ℕ) where
@@ -50,7 +50,7 @@ module _ (m : TypeMap) (n : ℕ) (w : (a : ℕ) → a < n → TypeWithin 200 (ty
   above-within u i =
       let r = each-of given (typesIn m n row) i in
       let x = Memᴰ·of-map (declarationAt m) (ordering.below (hasBit row) n) (r .1) in
-      given-within (typeAt m (x .0)) (w (x .0) (below-of (hasBit row) n (x .1) .0)) u (subst (λ (D : Declaration). In u (given D)) (sym (x .2)) (r .2))
+      given-within (typeAt m (x .0)) (w (x .0) (below-of (hasBit row) n (x .1) .0)) u (subst (λ (D : LineType). In u (given D)) (sym (x .2)) (r .2))
 
   -- what the types of a row give
   pub above-bounded : Bounded (each given (typesIn m n row))

@@ -10,9 +10,9 @@ use borrow.Author.Tests.{ne-eqb}
 use lib.Dec.{eqb}
 use Rattle.lists.specs.Tests.{cons-elim, eqb-flip}
 use Rattle.definitions.specs.Records.{Name, domain, associate, nestAssociate, Annotation, TypeInfo}
-use Rattle.definitions.specs.Map.{TypeMap, declarationOf, mapOf}
+use Rattle.definitions.specs.Map.{TypeMap, lineTypeOf, lineMapOf}
 use Rattle.definitions.specs.Items.{owned, given, hasWord, associateWord, parentsOf, reached, ancestors, domsAbove, parentsAbove, wordsMade}
-use Rattle.definitions.specs.Orders.{domBefore}
+use Rattle.definitions.specs.Comparisons.{domBefore}
 use Rattle.lists.specs.Lists.{include, setOf}
 use Rattle.lists.specs.Places.{zero-at}
 use Rattle.rows.specs.declared.Row.{Row}
@@ -56,7 +56,7 @@ one : (w k : ℕ) → w < 256 → has (single w) k ≡ (eqb w k || false)
 one w k h = has-single w k h ∙ sym (or-false (eqb w k))
 
 pair-words : (a : ℕ) → a < 2 → (k : ℕ) → has (slotOf pairTable 0 a) k ≡ hasWord (given (declarationAt pair a)) k
-unfolding rowAt given declarationOf single
+unfolding rowAt given lineTypeOf single
 pair-words zero h k = one 0 k (omega arith)
 pair-words (suc zero) h k = one 0 k (omega arith)
 pair-words (suc (suc a)) h k = absurd (omega arith)
@@ -80,7 +80,7 @@ unfolding rowAt
 row-zero at h = rw (sym (ap (λ (x : ℕ). getD pairTable x 0) (native.Mathlib.Nat.add-zero at)) ∙ h 0 (omega arith), h 1 (omega arith), h 2 (omega arith), h 3 (omega arith))
 
 pair-doms : (a : ℕ) → a < 2 → (r : ℕ) → r < 200 → (k : ℕ) → has (slotOf pairTable (r + 1) a) k ≡ hasDom (given (declarationAt pair a)) r k
-unfolding rowAt given declarationOf single
+unfolding rowAt given lineTypeOf single
 pair-doms zero h zero l k = has-single 0 k (omega arith) ∙ eqb-flip 0 k ∙ sym (or-false (eqb k 0))
 pair-doms zero h (suc r) l k =
     ap (λ (x : Row). has x k) (row-zero (804 * 0 + 4 * (suc r + 1)) (λ c m. zero-a (804 * 0 + 4 * (suc r + 1) + c) (4 * r + c) (omega arith) (omega arith)))
@@ -98,7 +98,7 @@ pair-table = record { words = pair-words; doms = pair-doms }
 
 -- what `b` gives is within the bounds, at their edge
 pub pair-bounded : Bounded (given (declarationAt pair 1))
-unfolding given declarationOf
+unfolding given lineTypeOf
 pair-bounded =
     record {
       word = λ u i. cons-elim i (λ e. rw e (omega arith)) (λ j. absurd (List·Memᴰ·not-nil j));
@@ -107,7 +107,7 @@ pair-bounded =
 
 -- the types `a` and `b` are a row of two bits; together they give 0 no dom and the dom 199
 pub pair-both : domsAbove (typesIn pair 2 3) 0 ≡ domsOf (record { a = 1; b = 0; c = 0; d = 256 })
-unfolding domsAbove setOf include domBefore given declarationOf hasBit domsOf between has
+unfolding domsAbove setOf include domBefore given lineTypeOf hasBit domsOf between has
 pair-both = refl
 
 -- ---- the words that are passed on
@@ -139,8 +139,8 @@ twice true = refl
 twice false = refl
 
 pair-passed : (a : ℕ) → a < 2 → (w : ℕ)
-    → has (rowAt (1 ∷ 0 ∷ 0 ∷ 0 ∷ 1 ∷ 0 ∷ 0 ∷ 0 ∷ []) (4 * a)) w ≡ associateWord (declarationAt pair a ∷ ancestors (mapOf pair) (declarationAt pair a)) w
-unfolding rowAt given declarationOf mapOf ancestors reached parentsOf single
+    → has (rowAt (1 ∷ 0 ∷ 0 ∷ 0 ∷ 1 ∷ 0 ∷ 0 ∷ 0 ∷ []) (4 * a)) w ≡ associateWord (declarationAt pair a ∷ ancestors (lineMapOf pair) (declarationAt pair a)) w
+unfolding rowAt given lineTypeOf lineMapOf ancestors reached parentsOf single
 pair-passed zero h w = one 0 w (omega arith) ∙ sym (or-false (eqb 0 w || false))
 pair-passed (suc zero) h w = one 0 w (omega arith) ∙ twice (eqb 0 w)
 pair-passed (suc (suc a)) h w = absurd (omega arith)
@@ -149,11 +149,11 @@ pub pair-passes : Passes pairs pair pairs-reads (1 ∷ 0 ∷ 0 ∷ 0 ∷ 1 ∷ 0
 pair-passes = record { words = pair-passed }
 
 -- the first parents of b's word 0: bit 0, the type `a`
-pub pair-parents : parentsAbove (mapOf pair) (declarationAt pair 1) 0 ≡ (1 ∷ 0 ∷ []) ∷ []
-unfolding parentsAbove parentsOf given declarationOf mapOf ancestors reached
+pub pair-parents : parentsAbove (lineMapOf pair) (declarationAt pair 1) 0 ≡ (1 ∷ 0 ∷ []) ∷ []
+unfolding parentsAbove parentsOf given lineTypeOf lineMapOf ancestors reached
 pair-parents = refl
 
 -- the words with a making of `b`, which has no Associate of its own: 0, from `a`
 pub pair-made : wordsMade (declarationAt pair 1) (typesIn pair 2 1) ≡ 0 ∷ []
-unfolding wordsMade setOf include owned given declarationOf hasBit
+unfolding wordsMade setOf include owned given lineTypeOf hasBit
 pair-made = refl

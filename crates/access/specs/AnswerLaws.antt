@@ -19,7 +19,7 @@ use Rattle.definitions.specs.Order.{hasOrder}
 use Rattle.definitions.specs.OrderRows.{orderRows}
 use Rattle.definitions.specs.Relisted.{Holds}
 use Rattle.definitions.specs.Answer as rules
-use Rattle.definitions.specs.Answer.{Call, Input, Outcome, Refusal, refusedBy, restOf, sheetOf, bare, short, synthesisRows, overwrite, refusals, refuse, accept, firstRefusal, mapIn, outcome}
+use Rattle.definitions.specs.Answer.{Call, Input, Outcome, Refusal, refusedBy, restOf, sheetOf, bare, short, synthesisRows, overwrite, refusals, reject, accept, firstRefusal, typeMapIn, outcome}
 use Rattle.bits.specs.NumberLaws.{length-packTo}
 use Rattle.reading_laws.specs.Statements.{NoneHolds}
 use Rattle.reading_laws.specs.Refusals.{all-pass}
@@ -43,7 +43,7 @@ module _ (call : Call) (s l d : List ℕ) where
   -- the first that holds is bare
   bare-first : (n : ℕ) (test : Unit {0} → Bool) (before after : List Refusal) → NoneHolds before → test tt ≡ true →
       untouched n l d ≡ firstRefusal i (before ++ (bare n test ∷ after))
-  unfolding refuse
+  unfolding reject
   bare-first n test before after h e = sym (all-pass i before (bare n test ∷ after) h ∙ first-holds i (bare n test) after e)
 
   -- ---- 8, 9 and 10
@@ -57,9 +57,9 @@ module _ (call : Call) (s l d : List ℕ) where
   abbrev ten : TypeMap → Refusal
   ten m = short 10 (λ u. ltb (length l) (size (length (bitsFor call m)))) (λ u. size (length (bitsFor call m)))
 
-  module _ (m : TypeMap) (e : mapIn i ≡ m) where
+  module _ (m : TypeMap) (e : typeMapIn i ≡ m) where
     no-order : hasOrder m ≡ false → firstRefusal i (eight m ∷ nine m ∷ ten m ∷ []) ≡ ended call m l d
-    unfolding ended refuse
+    unfolding ended reject
     no-order h = first-holds i (eight m) (nine m ∷ ten m ∷ []) (ap not h) ∙ sym (rw h)
 
     -- an order is no refusal
@@ -67,7 +67,7 @@ module _ (call : Call) (s l d : List ℕ) where
     up-to-nine h = first-passed i (eight m) (nine m ∷ ten m ∷ []) (ap not h)
 
     with-rows : hasOrder m ≡ true → null (synthesisRows call m) ≡ false → firstRefusal i (eight m ∷ nine m ∷ ten m ∷ []) ≡ ended call m l d
-    unfolding ended refuse
+    unfolding ended reject
     with-rows h k = up-to-nine h ∙ first-holds i (nine m) (ten m ∷ []) (ap not k) ∙ sym (rw (h, k))
 
     up-to-ten : hasOrder m ≡ true → null (synthesisRows call m) ≡ true → firstRefusal i (eight m ∷ nine m ∷ ten m ∷ []) ≡ firstRefusal i (ten m ∷ [])
@@ -75,7 +75,7 @@ module _ (call : Call) (s l d : List ℕ) where
 
     too-short : hasOrder m ≡ true → null (synthesisRows call m) ≡ true → ltb (length l) (size (length (bitsFor call m))) ≡ true →
         firstRefusal i (eight m ∷ nine m ∷ ten m ∷ []) ≡ ended call m l d
-    unfolding ended refuse
+    unfolding ended reject
     too-short h k q = up-to-ten h k ∙ first-holds i (ten m) [] q ∙ sym (rw (h, k, q))
 
     acceptance : List Bool → Outcome
@@ -157,7 +157,7 @@ module _ (call : Call) (s l d : List ℕ) where
       six a b c = bare-first 6 _ (take 6 (refusals i)) (drop 7 (refusals i)) (p1, (p2, (p3, (p4, (f ∙ a, (w ∙ b, tt)))))) (o ∙ c)
 
       left-over : badFill rest ≡ false → badWords (t .words) ≡ false → somethingTwice t ≡ false → outcome i ≡ ended call (typeMapOf t) l d
-      unfolding outcome refusals mapIn
+      unfolding outcome refusals typeMapIn
       left-over a b c =
           all-pass i (take 7 (refusals i)) (drop 7 (refusals i)) (p1, (p2, (p3, (p4, (f ∙ a, (w ∙ b, (o ∙ c, tt)))))))
           ∙ last-three (typeMapOf (sheetOf (sheet (bitsOf s)))) refl

@@ -17,7 +17,7 @@ use Rattle.definitions.specs.Map.{typeMapOf}
 use Rattle.definitions.specs.Order.{hasOrder}
 use Rattle.definitions.specs.Packing.{scheduleBits}
 use Rattle.definitions.specs.Relisted.{Holds}
-use Rattle.definitions.specs.Answer.{schedule, Input, Outcome, refusedBy, restOf, sheetOf, scheduleOf, synthesisRows, overwrite, refusals, accept, firstRefusal, mapIn, outcome}
+use Rattle.definitions.specs.Answer.{schedule, Input, Outcome, refusedBy, restOf, sheetOf, scheduleOf, synthesisRows, overwrite, refusals, accept, firstRefusal, typeMapIn, outcome}
 use Rattle.line_laws.specs.Refused.{accepted-is-tested}
 use Rattle.line_laws.specs.Lines.{items-are-lines}
 use Rattle.line_laws.specs.Once.{items-once}
@@ -100,7 +100,7 @@ module _ (s l d : List ℕ) (e : outcome (scheduleInput s l d) .answer .number �
   accepts = all-pass i (refusals i) [] none
 
   pub accepted-lists : Lists s l (outcome i .listing)
-  unfolding accept mapIn
+  unfolding accept typeMapIn
   accepted-lists = record {
     s = t;
     holds = holds;

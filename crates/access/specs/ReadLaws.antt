@@ -12,7 +12,7 @@ use Rattle.lists.specs.Sorting.{repeats-not, perm-sorted, perm-length, sort-per
 use Rattle.lists.specs.Places.{getD-in}
 use Rattle.definitions.specs.Bits.{bitsOf}
 use Rattle.definitions.specs.Records.{Name, TypeInfo, Sheet}
-use Rattle.definitions.specs.Orders.{sameName}
+use Rattle.definitions.specs.Comparisons.{sameName}
 use Rattle.definitions.specs.Checks.{namesTwice, somethingTwice}
 use Rattle.definitions.specs.Map.{typeMapOf}
 use Rattle.definitions.specs.Legal.{Every, LegalName, LegalType}

@@ -7,7 +7,7 @@ use Prim.Native.Nat.{ℕ, zero, suc, _<_}
 use native.Mathlib.Omega.{arith}
 use lib.ListN.{replicate}
 use Rattle.lists.specs.Tests.{cons-elim}
-use Rattle.definitions.specs.Map.{TypeMap, declarationOf, mapOf}
+use Rattle.definitions.specs.Map.{TypeMap, lineTypeOf, lineMapOf}
 use Rattle.definitions.specs.Items.{parentsOf, reached, ancestors}
 use Rattle.rows.specs.Rows.{hasBit}
 use Rattle.ordering.specs.Reading.{listed, placeIn, parentIn, ReadsType, Reads}
@@ -60,6 +60,6 @@ chained-below =
     record { lower = λ q i. cons-elim i (λ e. rw e (omega arith)) (λ j. cons-elim j (λ e. rw e (omega arith)) (λ k. absurd (mathlib.Core.List.List·Memᴰ·not-nil k))) }
 
 -- type `c` has bits 0 and 1: its parent, and the parent of that
-pub chain-row : ancestors (mapOf chain) (declarationAt chain 2) ≡ typesIn chain 3 3
-unfolding ancestors reached parentsOf mapOf declarationOf hasBit
+pub chain-row : ancestors (lineMapOf chain) (declarationAt chain 2) ≡ typesIn chain 3 3
+unfolding ancestors reached parentsOf lineMapOf lineTypeOf hasBit
 chain-row = refl

@@ -13,8 +13,8 @@ use Rattle.lists.specs.Tests.{same-test, or-cases, or-left, or-right, any-in, a
 use Rattle.lists.specs.Lexicographic.{same-numbers, numbers-same}
 use Rattle.lists.specs.Appending.{map-map}
 use Rattle.definitions.specs.Records.{Name}
-use Rattle.definitions.specs.Orders.{sameName, elemName}
-use Rattle.definitions.specs.Map.{TypeMap, Declaration, declarationOf, mapOf}
+use Rattle.definitions.specs.Comparisons.{sameName, elemName}
+use Rattle.definitions.specs.Map.{TypeMap, LineType, lineTypeOf, lineMapOf}
 use Rattle.definitions.specs.Items.{parentsOf, ancestors}
 use Rattle.rows.specs.Rows.{hasBit}
 use Rattle.ordering.specs.Lists.{below, below-in, below-is, below-same, filter-below}
@@ -35,24 +35,24 @@ in-below f n {x} h e = let r = any-of (eqb x) (below f n) (below-in f n x h e) i
 module _ (p : Parents) (m : TypeMap) (r : Reads p m) where
   -- ---- the types by their places
 
-  pub types-at : mapOf m .types ≡ map (declarationAt m) (below (λ t. true) (p .count))
-  unfolding mapOf
-  types-at = ap (map declarationOf) (types-are p m r) ∙ map-map declarationOf (typeAt m) (below (λ t. true) (p .count))
+  pub types-at : lineMapOf m .types ≡ map (declarationAt m) (below (λ t. true) (p .count))
+  unfolding lineMapOf
+  types-at = ap (map lineTypeOf) (types-are p m r) ∙ map-map lineTypeOf (typeAt m) (below (λ t. true) (p .count))
 
-  pub type-in : (a : ℕ) → a < p .count → In (declarationAt m a) (mapOf m .types)
+  pub type-in : (a : ℕ) → a < p .count → In (declarationAt m a) (lineMapOf m .types)
   type-in a h = rw types-at (Memᴰ·map (declarationAt m) (in-below (λ t. true) (p .count) h refl))
 
-  pub type-of : {X : Declaration} → In X (mapOf m .types) → (a : ℕ) × (a < p .count) × (declarationAt m a ≡ X)
+  pub type-of : {X : LineType} → In X (lineMapOf m .types) → (a : ℕ) × (a < p .count) × (declarationAt m a ≡ X)
   type-of {X} i =
       let u = Memᴰ·of-map (declarationAt m) (below (λ t. true) (p .count)) (subst (In X) types-at i) in
       (u .0, below-of (λ t. true) (p .count) (u .1) .0, u .2)
 
   name-at : (a : ℕ) → declarationAt m a .name ≡ typeAt m a .name
-  unfolding declarationOf
+  unfolding lineTypeOf
   name-at a = refl
 
   inherits-at : (t : ℕ) (n : Name) → declarationAt m t .inherits n ≡ elemName n (typeAt m t .parents)
-  unfolding declarationOf
+  unfolding lineTypeOf
   inherits-at t n = refl
 
   -- the place of a type's name is its place
@@ -61,27 +61,27 @@ module _ (p : Parents) (m : TypeMap) (r : Reads p m) where
 
   pub one-place : (a b : ℕ) → a < p .count → b < p .count → declarationAt m a ≡ declarationAt m b → a ≡ b
   one-place a b h k e =
-      let n : typeAt m a .name ≡ typeAt m b .name = sym (name-at a) ∙ ap (λ (D : Declaration). D .name) e ∙ name-at b in
+      let n : typeAt m a .name ≡ typeAt m b .name = sym (name-at a) ∙ ap (λ (D : LineType). D .name) e ∙ name-at b in
       sym (place-at (typeAt m a .name) a h refl) ∙ place-at (typeAt m a .name) b k n
 
-  pub one-name : OneName (mapOf m)
+  pub one-name : OneName (lineMapOf m)
   one-name A B i j e =
       let u = type-of i in
       let w = type-of j in
       let n : typeAt m (u .0) .name ≡ typeAt m (w .0) .name =
-      sym (name-at (u .0)) ∙ ap (λ (D : Declaration). D .name) (u .2) ∙ e ∙ ap (λ (D : Declaration). D .name) (sym (w .2)) ∙ name-at (w .0) in
+      sym (name-at (u .0)) ∙ ap (λ (D : LineType). D .name) (u .2) ∙ e ∙ ap (λ (D : LineType). D .name) (sym (w .2)) ∙ name-at (w .0) in
       let z : u .0 ≡ w .0 = sym (place-at (typeAt m (u .0) .name) (u .0) (u .1) refl) ∙ place-at (typeAt m (u .0) .name) (w .0) (w .1) n in
       sym (u .2) ∙ ap (declarationAt m) z ∙ w .2
 
   -- ---- the direct parents by their places
 
-  pub parent-of : (t : ℕ) → t < p .count → {P : Declaration} → In P (parentsOf (mapOf m) (declarationAt m t))
+  pub parent-of : (t : ℕ) → t < p .count → {P : LineType} → In P (parentsOf (lineMapOf m) (declarationAt m t))
       → (q : Parent) × In q (listed p t) × (q .place < p .count) × (declarationAt m (q .place) ≡ P)
   unfolding parentsOf parentIn
   parent-of t h {P} i =
-      let f = filter-of (λ (Q : Declaration). declarationAt m t .inherits (Q .name)) (mapOf m .types) i in
+      let f = filter-of (λ (Q : LineType). declarationAt m t .inherits (Q .name)) (lineMapOf m .types) i in
       let b = type-of (f .0) in
-      let n : P .name ≡ typeAt m (b .0) .name = ap (λ (D : Declaration). D .name) (sym (b .2)) ∙ name-at (b .0) in
+      let n : P .name ≡ typeAt m (b .0) .name = ap (λ (D : LineType). D .name) (sym (b .2)) ∙ name-at (b .0) in
       let u = any-of (sameName (P .name)) (typeAt m t .parents) (sym (inherits-at t (P .name)) ∙ f .1) in
       let z : placeIn m (u .0) ≡ b .0 = place-at (u .0) (b .0) (b .1) (sym (same-numbers (P .name) (u .0) (u .2)) ∙ n) in (
         parentIn m (u .0),
@@ -91,14 +91,14 @@ module _ (p : Parents) (m : TypeMap) (r : Reads p m) where
       )
 
   pub parent-in : (t : ℕ) → t < p .count → (q : Parent) → In q (listed p t) → q .place < p .count
-      → In (declarationAt m (q .place)) (parentsOf (mapOf m) (declarationAt m t))
+      → In (declarationAt m (q .place)) (parentsOf (lineMapOf m) (declarationAt m t))
   unfolding parentsOf parentIn
   parent-in t h q i k =
       let u = Memᴰ·of-map (parentIn m) (typeAt m t .parents) (subst (In q) (r .types t h .parents) i) in
       let z : placeIn m (u .0) ≡ q .place = ap (λ (x : Parent). x .place) (u .2) in
       let s : sameName (u .0) (typeAt m (q .place) .name) ≡ true = place-same p m r (u .0) (q .place) k ∙ eq-eqb _ _ z in
       let n : u .0 ≡ typeAt m (q .place) .name = same-numbers (u .0) (typeAt m (q .place) .name) s in
-      filter-in (λ (Q : Declaration). declarationAt m t .inherits (Q .name)) (type-in (q .place) k)
+      filter-in (λ (Q : LineType). declarationAt m t .inherits (Q .name)) (type-in (q .place) k)
       (rw (name-at (q .place), inherits-at t) (any-in (sameName (typeAt m (q .place) .name)) (u .1) (rw n (numbers-same {l = (typeAt m (q .place) .name)} refl))))
 
   -- ---- a row and the types in it
@@ -113,8 +113,8 @@ module _ (p : Parents) (m : TypeMap) (r : Reads p m) where
       subst (λ x. hasBit row x ≡ true) (one-place (u .0) a (b .0) h (u .2)) (b .1)
 
   -- some of the types, in their order, are those of a row if they have the same members
-  pub filter-row : (f : Declaration → Bool) (row : ℕ) → ((a : ℕ) → a < p .count → f (declarationAt m a) ≡ hasBit row a)
-      → filter f (mapOf m .types) ≡ typesIn m (p .count) row
+  pub filter-row : (f : LineType → Bool) (row : ℕ) → ((a : ℕ) → a < p .count → f (declarationAt m a) ≡ hasBit row a)
+      → filter f (lineMapOf m .types) ≡ typesIn m (p .count) row
   filter-row f row e =
       ap (filter f) types-at
       ∙ filter-below f (declarationAt m) (λ t. true) (p .count)
@@ -122,9 +122,9 @@ module _ (p : Parents) (m : TypeMap) (r : Reads p m) where
 
   module _ (rows : List ℕ) (t row : ℕ) (h : t < p .count) (g : Gathered p rows t row)
       (ready : (q : Parent) → In q (listed p t) → (q .place < p .count) × RowOf p (getD rows (q .place) 0) (q .place)) where
-    gathered-of : (a : ℕ) → a < p .count → In (declarationAt m a) (ancestors (mapOf m) (declarationAt m t)) → hasBit row a ≡ true
+    gathered-of : (a : ℕ) → a < p .count → In (declarationAt m a) (ancestors (lineMapOf m) (declarationAt m t)) → hasBit row a ≡ true
     gathered-of a k i =
-        let u = ancestor-above (mapOf m) one-name (declarationAt m t) (declarationAt m a) i in
+        let u = ancestor-above (lineMapOf m) one-name (declarationAt m t) (declarationAt m a) i in
         let q = parent-of t h (u .1) in
         let s : reaches rows a (q .0) ≡ true =
         ⊎-elim
@@ -132,15 +132,15 @@ module _ (p : Parents) (m : TypeMap) (r : Reads p m) where
         (λ j.
         or-right (eqb (q .0 .place) a)
         (row-of (getD rows (q .0 .place) 0) a k
-        (subst (In (declarationAt m a)) (ap (ancestors (mapOf m)) (sym (q .3)) ∙ ready (q .0) (q .1) .1 .above m r) j)))
+        (subst (In (declarationAt m a)) (ap (ancestors (lineMapOf m)) (sym (q .3)) ∙ ready (q .0) (q .1) .1 .above m r) j)))
         (u .2) in
         g .bits a ∙ any-in (reaches rows a) (q .1) s
 
-    gathered-in : (a : ℕ) → a < p .count → hasBit row a ≡ true → In (declarationAt m a) (ancestors (mapOf m) (declarationAt m t))
+    gathered-in : (a : ℕ) → a < p .count → hasBit row a ≡ true → In (declarationAt m a) (ancestors (lineMapOf m) (declarationAt m t))
     gathered-in a k e =
         let q = any-of (reaches rows a) (listed p t) (sym (g .bits a) ∙ e) in
         let d = ready (q .0) (q .1) in
-        above-ancestor (mapOf m) one-name (declarationAt m t) (declarationAt m a) (
+        above-ancestor (lineMapOf m) one-name (declarationAt m t) (declarationAt m a) (
           declarationAt m (q .0 .place),
           parent-in t h (q .0) (q .1) (d .0),
           ⊎-elim
@@ -149,15 +149,15 @@ module _ (p : Parents) (m : TypeMap) (r : Reads p m) where
               (or-cases (eqb (q .0 .place) a) (hasBit (getD rows (q .0 .place) 0) a) (q .2)),
         )
 
-    gathered-row : ancestors (mapOf m) (declarationAt m t) ≡ typesIn m (p .count) row
+    gathered-row : ancestors (lineMapOf m) (declarationAt m t) ≡ typesIn m (p .count) row
     gathered-row =
-        let f = ancestors-filtered (mapOf m) (declarationAt m t) in
+        let f = ancestors-filtered (lineMapOf m) (declarationAt m t) in
         f .1
         ∙ filter-row (f .0) row
         (λ a k.
         same-test
         (λ e. gathered-of a k (rw (f .1) (filter-in (f .0) (type-in a k) e)))
-        (λ e. filter-of (f .0) (mapOf m .types) (subst (In (declarationAt m a)) (f .1) (gathered-in a k e)) .1))
+        (λ e. filter-of (f .0) (lineMapOf m .types) (subst (In (declarationAt m a)) (f .1) (gathered-in a k e)) .1))
 
 -- the row of a type whose parents have theirs
 pub row-gathered : (p : Parents) (rows : List ℕ) (t row : ℕ) → t < p .count → Gathered p rows t row
@@ -173,7 +173,7 @@ row-gathered p rows t row h g ready =
 
 -- bit a of row t is set exactly if type a is a proper ancestor of type t
 pub bit-ancestor : (p : Parents) (rows : List ℕ) → Ancestors p rows → (m : TypeMap) → Reads p m → (t a : ℕ) → t < p .count → a < p .count
-    → (hasBit (getD rows t 0) a ≡ true) ↔ In (declarationAt m a) (ancestors (mapOf m) (declarationAt m t))
+    → (hasBit (getD rows t 0) a ≡ true) ↔ In (declarationAt m a) (ancestors (lineMapOf m) (declarationAt m t))
 bit-ancestor p rows A m r t a h k = (
   λ e. rw (A .right t h .above m r) (row-in p m r (getD rows t 0) a k e),
   λ i. row-of p m r (getD rows t 0) a k (subst (In (declarationAt m a)) (A .right t h .above m r) i),

@@ -6,7 +6,7 @@ use Prim.Native.Nat.{ℕ, _+_, _*_, _≤_, _<_}
 use lib.Dec.{eqb}
 use lib.ListN.{length, getD}
 use Rattle.lists.specs.Lists.{In, any}
-use Rattle.definitions.specs.Map.{TypeMap, Declaration, declarationOf, mapOf}
+use Rattle.definitions.specs.Map.{TypeMap, LineType, lineTypeOf, lineMapOf}
 use Rattle.definitions.specs.Items.{ancestors}
 use Rattle.rows.specs.Rows.{hasBit}
 use Rattle.ordering.specs.Lists.{tab, below}
@@ -17,16 +17,16 @@ use Rattle.ordering.specs.declared.Parents.{Parents}
 use Rattle.ordering.specs.declared.Order.{Order}
 
 -- the declaration of the type at a place in name order
-abbrev pub declarationAt : TypeMap → ℕ → Declaration
-declarationAt m t = declarationOf (typeAt m t)
+abbrev pub declarationAt : TypeMap → ℕ → LineType
+declarationAt m t = lineTypeOf (typeAt m t)
 
 -- the types of a row, ascending by place
-abbrev pub typesIn : TypeMap → ℕ → ℕ → List Declaration
+abbrev pub typesIn : TypeMap → ℕ → ℕ → List LineType
 typesIn m n row = map (declarationAt m) (below (hasBit row) n)
 
 -- the row of type t has its proper ancestors, for every map that p reads, and nothing else
 pub record RowOf (p : Parents) (row t : ℕ) : Type 0 where
-  pub above : (m : TypeMap) → Reads p m → ancestors (mapOf m) (declarationAt m t) ≡ typesIn m (p .count) row
+  pub above : (m : TypeMap) → Reads p m → ancestors (lineMapOf m) (declarationAt m t) ≡ typesIn m (p .count) row
   pub within : (a : ℕ) → p .count ≤ a → hasBit row a ≡ false
 
 -- each type has its row

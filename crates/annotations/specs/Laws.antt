@@ -19,9 +19,9 @@ use Rattle.rows.specs.Rows.{has, either, single, empty}
 use Rattle.rows.specs.RowLaws.{has-either, has-single}
 use Rattle.rows.specs.Lists.{elem, below, between-same, between-one, elem-between, elem-below, Climbs, set-united}
 use Rattle.definitions.specs.Records.{Dom, AssociatedResource}
-use Rattle.definitions.specs.Orders.{domBefore}
+use Rattle.definitions.specs.Comparisons.{domBefore}
 use Rattle.definitions.specs.Checks.{kindOf, resourcesOf}
-use Rattle.definitions.specs.Annotations.{Overlap, nothing, whole, byWord, overlaps, overlapOf, aliasOf, sameAlias, hasWord, domsIn, united, shared, less, someIf, withResources, unlessEmpty, intersectionBy, intersection, differenceBy, difference}
+use Rattle.definitions.specs.Annotations.{Overlap, nothing, whole, byWord, overlaps, overlapOf, aliasOf, sameAlias, hasAssociatedWord, domsIn, united, shared, less, someIf, withResources, unlessEmpty, intersectionBy, intersection, differenceBy, difference}
 use Rattle.annotations.specs.declared.AnnotationInfo.{AnnotationInfo}
 use Rattle.annotations.specs.Reading.{domAt, domsOf, pairs, resourcesIn, ofKind, infoOf, Held, With}
 
@@ -76,7 +76,7 @@ member-at (v ∷ ws) zero j w p q e = absurd (not-suc-le-zero p)
 member-at (v ∷ ws) (suc n) zero w p q e = rw (eq-eqb v w e)
 member-at (v ∷ ws) (suc n) (suc j) w p q e = or-right (eqb v w) (member-at ws n j w (le-of-suc-le-suc p) (le-of-suc-le-suc q) e)
 
-pub has-member : (k : ℕ) (ws : List ℕ) (ds : List Row) (w : ℕ) → k ≤ length ws → k ≤ length ds → hasWord (upto k ws ds) w ≡ member (take k ws) w
+pub has-member : (k : ℕ) (ws : List ℕ) (ds : List Row) (w : ℕ) → k ≤ length ws → k ≤ length ds → hasAssociatedWord (upto k ws ds) w ≡ member (take k ws) w
 has-member zero ws ds w p q = refl
 has-member (suc k) [] ds w p q = refl
 has-member (suc k) (v ∷ ws) [] w p q = absurd (not-suc-le-zero q)
@@ -181,56 +181,56 @@ module _ (d : Row) (w : ℕ) (ws : List ℕ) (ds : List Row) where
 -- ---- a turn of the two loops
 
 module _ (us vs : List AssociatedResource) (u : AssociatedResource) where
-  less-yes : hasWord vs (u .word) ≡ false → less (us ++ (u ∷ [])) vs ≡ less us vs ++ (u ∷ [])
+  less-yes : hasAssociatedWord vs (u .word) ≡ false → less (us ++ (u ∷ [])) vs ≡ less us vs ++ (u ∷ [])
   unfolding less
   less-yes e =
-      filter-append (λ (x : AssociatedResource). not (hasWord vs (x .word))) us (u ∷ [])
-      ∙ ap (λ z. filter (λ (x : AssociatedResource). not (hasWord vs (x .word))) us ++ z) (rw e refl)
+      filter-append (λ (x : AssociatedResource). not (hasAssociatedWord vs (x .word))) us (u ∷ [])
+      ∙ ap (λ z. filter (λ (x : AssociatedResource). not (hasAssociatedWord vs (x .word))) us ++ z) (rw e refl)
 
-  less-no : hasWord vs (u .word) ≡ true → less (us ++ (u ∷ [])) vs ≡ less us vs
+  less-no : hasAssociatedWord vs (u .word) ≡ true → less (us ++ (u ∷ [])) vs ≡ less us vs
   unfolding less
   less-no e =
-      let z : filter (λ (x : AssociatedResource). not (hasWord vs (x .word))) (u ∷ []) ≡ [] = rw e refl in
-      filter-append (λ (x : AssociatedResource). not (hasWord vs (x .word))) us (u ∷ [])
-      ∙ ap (λ y. filter (λ (x : AssociatedResource). not (hasWord vs (x .word))) us ++ y) z ∙ append-nil (filter (λ (x : AssociatedResource). not (hasWord vs (x .word))) us)
+      let z : filter (λ (x : AssociatedResource). not (hasAssociatedWord vs (x .word))) (u ∷ []) ≡ [] = rw e refl in
+      filter-append (λ (x : AssociatedResource). not (hasAssociatedWord vs (x .word))) us (u ∷ [])
+      ∙ ap (λ y. filter (λ (x : AssociatedResource). not (hasAssociatedWord vs (x .word))) us ++ y) z ∙ append-nil (filter (λ (x : AssociatedResource). not (hasAssociatedWord vs (x .word))) us)
 
-  shared-yes : hasWord vs (u .word) ≡ true → shared (us ++ (u ∷ [])) vs ≡ shared us vs ++ (united vs u ∷ [])
+  shared-yes : hasAssociatedWord vs (u .word) ≡ true → shared (us ++ (u ∷ [])) vs ≡ shared us vs ++ (united vs u ∷ [])
   unfolding shared
   shared-yes e =
       ap (map (united vs))
-      (filter-append (λ (x : AssociatedResource). hasWord vs (x .word)) us (u ∷ [])
-      ∙ ap (λ z. filter (λ (x : AssociatedResource). hasWord vs (x .word)) us ++ z) (rw e refl))
-      ∙ map-append (united vs) (filter (λ (x : AssociatedResource). hasWord vs (x .word)) us) (u ∷ [])
+      (filter-append (λ (x : AssociatedResource). hasAssociatedWord vs (x .word)) us (u ∷ [])
+      ∙ ap (λ z. filter (λ (x : AssociatedResource). hasAssociatedWord vs (x .word)) us ++ z) (rw e refl))
+      ∙ map-append (united vs) (filter (λ (x : AssociatedResource). hasAssociatedWord vs (x .word)) us) (u ∷ [])
 
-  shared-no : hasWord vs (u .word) ≡ false → shared (us ++ (u ∷ [])) vs ≡ shared us vs
+  shared-no : hasAssociatedWord vs (u .word) ≡ false → shared (us ++ (u ∷ [])) vs ≡ shared us vs
   unfolding shared
   shared-no e =
-      let z : filter (λ (x : AssociatedResource). hasWord vs (x .word)) (u ∷ []) ≡ [] = rw e refl in
+      let z : filter (λ (x : AssociatedResource). hasAssociatedWord vs (x .word)) (u ∷ []) ≡ [] = rw e refl in
       ap (map (united vs))
-      (filter-append (λ (x : AssociatedResource). hasWord vs (x .word)) us (u ∷ [])
-      ∙ ap (λ y. filter (λ (x : AssociatedResource). hasWord vs (x .word)) us ++ y) z ∙ append-nil (filter (λ (x : AssociatedResource). hasWord vs (x .word)) us))
+      (filter-append (λ (x : AssociatedResource). hasAssociatedWord vs (x .word)) us (u ∷ [])
+      ∙ ap (λ y. filter (λ (x : AssociatedResource). hasAssociatedWord vs (x .word)) us ++ y) z ∙ append-nil (filter (λ (x : AssociatedResource). hasAssociatedWord vs (x .word)) us))
 
 module _ (ws out : List ℕ) (ds sets : List Row) (k i : ℕ) (p : i < length ws) (q : i < length ds) (r : k < length out) (s : k < length sets) (vs : List AssociatedResource) where
-  pub less-kept : hasWord vs (getD ws i 0) ≡ false → upto k out sets ≡ less (upto i ws ds) vs
+  pub less-kept : hasAssociatedWord vs (getD ws i 0) ≡ false → upto k out sets ≡ less (upto i ws ds) vs
       → upto (k + 1) (set out k (getD ws i 0)) (set sets k (getD ds i empty)) ≡ less (upto (i + 1) ws ds) vs
   less-kept h e =
       upto-stored k out sets (getD ws i 0) (getD ds i empty) r s ∙ ap (λ z. z ++ (resource (getD ws i 0) (getD ds i empty) ∷ [])) e
       ∙ sym (less-yes (upto i ws ds) vs (resource (getD ws i 0) (getD ds i empty)) h) ∙ ap (λ z. less z vs) (sym (upto-step i ws ds p q))
 
-  pub less-dropped : hasWord vs (getD ws i 0) ≡ true → upto k out sets ≡ less (upto i ws ds) vs
+  pub less-dropped : hasAssociatedWord vs (getD ws i 0) ≡ true → upto k out sets ≡ less (upto i ws ds) vs
       → upto k (set out k (getD ws i 0)) (set sets k (getD ds i empty)) ≡ less (upto (i + 1) ws ds) vs
   less-dropped h e =
       upto-over k out sets (getD ws i 0) (getD ds i empty) ∙ e ∙ sym (less-no (upto i ws ds) vs (resource (getD ws i 0) (getD ds i empty)) h)
       ∙ ap (λ z. less z vs) (sym (upto-step i ws ds p q))
 
-  pub shared-kept : (d : Row) → domsOf d ≡ setOf domBefore (domsOf (getD ds i empty) ++ domsIn vs (getD ws i 0)) → hasWord vs (getD ws i 0) ≡ true
+  pub shared-kept : (d : Row) → domsOf d ≡ setOf domBefore (domsOf (getD ds i empty) ++ domsIn vs (getD ws i 0)) → hasAssociatedWord vs (getD ws i 0) ≡ true
       → upto k out sets ≡ shared (upto i ws ds) vs → upto (k + 1) (set out k (getD ws i 0)) (set sets k d) ≡ shared (upto (i + 1) ws ds) vs
   shared-kept d f h e =
       upto-stored k out sets (getD ws i 0) d r s
       ∙ ap₂ (λ (z : List AssociatedResource) (y : List Dom). z ++ (record { word = getD ws i 0; doms = y } ∷ [])) e f
       ∙ sym (shared-yes (upto i ws ds) vs (resource (getD ws i 0) (getD ds i empty)) h) ∙ ap (λ z. shared z vs) (sym (upto-step i ws ds p q))
 
-  pub shared-dropped : (d : Row) → hasWord vs (getD ws i 0) ≡ false → upto k out sets ≡ shared (upto i ws ds) vs
+  pub shared-dropped : (d : Row) → hasAssociatedWord vs (getD ws i 0) ≡ false → upto k out sets ≡ shared (upto i ws ds) vs
       → upto k (set out k (getD ws i 0)) (set sets k d) ≡ shared (upto (i + 1) ws ds) vs
   shared-dropped d h e =
       upto-over k out sets (getD ws i 0) d ∙ e ∙ sym (shared-no (upto i ws ds) vs (resource (getD ws i 0) (getD ds i empty)) h)

@@ -9,7 +9,7 @@ use Rattle.rows.specs.declared.Row.{Row}
 use Rattle.rows.specs.Rows.{has}
 use Rattle.rows.specs.Lists.{below}
 use Rattle.definitions.specs.Records.{Name, Dom, AssociatedResource, AnnotationOf, makeList, associate, nestAssociate, alias, inherit, derive, noDerive}
-use Rattle.definitions.specs.Orders.{dotted}
+use Rattle.definitions.specs.Comparisons.{dotted}
 use Rattle.definitions.specs.Annotations.{someIf, nothing, whole, byWord}
 use Rattle.annotations.specs.declared.AnnotationInfo.{AnnotationInfo}
 use Rattle.annotations.specs.declared.Part.{Part}

@@ -6,8 +6,8 @@ ghost use Prim.Native.Nat.{_<_, _≤_};
 ghost use lib.Dec.{ltb};
 ghost use lib.ListN.{getD};
 ghost use Rattle.lists.specs.Lists.{setOf};
-ghost use Rattle.definitions.specs.Orders.{domBefore};
-ghost use Rattle.definitions.specs.Annotations.{overlaps, nothing, sameAlias, hasWord, domsIn, shared, less, intersection, difference};
+ghost use Rattle.definitions.specs.Comparisons.{domBefore};
+ghost use Rattle.definitions.specs.Annotations.{overlaps, nothing, sameAlias, hasAssociatedWord, domsIn, shared, less, intersection, difference};
 ghost use Rattle.annotations.specs.Reading.{Held, domsOf, resourcesIn, infoOf, asOverlap, partOf, With};
 
 // 'Annotations holding vectors become a kind beside flat arrays': the kind's number, the word of an Alias or the tag of a Derive, and the resources of an
@@ -130,7 +130,7 @@ pub fn same_alias(x: AnnotationInfo, y: AnnotationInfo) -> bool
 // Whether it has a resource of that word.
 pub fn has_word(y: AnnotationInfo, w: u8) -> bool
     requires { ⌜ Held y ⌝ }
-    ensures { λ r. ⌜ r ≡ hasWord (resourcesIn y) w ⌝ }
+    ensures { λ r. ⌜ r ≡ hasAssociatedWord (resourcesIn y) w ⌝ }
 {
     let count = y.count;
     let words = y.words;

@@ -17,7 +17,7 @@ use Rattle.definitions.specs.Map.{TypeMap, typeMapOf}
 use Rattle.definitions.specs.Order.{organizeTypeMap}
 use Rattle.definitions.specs.Legal.{Every}
 use Rattle.definitions.specs.Packing.{orderBits, scheduleBits, countedBits, itemBits}
-use Rattle.definitions.specs.Answer.{Call, schedule, order, Input, Refusal, refusedBy, sheetOf, itemsFor, scheduleOf, bitsWritten, refusals, refuse, accept, firstRefusal, mapIn, outcome}
+use Rattle.definitions.specs.Answer.{Call, schedule, order, Input, Refusal, refusedBy, sheetOf, itemsWritten, scheduleOf, bitsWritten, refusals, reject, accept, firstRefusal, typeMapIn, outcome}
 use Rattle.bits.specs.NumberLaws.{length-packTo}
 use Rattle.line_laws.specs.Statements.{Readable}
 use Rattle.line_laws.specs.Within.{Within}
@@ -34,7 +34,7 @@ most = 20950000
 
 order-part : (m : TypeMap) → length (orderBits (organizeTypeMap m)) ≤ length (scheduleBits (scheduleOf schedule m))
 unfolding scheduleBits scheduleOf
-order-part m = omega (arith, length-append (orderBits (organizeTypeMap m)) (countedBits 16 itemBits (itemsFor schedule m)))
+order-part m = omega (arith, length-append (orderBits (organizeTypeMap m)) (countedBits 16 itemBits (itemsWritten schedule m)))
 
 few-bits : (c : Call) (s : Sheet) → Readable s → Within s → size (length (bitsWritten c (scheduleOf c (typeMapOf s)))) ≤ most
 unfolding scheduleOf
@@ -51,7 +51,7 @@ NoSize l = Every (λ (r : Refusal). r .size tt ≡ 0) l
 
 front : (i : Input) (before after : List Refusal) → NoSize before → (NoneHolds before → firstRefusal i after .answer .size ≤ most)
     → firstRefusal i (before ++ after) .answer .size ≤ most
-unfolding firstRefusal refuse
+unfolding firstRefusal reject
 front i [] after z h = h tt
 front i (r ∷ before) after z h =
     by (r .holds tt) (λ e. rw (e, firstRefusal, z .0) (omega arith)) (λ e. rw (e, firstRefusal) (front i before after (z .1) (λ n. h (e, n))))
@@ -83,7 +83,7 @@ small i n = go (sheet (bitsOf (i .sheet))) refl
 
 -- '10 answers the needed size, acceptance the size written'
 last : (i : Input) → NoneHolds (take 7 (refusals i)) → firstRefusal i (drop 9 (refusals i)) .answer .size ≤ most
-unfolding refusals firstRefusal refuse accept mapIn pack
+unfolding refusals firstRefusal reject accept typeMapIn pack
 last i n =
     let b = small i n in
     let bits = bitsFor i (sheet (bitsOf (i .sheet))) in
@@ -100,7 +100,7 @@ sizes i =
 -- ---- rows
 
 few-rows : (i : Input) (l : List Refusal) → firstRefusal i l .answer .rows ≤ i .settings .rows
-unfolding firstRefusal refuse accept
+unfolding firstRefusal reject accept
 few-rows i [] = omega arith
 few-rows i (r ∷ l) = by (r .holds tt) (λ e. rw (e, firstRefusal) (omega arith)) (λ e. rw (e, firstRefusal) (few-rows i l))
 
@@ -111,7 +111,7 @@ rows i = few-rows i (refusals i)
 -- ---- numbers
 
 few-numbers : (i : Input) (l : List Refusal) → Every (λ (r : Refusal). r .number ≤ 10) l → firstRefusal i l .answer .number ≤ 10
-unfolding firstRefusal refuse accept
+unfolding firstRefusal reject accept
 few-numbers i [] e = omega arith
 few-numbers i (r ∷ l) e = by (r .holds tt) (λ t. rw (t, firstRefusal) (e .0)) (λ t. rw (t, firstRefusal) (few-numbers i l (e .1)))
 

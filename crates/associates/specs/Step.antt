@@ -8,7 +8,7 @@ use Rattle.lists.specs.Lists.{filter, firstOf}
 use Rattle.rows.specs.declared.Row.{Row}
 use Rattle.definitions.specs.Records as records
 use Rattle.definitions.specs.Records.{Item}
-use Rattle.definitions.specs.Map.{Declaration}
+use Rattle.definitions.specs.Map.{LineType}
 use Rattle.definitions.specs.Synthesis.{Verdict, unknownClasses, ends, noResource, duplicate, makes, judge, classRow, isDuplicate, withMaking}
 use Rattle.table.specs.declared.Table.{Table}
 use Rattle.table.specs.Table.{declarationAt, tableMap, Sound}
@@ -29,7 +29,7 @@ abbrev pub reached : Progress → List ℕ → Reached
 reached p numbers = record { failed = p .failed; ended = p .ended; rows = p .rows; made = makingsIn numbers (p .made) }
 
 -- the rows that a verdict adds
-abbrev pub rowsIn : Declaration → ℕ → Verdict → List records.Row
+abbrev pub rowsIn : LineType → ℕ → Verdict → List records.Row
 rowsIn T r (unknownClasses xs) = map (classRow 4 T r) xs
 rowsIn T r ends = []
 rowsIn T r (noResource c) = classRow 5 T r c ∷ []
@@ -51,7 +51,7 @@ failsIn (noResource c) = true
 failsIn duplicate = true
 failsIn makes = false
 
-abbrev pub itemsIn : Declaration → ℕ → Item → List Item → Verdict → List Item
+abbrev pub itemsIn : LineType → ℕ → Item → List Item → Verdict → List Item
 itemsIn T r new is (unknownClasses xs) = is
 itemsIn T r new is ends = is
 itemsIn T r new is (noResource c) = is

@@ -9,7 +9,7 @@ use Rattle.lists.specs.Lists.{null, filter, firstOf}
 use Rattle.lists.specs.Tests.{never}
 use Rattle.rows.specs.declared.Row.{Row}
 use Rattle.definitions.specs.Records.{Name, Mark, Item, synthesized, extension}
-use Rattle.definitions.specs.Map.{Map, Declaration}
+use Rattle.definitions.specs.Map.{LineMap, LineType}
 use Rattle.definitions.specs.Making.{extensionParents, createSyntheticResource}
 use Rattle.definitions.specs.Packing.{rowBytes}
 use Rattle.definitions.specs.Synthesis.{Verdict, unknownClasses, ends, noResource, duplicate, makes, judge, classRow, isDuplicate}
@@ -102,12 +102,12 @@ counted t T r doms ps new f e =
 
 -- ---- rows 5 and 6
 
-pub row-one : (limit kind : ℕ) (D : Declaration) (w f s a b : ℕ) (c : Name) (st st′ : State) → D .name ≡ twoWords f s → c ≡ twoWords a b →
+pub row-one : (limit kind : ℕ) (D : LineType) (w f s a b : ℕ) (c : Name) (st st′ : State) → D .name ≡ twoWords f s → c ≡ twoWords a b →
     st′ ≡ emitBytes limit st (kind ∷ f ∷ s ∷ a ∷ b ∷ w ∷ []) → st′ ≡ emit limit st (classRow kind D w c ∷ [])
 unfolding emitting.emit
 row-one limit kind D w f s a b c st st′ p q e = e ∙ ap (emitBytes limit st) (sym (row-bytes kind D w f s a b c p q))
 
-pub row-none : (limit kind : ℕ) (D : Declaration) (w f s : ℕ) (st st′ : State) → D .name ≡ twoWords f s →
+pub row-none : (limit kind : ℕ) (D : LineType) (w f s : ℕ) (st st′ : State) → D .name ≡ twoWords f s →
     st′ ≡ emitBytes limit st (kind ∷ f ∷ s ∷ 255 ∷ 255 ∷ w ∷ []) → st′ ≡ emit limit st (classRow kind D w [] ∷ [])
 unfolding emitting.emit rowBytes
 row-none limit kind D w f s st st′ p e = e ∙ rw (p, name-bytes f s)
@@ -126,6 +126,6 @@ pub by-verdict : {t : Table} {T r : ℕ} {doms : Row} {ps limit : ℕ} {s : Reac
 by-verdict {t} {T} {r} {doms} {ps} {limit} {s} {b} {p} {b′} e x = subst (λ z. SteppedBy t T r doms ps limit s b p b′ z) (sym e) x
 
 -- the test on the making is the test on its item
-pub duplicate-same : (m : Map) (D : Declaration) (w w′ : ℕ) (x x′ : Item) (is : List Item) (r b : Bool) → r ≡ isDuplicate m D w x is → w ≡ w′ → x ≡ x′ → r ≡ b →
+pub duplicate-same : (m : LineMap) (D : LineType) (w w′ : ℕ) (x x′ : Item) (is : List Item) (r b : Bool) → r ≡ isDuplicate m D w x is → w ≡ w′ → x ≡ x′ → r ≡ b →
     b ≡ isDuplicate m D w′ x′ is
 duplicate-same m D w w′ x x′ is r b e p q f = sym f ∙ e ∙ (λ i. isDuplicate m D (p i) (q i) is)

@@ -4,24 +4,24 @@ use mathlib.Core.List.{List, [], _∷_, map, append-nil}
 use mathlib.Core.Path.{_≡_, refl, sym, ap}
 use Rattle.lists.specs.Lists.{null, filter, firstOf}
 use Rattle.definitions.specs.Records.{Name, AssociatedResource, Item}
-use Rattle.definitions.specs.Map.{Map, Declaration}
+use Rattle.definitions.specs.Map.{LineMap, LineType}
 use Rattle.definitions.specs.Making.{declared, classNames, isResource, createSyntheticResource}
 use Rattle.definitions.specs.Synthesis.{Verdict, unknownClasses, ends, noResource, duplicate, makes, judge, classRow, isDuplicate, withMaking, Interpreted, interpreted, behindRow, behindRows, firstParents, interpretWords}
 use Rattle.associates.specs.Step.{rowsIn, endsIn, failsIn, itemsIn}
 
 -- what is made for a resource of an annotation
-abbrev pub newFor : Map → Declaration → List Name → AssociatedResource → Item
+abbrev pub newFor : LineMap → LineType → List Name → AssociatedResource → Item
 newFor m T Ps u = createSyntheticResource m T (u .word) (classNames (u .doms) (u .word)) (firstParents Ps (classNames (u .doms) (u .word)) (u .word))
 
 -- the annotation from a word with that verdict on
-unfoldable pub from : Map → Declaration → List Name → AssociatedResource → List AssociatedResource → List Item → Verdict → Interpreted
+unfoldable pub from : LineMap → LineType → List Name → AssociatedResource → List AssociatedResource → List Item → Verdict → Interpreted
 from m T Ps u us is v =
     behindRows (rowsIn T (u .word) v)
     (cond (endsIn v)
     (interpreted [] (itemsIn T (u .word) (newFor m T Ps u) is v))
     (interpretWords m T Ps us (failsIn v) (itemsIn T (u .word) (newFor m T Ps u) is v)))
 
-pub words-step : (m : Map) (T : Declaration) (Ps : List Name) (u : AssociatedResource) (us : List AssociatedResource) (failed : Bool) (is : List Item) →
+pub words-step : (m : LineMap) (T : LineType) (Ps : List Name) (u : AssociatedResource) (us : List AssociatedResource) (failed : Bool) (is : List Item) →
     interpretWords m T Ps (u ∷ us) failed is
     ≡ from m T Ps u us is
     (judge failed (filter (λ c. null (declared m c)) (classNames (u .doms) (u .word))) (firstOf (λ c. mathlib.Core.Bool.not (isResource m c)) (classNames (u .doms) (u .word))) (isDuplicate m T (u .word) (newFor m T Ps u) is))

@@ -17,8 +17,8 @@ use Rattle.rows.specs.Rows.{has}
 use Rattle.rows.specs.Next.{First}
 use Rattle.annotations.specs.Reading.{domAt}
 use Rattle.definitions.specs.Records.{Name, Mark}
-use Rattle.definitions.specs.Orders.{dotted}
-use Rattle.definitions.specs.Map.{Declaration}
+use Rattle.definitions.specs.Comparisons.{dotted}
+use Rattle.definitions.specs.Map.{LineType}
 use Rattle.definitions.specs.Making.{declared, marksOf}
 use Rattle.definitions.specs.Packing.{markBits}
 use Rattle.records.specs.Marks.{markAs, ofMarks}
@@ -54,8 +54,8 @@ stage-next : (t : Table) (doms : Row) (word from k : ℕ) (ms : List Mark) (v : 
 stage-next t doms word from k ms v h s =
     let e = types-next t doms word from k h in
     record {
-      marks = ap (λ x. ms ++ each (λ (D : Declaration). D .marks) x) (sym e) ∙ s .marks;
-      flag = ap (λ x. v && all (λ (D : Declaration). D .virtual) x) (sym e) ∙ s .flag;
+      marks = ap (λ x. ms ++ each (λ (D : LineType). D .marks) x) (sym e) ∙ s .marks;
+      flag = ap (λ x. v && all (λ (D : LineType). D .virtual) x) (sym e) ∙ s .flag;
     }
 
 -- the place that was found for the class of a dom

@@ -13,7 +13,7 @@ use Rattle.lists.specs.Tests.{by, same-test, and-left, and-right, and-both}
 use Rattle.lists.specs.Tabulating.{tabulate, places, tabulate-more}
 use Rattle.lists.specs.Appending.{any-append}
 use Rattle.definitions.specs.Records as records
-use Rattle.definitions.specs.Orders.{sameName, dotted}
+use Rattle.definitions.specs.Comparisons.{sameName, dotted}
 use Rattle.definitions.specs.Making.{isResourceVariant}
 use Rattle.fields.specs.Fields.{twoWords, nameOf}
 use Rattle.types.specs.Types.{variantOf, typeInfoOf, zeroType, ofTypes, itemAt}

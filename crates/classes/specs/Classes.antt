@@ -8,7 +8,7 @@ use lib.Dec.{eqb}
 use lib.ListN.{length, getD, set}
 use Rattle.lists.specs.Lists.{any}
 use Rattle.definitions.specs.Records.{TypeInfo}
-use Rattle.definitions.specs.Orders.{sameName, dotted}
+use Rattle.definitions.specs.Comparisons.{sameName, dotted}
 use Rattle.definitions.specs.Making.{isResourceVariant}
 use Rattle.fields.specs.Fields.{twoWords}
 use Rattle.rows.specs.declared.Row.{Row}

@@ -5,7 +5,7 @@ use Prim.Native.Nat.{ℕ}
 use Rattle.lists.specs.Lists.{insert, sort}
 use Rattle.definitions.specs.Bits.{odd, toBits, bitsOf}
 use Rattle.definitions.specs.Parse.{fieldOnto, allowed, repeatOnto, counted}
-use Rattle.definitions.specs.Orders.{bytesBefore}
+use Rattle.definitions.specs.Comparisons.{bytesBefore}
 use Rattle.definitions.specs.Reading.{isWordByte, word, sheet}
 use Rattle.definitions.specs.Checks.{resourceBytes, selfBytes, badFill, badWords, namesTwice, keysTwice, wordsTwice, annotationsTwice, somethingTwice}
 use Rattle.definitions.specs.Map.{numberOf, typeMapOf}

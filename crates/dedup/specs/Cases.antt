@@ -13,7 +13,7 @@ use Rattle.rows.specs.Rows.{has, hasBit, none, either, common, without, single,
 use Rattle.rows.specs.RowLaws.{words-below}
 use Rattle.rows.specs.Lists.{between}
 use Rattle.definitions.specs.Records.{Name, AssociatedResource, associate}
-use Rattle.definitions.specs.Orders.{nameBefore}
+use Rattle.definitions.specs.Comparisons.{nameBefore}
 use Rattle.annotations.specs.Reading.{domsOf}
 use Rattle.dedup.specs.declared.Entry.{Entry}
 use Rattle.dedup.specs.declared.Entries.{Entries}

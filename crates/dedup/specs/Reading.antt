@@ -10,7 +10,7 @@ use Rattle.rows.specs.declared.Row.{Row}
 use Rattle.rows.specs.Rows.{has, either, none, empty, hasBit}
 use Rattle.rows.specs.Lists.{below}
 use Rattle.definitions.specs.Records.{Name, AssociatedResource, associate}
-use Rattle.definitions.specs.Orders.{nameBefore}
+use Rattle.definitions.specs.Comparisons.{nameBefore}
 use Rattle.definitions.specs.Annotations.{someIf}
 use Rattle.definitions.specs.Inherited.{InheritedAnnotation, dedupOne, dedupOnto}
 use Rattle.annotations.specs.Reading.{domsOf}

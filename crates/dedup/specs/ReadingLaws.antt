@@ -17,8 +17,8 @@ use Rattle.rows.specs.Rows.{has, either, common, without, empty, hasBit}
 use Rattle.rows.specs.RowLaws.{has-common, has-without, has-either, has-none, some-there, bit-either}
 use Rattle.rows.specs.Lists.{elem, below, between-none, map-between, filter-between, elem-between, set-either}
 use Rattle.definitions.specs.Records.{Name, Dom, AssociatedResource, associate}
-use Rattle.definitions.specs.Orders.{nameBefore, domBefore}
-use Rattle.definitions.specs.Annotations.{hasWord, domsIn, united, shared, less, someIf, overlapOf, intersection, difference}
+use Rattle.definitions.specs.Comparisons.{nameBefore, domBefore}
+use Rattle.definitions.specs.Annotations.{hasAssociatedWord, domsIn, united, shared, less, someIf, overlapOf, intersection, difference}
 use Rattle.definitions.specs.Inherited.{InheritedAnnotation, underParents, sharedEntry, restEntry, toList, dedupOne, dedupOnto}
 use Rattle.annotations.specs.Reading.{domAt, domsOf}
 use Rattle.annotations.specs.Laws.{climbing-doms}
@@ -36,7 +36,7 @@ at D w = record { word = w; doms = domsOf (D w) }
 any-elem : (w : ℕ) (l : List ℕ) → any (λ v. eqb v w) l ≡ elem w l
 any-elem w l = any-alike (λ v. eqb v w) (eqb w) (λ v. eqb-flip v w) l
 
-has-at : (D : ℕ → Row) (r : Row) (w : ℕ) → w < 200 → hasWord (resourcesAt D r) w ≡ has r w
+has-at : (D : ℕ → Row) (r : Row) (w : ℕ) → w < 200 → hasAssociatedWord (resourcesAt D r) w ≡ has r w
 unfolding resourcesAt
 has-at D r w h =
     any-map (λ (u : AssociatedResource). eqb (u .word) w) (at D) (below (has r) 200) ∙ any-elem w (below (has r) 200) ∙ elem-between (has r) w 0 200 (omega arith) h
@@ -74,18 +74,18 @@ module _ (D G E : ℕ → Row) (x y : Row) where
   unfolding less
   less-is h =
       opened E (without x y)
-      ∙ map-between (has (without x y)) (λ v. has x v && not (hasWord (resourcesAt G y) v)) (at E) (at D) 0 200
+      ∙ map-between (has (without x y)) (λ v. has x v && not (hasAssociatedWord (resourcesAt G y) v)) (at E) (at D) 0 200
       (λ w p q. has-without x y w ∙ ap (λ b. has x w && not b) (sym (has-at G y w (omega arith))))
       (λ w p q e.
       let t : (has x w && not (has y w)) ≡ true = sym (has-without x y w) ∙ e in
       ap (λ (r : Row). record { word = w; doms = domsOf r }) (h w (omega arith) (and-left _ _ t) (not-right (has x w) (has y w) t)))
-      ∙ sym (filter-at D (λ v. not (hasWord (resourcesAt G y) v)) x)
+      ∙ sym (filter-at D (λ v. not (hasAssociatedWord (resourcesAt G y) v)) x)
 
   pub shared-is : ((w : ℕ) → w < 200 → has x w ≡ true → has y w ≡ true → E w ≡ either (D w) (G w)) → resourcesAt E (common x y) ≡ shared (resourcesAt D x) (resourcesAt G y)
   unfolding shared
   shared-is h =
       opened E (common x y)
-      ∙ map-between (has (common x y)) (λ v. has x v && hasWord (resourcesAt G y) v) (at E) (λ v. united (resourcesAt G y) (at D v)) 0 200
+      ∙ map-between (has (common x y)) (λ v. has x v && hasAssociatedWord (resourcesAt G y) v) (at E) (λ v. united (resourcesAt G y) (at D v)) 0 200
       (λ w p q. has-common x y w ∙ ap (λ b. has x w && b) (sym (has-at G y w (omega arith))))
       (λ w p q e.
       let t : (has x w && has y w) ≡ true = sym (has-common x y w) ∙ e in
@@ -93,8 +93,8 @@ module _ (D G E : ℕ → Row) (x y : Row) where
       ap (λ (ds : List Dom). record { word = w; doms = ds })
       (ap domsOf (h w (omega arith) (and-left _ _ t) s) ∙ unite (D w) (G w)
       ∙ ap (λ (ds : List Dom). setOf domBefore (domsOf (D w) ++ ds)) (sym (doms-at G y w (omega arith) s))))
-      ∙ sym (map-map (united (resourcesAt G y)) (at D) (below (λ v. has x v && hasWord (resourcesAt G y) v) 200))
-      ∙ ap (map (united (resourcesAt G y))) (sym (filter-at D (λ v. hasWord (resourcesAt G y) v) x))
+      ∙ sym (map-map (united (resourcesAt G y)) (at D) (below (λ v. has x v && hasAssociatedWord (resourcesAt G y) v) 200))
+      ∙ ap (map (united (resourcesAt G y))) (sym (filter-at D (λ v. hasAssociatedWord (resourcesAt G y) v) x))
 
 none-at : (D : ℕ → Row) (r : Row) → Rattle.rows.specs.Rows.none r ≡ true → resourcesAt D r ≡ []
 unfolding resourcesAt
@@ -109,7 +109,7 @@ null-is D e s =
     let t = some-there (e .words) (s .small) p in
     rw p (there (resourcesAt D (e .words)) (t .at) (has-at D (e .words) (t .at) (s .words (t .at) (t .there)) ∙ t .there)))
   where
-    there : (us : List AssociatedResource) (w : ℕ) → hasWord us w ≡ true → not (null us) ≡ true
+    there : (us : List AssociatedResource) (w : ℕ) → hasAssociatedWord us w ≡ true → not (null us) ≡ true
     there [] w q = never q refl
     there (u ∷ us) w q = refl
 

@@ -6,7 +6,7 @@ use mathlib.Core.Path.{_≡_}
 use Prim.Native.Nat.{ℕ, zero, suc, _≤_, _<_}
 use Rattle.lists.specs.Lists.{In, At, Sorted}
 use Rattle.definitions.specs.Records.{Name, TypeInfo, Sheet}
-use Rattle.definitions.specs.Orders.{nameBefore}
+use Rattle.definitions.specs.Comparisons.{nameBefore}
 use Rattle.definitions.specs.Checks.{selfBytes}
 
 -- P is a parent of T: a declared type whose name T lists

@@ -7,7 +7,7 @@ use lib.Dec.{eqb, ltb}
 use lib.ListN.{getD}
 use Rattle.lists.specs.Lists.{any, null, filter, each, sameList, sort, setOf}
 use Rattle.definitions.specs.Records.{Dom, Resource, AssociatedResource, makeList, associate, nestAssociate, alias, inherit, derive, noDerive, Annotation, AnnotationInfo}
-use Rattle.definitions.specs.Orders.{domBefore, wordsBefore}
+use Rattle.definitions.specs.Comparisons.{domBefore, wordsBefore}
 use Rattle.definitions.specs.Checks.{resourcesOf, kindOf}
 
 -- ---- an annotation as the synthesis has it
@@ -29,12 +29,12 @@ infoOf (inherit ns) = inherit ns
 infoOf (derive t) = derive t
 infoOf noDerive = noDerive
 
-abbrev pub wordsOf : AnnotationInfo → List ℕ
-wordsOf a = map (λ (u : AssociatedResource). u .word) (resourcesOf a)
+abbrev pub wordListOf : AnnotationInfo → List ℕ
+wordListOf a = map (λ (u : AssociatedResource). u .word) (resourcesOf a)
 
 -- 'in kind order, Associates by ascending word list'
 unfoldable pub annotationBefore : AnnotationInfo → AnnotationInfo → Bool
-annotationBefore a b = ltb (kindOf a) (kindOf b) || (eqb (kindOf a) (kindOf b) && wordsBefore (wordsOf a) (wordsOf b))
+annotationBefore a b = ltb (kindOf a) (kindOf b) || (eqb (kindOf a) (kindOf b) && wordsBefore (wordListOf a) (wordListOf b))
 
 -- ---- the 49 pairs
 
@@ -73,8 +73,8 @@ sameAlias a b = sameList eqb (aliasOf a) (aliasOf b)
 
 -- ---- resources
 
-abbrev pub hasWord : List AssociatedResource → ℕ → Bool
-hasWord us w = any (λ (u : AssociatedResource). eqb (u .word) w) us
+abbrev pub hasAssociatedWord : List AssociatedResource → ℕ → Bool
+hasAssociatedWord us w = any (λ (u : AssociatedResource). eqb (u .word) w) us
 
 -- the doms that a list gives a word
 abbrev pub domsIn : List AssociatedResource → ℕ → List Dom
@@ -85,11 +85,11 @@ abbrev pub united : List AssociatedResource → AssociatedResource → Associate
 united vs u = record { word = u .word; doms = setOf domBefore (u .doms ++ domsIn vs (u .word)) }
 
 unfoldable pub shared : List AssociatedResource → List AssociatedResource → List AssociatedResource
-shared us vs = map (united vs) (filter (λ (u : AssociatedResource). hasWord vs (u .word)) us)
+shared us vs = map (united vs) (filter (λ (u : AssociatedResource). hasAssociatedWord vs (u .word)) us)
 
 -- 'drops the words the right has'
 unfoldable pub less : List AssociatedResource → List AssociatedResource → List AssociatedResource
-less us vs = filter (λ (u : AssociatedResource). not (hasWord vs (u .word))) us
+less us vs = filter (λ (u : AssociatedResource). not (hasAssociatedWord vs (u .word))) us
 
 -- the annotation with other resources; 'none if empty'
 abbrev pub withResources : AnnotationInfo → List AssociatedResource → AnnotationInfo

@@ -10,7 +10,7 @@ use Rattle.definitions.specs.Parse.{Parsed, done, refused}
 use Rattle.definitions.specs.Records.{Sheet, Item, Schedule, Row}
 use Rattle.definitions.specs.Reading.{sheet}
 use Rattle.definitions.specs.Checks.{badFill, badWords, somethingTwice}
-use Rattle.definitions.specs.Map.{TypeMap, typeMapOf, mapOf}
+use Rattle.definitions.specs.Map.{TypeMap, typeMapOf, lineMapOf}
 use Rattle.definitions.specs.Order.{hasOrder, organizeTypeMap}
 use Rattle.definitions.specs.OrderRows.{orderRows}
 use Rattle.definitions.specs.Synthesis.{synthesis}
@@ -67,13 +67,13 @@ sheetOf (refused r) = record { words = []; types = []; extensions = [] }
 
 -- ---- what an accepted sheet gives
 
-abbrev pub itemsFor : Call → TypeMap → List Item
-itemsFor schedule m = itemsOf (mapOf m)
-itemsFor order m = []
+abbrev pub itemsWritten : Call → TypeMap → List Item
+itemsWritten schedule m = itemsOf (lineMapOf m)
+itemsWritten order m = []
 
 -- the order of the types and the items; the order-only call has none
 unfoldable pub scheduleOf : Call → TypeMap → Schedule
-scheduleOf call m = record { order = organizeTypeMap m; items = itemsFor call m }
+scheduleOf call m = record { order = organizeTypeMap m; items = itemsWritten call m }
 
 abbrev pub bitsWritten : Call → Schedule → List Bool
 bitsWritten schedule s = scheduleBits s
@@ -129,8 +129,8 @@ refusals i =
     ∷ []
 
 -- 'Refusals leave both slices untouched, but 8 and 9 write the first 256 rows of their diagnosis and no other byte'
-unfoldable pub refuse : Input → Refusal → Outcome
-refuse i r =
+unfoldable pub reject : Input → Refusal → Outcome
+reject i r =
     let rs = r .rows tt in
     record {
       answer = record { number = r .number; size = r .size tt; rows = min (i .settings .rows) (length rs); more = ltb (i .settings .rows) (length rs) };
@@ -139,13 +139,13 @@ refuse i r =
     }
 
 -- the map of an input
-unfoldable pub mapIn : Input → TypeMap
-mapIn i = typeMapOf (sheetOf (sheet (bitsOf (i .sheet))))
+unfoldable pub typeMapIn : Input → TypeMap
+typeMapIn i = typeMapOf (sheetOf (sheet (bitsOf (i .sheet))))
 
 -- 'acceptance the size written, leaving the diagnosis slice'
 unfoldable pub accept : Input → Outcome
 accept i =
-    let bytes = pack (bitsWritten (i .call) (scheduleOf (i .call) (mapIn i))) in
+    let bytes = pack (bitsWritten (i .call) (scheduleOf (i .call) (typeMapIn i))) in
     record {
       answer = record { number = 0; size = length bytes; rows = 0; more = false };
       listing = overwrite bytes (i .listing);
@@ -155,7 +155,7 @@ accept i =
 -- the first refusal that holds, or acceptance
 unfoldable pub firstRefusal : Input → List Refusal → Outcome
 firstRefusal i [] = accept i
-firstRefusal i (r ∷ l) = elim (r .holds tt) [ true ↦ refuse i r | false ↦ firstRefusal i l ]
+firstRefusal i (r ∷ l) = elim (r .holds tt) [ true ↦ reject i r | false ↦ firstRefusal i l ]
 
 -- the outcome of a call
 unfoldable pub outcome : Input → Outcome

@@ -7,10 +7,10 @@ use lib.ListN.{replicate, drop, length}
 use Rattle.lists.specs.Lists.{insert, sort, include, setOf}
 use Rattle.definitions.specs.Bits.{odd, toBits, bitsOf, num, packTo, pack}
 use Rattle.definitions.specs.Parse.{fieldOnto, allowed, repeatOnto, counted}
-use Rattle.definitions.specs.Orders.{nameBefore, domBefore, wordsBefore, bytesBefore, lookUp}
+use Rattle.definitions.specs.Comparisons.{nameBefore, domBefore, wordsBefore, bytesBefore, lookUp}
 use Rattle.definitions.specs.Reading.{isWordByte, word, wordField, wordIfFlag, name, associated, associatedList, kinds, annotation, mark, variant, typeInfo, extension, sheet}
 use Rattle.definitions.specs.Checks.{badFill, badWords, namesTwice, keysTwice, wordsTwice, sameAnnotation, annotationsTwice, somethingTwice}
-use Rattle.definitions.specs.Map.{numberOf, typeMapOf, declarationOf, mapOf}
+use Rattle.definitions.specs.Map.{numberOf, typeMapOf, lineTypeOf, lineMapOf}
 use Rattle.definitions.specs.Order.{isSelf, ready, pass, passes, lastPass, inheritsSelf, hasOrder, organizeTypeMap}
 use Rattle.definitions.specs.OrderRows.{selfRows, isBad, badRow, findCyclesOrBadTypes, noParentRows, orderRows}
 use Rattle.definitions.specs.Annotations.{associatedSet, annotationBefore, overlapOf, sameAlias, shared, less, intersection, difference}
@@ -19,7 +19,7 @@ use Rattle.definitions.specs.Making.{extensionParents, marksOf, allVirtu
 use Rattle.definitions.specs.Synthesis.{isDuplicate, withMaking, interpretWords, interpretAll, ownEntries, interpretType, hearAll, listedParents, finish, visit, visitAll, synthesis}
 use Rattle.definitions.specs.Items.{owned, given, parentsOf, reached, ancestors, ownResource, ownClasses, domsAbove, parentsAbove, inheritedResource, wordsMade, itemsAt, itemsFor, itemsOf}
 use Rattle.definitions.specs.Packing.{nameBits, parentBits, markBits, itemBits, orderBits, scheduleBits, rowBytes}
-use Rattle.definitions.specs.Answer.{Call, Input, Answer, Outcome, standard, refusals, refuse, mapIn, accept, firstRefusal, outcome, scheduleOf}
+use Rattle.definitions.specs.Answer.{Call, Input, Answer, Outcome, standard, refusals, reject, typeMapIn, accept, firstRefusal, outcome, scheduleOf}
 
 -- n bytes, written as one number in hexadecimal
 abbrev pub hex : ℕ → ℕ → List ℕ
@@ -56,16 +56,16 @@ expected c = record { answer = c .answer; listing = written (c .listed) (c .list
 
 -- the outcome, computed: who unfolds this unfolds every definition
 unfoldable pub run : Case → Outcome
-unfolding insert sort include setOf odd toBits bitsOf num packTo pack fieldOnto allowed repeatOnto counted nameBefore domBefore wordsBefore bytesBefore lookUp isWordByte word wordField wordIfFlag name associated associatedList kinds annotation mark variant typeInfo extension sheet badFill badWords namesTwice keysTwice wordsTwice sameAnnotation annotationsTwice somethingTwice numberOf typeMapOf declarationOf mapOf isSelf ready pass passes lastPass inheritsSelf hasOrder organizeTypeMap selfRows isBad badRow findCyclesOrBadTypes noParentRows orderRows associatedSet annotationBefore overlapOf sameAlias shared less intersection difference sharedEntry restEntry dedupOne dedupOnto ownAssociates handsOn handedOn extensionParents marksOf allVirtual createSyntheticResource extensionLine sameItem isDuplicate withMaking interpretWords interpretAll ownEntries interpretType hearAll listedParents finish visit visitAll synthesis owned given parentsOf reached ancestors ownResource ownClasses domsAbove parentsAbove inheritedResource wordsMade itemsAt itemsFor itemsOf nameBits parentBits markBits itemBits orderBits scheduleBits rowBytes refusals refuse mapIn accept firstRefusal outcome scheduleOf
+unfolding insert sort include setOf odd toBits bitsOf num packTo pack fieldOnto allowed repeatOnto counted nameBefore domBefore wordsBefore bytesBefore lookUp isWordByte word wordField wordIfFlag name associated associatedList kinds annotation mark variant typeInfo extension sheet badFill badWords namesTwice keysTwice wordsTwice sameAnnotation annotationsTwice somethingTwice numberOf typeMapOf lineTypeOf lineMapOf isSelf ready pass passes lastPass inheritsSelf hasOrder organizeTypeMap selfRows isBad badRow findCyclesOrBadTypes noParentRows orderRows associatedSet annotationBefore overlapOf sameAlias shared less intersection difference sharedEntry restEntry dedupOne dedupOnto ownAssociates handsOn handedOn extensionParents marksOf allVirtual createSyntheticResource extensionLine sameItem isDuplicate withMaking interpretWords interpretAll ownEntries interpretType hearAll listedParents finish visit visitAll synthesis owned given parentsOf reached ancestors ownResource ownClasses domsAbove parentsAbove inheritedResource wordsMade itemsAt itemsFor itemsOf nameBits parentBits markBits itemBits orderBits scheduleBits rowBytes refusals reject typeMapIn accept firstRefusal outcome scheduleOf
 run c = outcome (inputOf c)
 
 -- a case comes out as expected; and each case of a list does
-abbrev pub Holds : Case → Type 0
-Holds c = run c ≡ expected c
+abbrev pub ComesOut : Case → Type 0
+ComesOut c = run c ≡ expected c
 
-abbrev pub AllHold : List Case → Type 0
-AllHold [] = Unit {0}
-AllHold (c ∷ cs) = Holds c × AllHold cs
+abbrev pub AllComeOut : List Case → Type 0
+AllComeOut [] = Unit {0}
+AllComeOut (c ∷ cs) = ComesOut c × AllComeOut cs
 
 -- ---- cases by their outcome: sheet, call, the two lent lengths, then what comes out
 

@@ -6,7 +6,7 @@ use lib.Dec.{eqb, ltb, leb}
 use lib.ListN.{length}
 use Rattle.lists.specs.Lists.{any, repeats, ascends, sameList, setOf}
 use Rattle.definitions.specs.Records.{Resource, AnnotationOf, makeList, associate, nestAssociate, alias, inherit, derive, noDerive, Annotation, TypeInfo, Extension, Sheet}
-use Rattle.definitions.specs.Orders.{sameName, bytesBefore}
+use Rattle.definitions.specs.Comparisons.{sameName, bytesBefore}
 
 -- Refusal 7: 'fill not zero, or more bytes'. The bits behind the last field are fewer than 8 exactly if no byte follows.
 unfoldable pub badFill : List Bool → Bool

@@ -5,7 +5,7 @@ use mathlib.Core.Path.{refl}
 use Prim.Native.Nat.{ℕ}
 use lib.ListN.{replicate}
 use Rattle.definitions.specs.Answer.{schedule, order}
-use Rattle.definitions.specs.Cases.{Case, Holds, AllHold, run, hex, times, accepts, refuses, diagnoses, needs}
+use Rattle.definitions.specs.Cases.{Case, ComesOut, AllComeOut, run, hex, times, accepts, refuses, diagnoses, needs}
 
 -- 1: 40,961 zeros
 abbrev refusal1 : List ℕ
@@ -14,14 +14,14 @@ refusal1 = replicate 40961 0
 abbrev refusal1-schedule : Case
 refusal1-schedule = refuses refusal1 schedule 4 1536 1
 
-refusal1-schedule-holds : Holds refusal1-schedule
+refusal1-schedule-holds : ComesOut refusal1-schedule
 unfolding run
 refusal1-schedule-holds = refl
 
 abbrev refusal1-order : Case
 refusal1-order = refuses refusal1 order 4 1536 1
 
-refusal1-order-holds : Holds refusal1-order
+refusal1-order-holds : ComesOut refusal1-order
 unfolding run
 refusal1-order-holds = refl
 
@@ -35,14 +35,14 @@ refusal2 = hex 28 0x1040b085990e4cae6deeae4c6ca473656c6604000012202002400000
 abbrev refusal2-schedule : Case
 refusal2-schedule = refuses refusal2 schedule 64 1535 2
 
-refusal2-schedule-holds : Holds refusal2-schedule
+refusal2-schedule-holds : ComesOut refusal2-schedule
 unfolding run
 refusal2-schedule-holds = refl
 
 abbrev refusal2-order : Case
 refusal2-order = refuses refusal2 order 64 1535 2
 
-refusal2-order-holds : Holds refusal2-order
+refusal2-order-holds : ComesOut refusal2-order
 unfolding run
 refusal2-order-holds = refl
 
@@ -54,14 +54,14 @@ refusal3 = hex 0 0x0
 abbrev refusal3-schedule : Case
 refusal3-schedule = refuses refusal3 schedule 2 1536 3
 
-refusal3-schedule-holds : Holds refusal3-schedule
+refusal3-schedule-holds : ComesOut refusal3-schedule
 unfolding run
 refusal3-schedule-holds = refl
 
 abbrev refusal3-order : Case
 refusal3-order = refuses refusal3 order 2 1536 3
 
-refusal3-order-holds : Holds refusal3-order
+refusal3-order-holds : ComesOut refusal3-order
 unfolding run
 refusal3-order-holds = refl
 
@@ -74,14 +74,14 @@ refusal4 = hex 17 0x20243932b9b7bab931b291cd95b1980000
 abbrev refusal4-schedule : Case
 refusal4-schedule = refuses refusal4 schedule 2 1536 4
 
-refusal4-schedule-holds : Holds refusal4-schedule
+refusal4-schedule-holds : ComesOut refusal4-schedule
 unfolding run
 refusal4-schedule-holds = refl
 
 abbrev refusal4-order : Case
 refusal4-order = refuses refusal4 order 2 1536 4
 
-refusal4-order-holds : Holds refusal4-order
+refusal4-order-holds : ComesOut refusal4-order
 unfolding run
 refusal4-order-holds = refl
 
@@ -94,14 +94,14 @@ refusal5 = hex 17 0x102239b2b63321c995cdbdd5c98d940000
 abbrev refusal5-schedule : Case
 refusal5-schedule = refuses refusal5 schedule 2 1536 5
 
-refusal5-schedule-holds : Holds refusal5-schedule
+refusal5-schedule-holds : ComesOut refusal5-schedule
 unfolding run
 refusal5-schedule-holds = refl
 
 abbrev refusal5-order : Case
 refusal5-order = refuses refusal5 order 2 1536 5
 
-refusal5-order-holds : Holds refusal5-order
+refusal5-order-holds : ComesOut refusal5-order
 unfolding run
 refusal5-order-holds = refl
 
@@ -115,14 +115,14 @@ refusal6 = hex 24 0x1030b0a1c995cdbdd5c98d948e6cad8cc080000000000000
 abbrev refusal6-schedule : Case
 refusal6-schedule = refuses refusal6 schedule 2 1536 6
 
-refusal6-schedule-holds : Holds refusal6-schedule
+refusal6-schedule-holds : ComesOut refusal6-schedule
 unfolding run
 refusal6-schedule-holds = refl
 
 abbrev refusal6-order : Case
 refusal6-order = refuses refusal6 order 2 1536 6
 
-refusal6-order-holds : Holds refusal6-order
+refusal6-order-holds : ComesOut refusal6-order
 unfolding run
 refusal6-order-holds = refl
 
@@ -134,14 +134,14 @@ refusal7 = hex 29 0x1040b085990e4cae6deeae4c6ca473656c660400001220200240000000
 abbrev refusal7-schedule : Case
 refusal7-schedule = refuses refusal7 schedule 2 1536 7
 
-refusal7-schedule-holds : Holds refusal7-schedule
+refusal7-schedule-holds : ComesOut refusal7-schedule
 unfolding run
 refusal7-schedule-holds = refl
 
 abbrev refusal7-order : Case
 refusal7-order = refuses refusal7 order 2 1536 7
 
-refusal7-order-holds : Holds refusal7-order
+refusal7-order-holds : ComesOut refusal7-order
 unfolding run
 refusal7-order-holds = refl
 
@@ -154,14 +154,14 @@ refusal8 = hex 23 0x1030b0a1c995cdbdd5c98d948e6cad8cc0400020000000
 abbrev refusal8-schedule : Case
 refusal8-schedule = diagnoses refusal8 schedule 2 1536 8 1 false (hex 6 0x0200ff00ffff)
 
-refusal8-schedule-holds : Holds refusal8-schedule
+refusal8-schedule-holds : ComesOut refusal8-schedule
 unfolding run
 refusal8-schedule-holds = refl
 
 abbrev refusal8-order : Case
 refusal8-order = diagnoses refusal8 order 2 1536 8 1 false (hex 6 0x0200ff00ffff)
 
-refusal8-order-holds : Holds refusal8-order
+refusal8-order-holds : ComesOut refusal8-order
 unfolding run
 refusal8-order-holds = refl
 
@@ -175,14 +175,14 @@ refusal9 = hex 25 0x1040b085890e4cae6deeae4c6ca473656c6602000012202000
 abbrev refusal9-schedule : Case
 refusal9-schedule = diagnoses refusal9 schedule 2 1536 9 1 false (hex 6 0x0400ff01ff01)
 
-refusal9-schedule-holds : Holds refusal9-schedule
+refusal9-schedule-holds : ComesOut refusal9-schedule
 unfolding run
 refusal9-schedule-holds = refl
 
 abbrev refusal9-order : Case
 refusal9-order = accepts refusal9 order 4 1536 2 0x0200
 
-refusal9-order-holds : Holds refusal9-order
+refusal9-order-holds : ComesOut refusal9-order
 unfolding run
 refusal9-order-holds = refl
 
@@ -196,14 +196,14 @@ refusal10 = hex 28 0x1040b085990e4cae6deeae4c6ca473656c6604000012202002400000
 abbrev refusal10-schedule : Case
 refusal10-schedule = needs refusal10 schedule 0 1536 15
 
-refusal10-schedule-holds : Holds refusal10-schedule
+refusal10-schedule-holds : ComesOut refusal10-schedule
 unfolding run
 refusal10-schedule-holds = refl
 
 abbrev refusal10-order : Case
 refusal10-order = needs refusal10 order 0 1536 4
 
-refusal10-order-holds : Holds refusal10-order
+refusal10-order-holds : ComesOut refusal10-order
 unfolding run
 refusal10-order-holds = refl
 
@@ -217,7 +217,7 @@ fits = hex 28 0x1040b085990e4cae6deeae4c6ca473656c6604000012202002400000
 abbrev fits-schedule : Case
 fits-schedule = accepts fits schedule 16 1536 15 0x040001000100002120281002000040
 
-fits-schedule-holds : Holds fits-schedule
+fits-schedule-holds : ComesOut fits-schedule
 unfolding run
 fits-schedule-holds = refl
 
@@ -231,7 +231,7 @@ oneShort = hex 28 0x1040b085990e4cae6deeae4c6ca473656c6604000012202002400000
 abbrev oneShort-schedule : Case
 oneShort-schedule = accepts oneShort schedule 15 1536 15 0x040001000100002120281002000040
 
-oneShort-schedule-holds : Holds oneShort-schedule
+oneShort-schedule-holds : ComesOut oneShort-schedule
 unfolding run
 oneShort-schedule-holds = refl
 
@@ -245,7 +245,7 @@ orderFits = hex 28 0x1040b085990e4cae6deeae4c6ca473656c6604000012202002400000
 abbrev orderFits-order : Case
 orderFits-order = accepts orderFits order 4 1536 4 0x04000100
 
-orderFits-order-holds : Holds orderFits-order
+orderFits-order-holds : ComesOut orderFits-order
 unfolding run
 orderFits-order-holds = refl
 
@@ -259,7 +259,7 @@ orderOneShort = hex 28 0x1040b085990e4cae6deeae4c6ca473656c660400001220200240000
 abbrev orderOneShort-order : Case
 orderOneShort-order = needs orderOneShort order 3 1536 4
 
-orderOneShort-order-holds : Holds orderOneShort-order
+orderOneShort-order-holds : ComesOut orderOneShort-order
 unfolding run
 orderOneShort-order-holds = refl
 
@@ -270,7 +270,7 @@ longestSheet = replicate 40960 0
 abbrev longestSheet-order : Case
 longestSheet-order = refuses longestSheet order 4 1536 4
 
-longestSheet-order-holds : Holds longestSheet-order
+longestSheet-order-holds : ComesOut longestSheet-order
 unfolding run
 longestSheet-order-holds = refl
 
@@ -281,7 +281,7 @@ first1 = replicate 40961 0
 abbrev first1-order : Case
 first1-order = refuses first1 order 0 0 1
 
-first1-order-holds : Holds first1-order
+first1-order-holds : ComesOut first1-order
 unfolding run
 first1-order-holds = refl
 
@@ -292,7 +292,7 @@ first2 = hex 0 0x0
 abbrev first2-order : Case
 first2-order = refuses first2 order 0 0 2
 
-first2-order-holds : Holds first2-order
+first2-order-holds : ComesOut first2-order
 unfolding run
 first2-order-holds = refl
 
@@ -304,7 +304,7 @@ first7 = hex 25 0x103239b2b63321c995cdbdd5c98d942c208080000080000000
 abbrev first7-order : Case
 first7-order = refuses first7 order 2 1536 7
 
-first7-order-holds : Holds first7-order
+first7-order-holds : ComesOut first7-order
 unfolding run
 first7-order-holds = refl
 
@@ -319,7 +319,7 @@ first5 = hex 24 0x103239b2b63321c995cdbdd5c98d942c2080800000800000
 abbrev first5-order : Case
 first5-order = refuses first5 order 2 1536 5
 
-first5-order-holds : Holds first5-order
+first5-order-holds : ComesOut first5-order
 unfolding run
 first5-order-holds = refl
 
@@ -333,7 +333,7 @@ first6 = hex 27 0x1030b0a1c995cdbdd5c98d948e6cad8cc080002000000010000000
 abbrev first6-order : Case
 first6-order = refuses first6 order 2 1536 6
 
-first6-order-holds : Holds first6-order
+first6-order-holds : ComesOut first6-order
 unfolding run
 first6-order-holds = refl
 
@@ -346,7 +346,7 @@ first8 = hex 26 0x1040b085890e4cae6deeae4c6ca473656c660200010009101000
 abbrev first8-schedule : Case
 first8-schedule = diagnoses first8 schedule 0 1536 8 1 false (hex 6 0x0200ff00ffff)
 
-first8-schedule-holds : Holds first8-schedule
+first8-schedule-holds : ComesOut first8-schedule
 unfolding run
 first8-schedule-holds = refl
 
@@ -359,7 +359,7 @@ first9 = hex 25 0x1040b085890e4cae6deeae4c6ca473656c6602000012202000
 abbrev first9-schedule : Case
 first9-schedule = diagnoses first9 schedule 0 1536 9 1 false (hex 6 0x0400ff01ff01)
 
-first9-schedule-holds : Holds first9-schedule
+first9-schedule-holds : ComesOut first9-schedule
 unfolding run
 first9-schedule-holds = refl
 
@@ -371,7 +371,7 @@ wordByte = hex 4 0x102f9080
 abbrev wordByte-order : Case
 wordByte-order = refuses wordByte order 2 1536 4
 
-wordByte-order-holds : Holds wordByte-order
+wordByte-order-holds : ComesOut wordByte-order
 unfolding run
 wordByte-order-holds = refl
 
@@ -383,7 +383,7 @@ wordByteMissing = hex 4 0x102fb080
 abbrev wordByteMissing-order : Case
 wordByteMissing-order = refuses wordByteMissing order 2 1536 3
 
-wordByteMissing-order-holds : Holds wordByteMissing-order
+wordByteMissing-order-holds : ComesOut wordByteMissing-order
 unfolding run
 wordByteMissing-order-holds = refl
 
@@ -396,7 +396,7 @@ wordBytes = hex 28 0x10909804e428215a0af85850e4cae6deeae4c6ca473656c660bd0000
 abbrev wordBytes-order : Case
 wordBytes-order = accepts wordBytes order 3 1536 1 0x00
 
-wordBytes-order-holds : Holds wordBytes-order
+wordBytes-order-holds : ComesOut wordBytes-order
 unfolding run
 wordBytes-order-holds = refl
 
@@ -409,7 +409,7 @@ wordByte47 = hex 18 0x103097a1c995cdbdd5c98d948e6cad8cc000
 abbrev wordByte47-order : Case
 wordByte47-order = refuses wordByte47 order 2 1536 4
 
-wordByte47-order-holds : Holds wordByte47-order
+wordByte47-order-holds : ComesOut wordByte47-order
 unfolding run
 wordByte47-order-holds = refl
 
@@ -422,7 +422,7 @@ wordByte58 = hex 18 0x10309d21c995cdbdd5c98d948e6cad8cc000
 abbrev wordByte58-order : Case
 wordByte58-order = refuses wordByte58 order 2 1536 4
 
-wordByte58-order-holds : Holds wordByte58-order
+wordByte58-order-holds : ComesOut wordByte58-order
 unfolding run
 wordByte58-order-holds = refl
 
@@ -435,7 +435,7 @@ wordByte64 = hex 18 0x1030a021c995cdbdd5c98d948e6cad8cc000
 abbrev wordByte64-order : Case
 wordByte64-order = refuses wordByte64 order 2 1536 4
 
-wordByte64-order-holds : Holds wordByte64-order
+wordByte64-order-holds : ComesOut wordByte64-order
 unfolding run
 wordByte64-order-holds = refl
 
@@ -448,7 +448,7 @@ wordByte91 = hex 18 0x1030ada1c995cdbdd5c98d948e6cad8cc000
 abbrev wordByte91-order : Case
 wordByte91-order = refuses wordByte91 order 2 1536 4
 
-wordByte91-order-holds : Holds wordByte91-order
+wordByte91-order-holds : ComesOut wordByte91-order
 unfolding run
 wordByte91-order-holds = refl
 
@@ -461,7 +461,7 @@ wordByte94 = hex 18 0x1030af21c995cdbdd5c98d948e6cad8cc000
 abbrev wordByte94-order : Case
 wordByte94-order = refuses wordByte94 order 2 1536 4
 
-wordByte94-order-holds : Holds wordByte94-order
+wordByte94-order-holds : ComesOut wordByte94-order
 unfolding run
 wordByte94-order-holds = refl
 
@@ -474,7 +474,7 @@ wordByte96 = hex 18 0x1030b021c995cdbdd5c98d948e6cad8cc000
 abbrev wordByte96-order : Case
 wordByte96-order = refuses wordByte96 order 2 1536 4
 
-wordByte96-order-holds : Holds wordByte96-order
+wordByte96-order-holds : ComesOut wordByte96-order
 unfolding run
 wordByte96-order-holds = refl
 
@@ -487,7 +487,7 @@ wordByte123 = hex 18 0x1030bda1c995cdbdd5c98d948e6cad8cc000
 abbrev wordByte123-order : Case
 wordByte123-order = refuses wordByte123 order 2 1536 4
 
-wordByte123-order-holds : Holds wordByte123-order
+wordByte123-order-holds : ComesOut wordByte123-order
 unfolding run
 wordByte123-order-holds = refl
 
@@ -500,7 +500,7 @@ emptyWord = hex 17 0x103021c995cdbdd5c98d948e6cad8cc000
 abbrev emptyWord-order : Case
 emptyWord-order = refuses emptyWord order 2 1536 4
 
-emptyWord-order-holds : Holds emptyWord-order
+emptyWord-order-holds : ComesOut emptyWord-order
 unfolding run
 emptyWord-order-holds = refl
 
@@ -513,7 +513,7 @@ longWord = hex 48 0x103fb0b131b232b333b434b535b636b737b838b939ba3abb3bbc3cbd1818
 abbrev longWord-order : Case
 longWord-order = accepts longWord order 3 1536 1 0x00
 
-longWord-order-holds : Holds longWord-order
+longWord-order-holds : ComesOut longWord-order
 unfolding run
 longWord-order-holds = refl
 
@@ -525,7 +525,7 @@ words1 = hex 2 0x1010
 abbrev words1-order : Case
 words1-order = refuses words1 order 2 1536 4
 
-words1-order-holds : Holds words1-order
+words1-order-holds : ComesOut words1-order
 unfolding run
 words1-order-holds = refl
 
@@ -537,7 +537,7 @@ words200 = hex 2 0x1c80
 abbrev words200-order : Case
 words200-order = refuses words200 order 2 1536 3
 
-words200-order-holds : Holds words200-order
+words200-order-holds : ComesOut words200-order
 unfolding run
 words200-order-holds = refl
 
@@ -549,7 +549,7 @@ words201 = hex 2 0x1c90
 abbrev words201-order : Case
 words201-order = refuses words201 order 2 1536 4
 
-words201-order-holds : Holds words201-order
+words201-order-holds : ComesOut words201-order
 unfolding run
 words201-order-holds = refl
 
@@ -561,7 +561,7 @@ types64Missing = hex 6 0x1020b0858a00
 abbrev types64Missing-order : Case
 types64Missing-order = refuses types64Missing order 2 1536 3
 
-types64Missing-order-holds : Holds types64Missing-order
+types64Missing-order-holds : ComesOut types64Missing-order
 unfolding run
 types64Missing-order-holds = refl
 
@@ -573,7 +573,7 @@ extensions32 = hex 7 0x1020b085880400
 abbrev extensions32-order : Case
 extensions32-order = refuses extensions32 order 2 1536 3
 
-extensions32-order-holds : Holds extensions32-order
+extensions32-order-holds : ComesOut extensions32-order
 unfolding run
 extensions32-order-holds = refl
 
@@ -585,7 +585,7 @@ extensions33 = hex 7 0x1020b085880420
 abbrev extensions33-order : Case
 extensions33-order = refuses extensions33 order 2 1536 4
 
-extensions33-order-holds : Holds extensions33-order
+extensions33-order-holds : ComesOut extensions33-order
 unfolding run
 extensions33-order-holds = refl
 
@@ -598,7 +598,7 @@ wordNumber = hex 20 0x10243932b9b7bab931b291cd95b1980810000000
 abbrev wordNumber-order : Case
 wordNumber-order = refuses wordNumber order 2 1536 4
 
-wordNumber-order-holds : Holds wordNumber-order
+wordNumber-order-holds : ComesOut wordNumber-order
 unfolding run
 wordNumber-order-holds = refl
 
@@ -611,7 +611,7 @@ variant3 = hex 21 0x1030b0a1c995cdbdd5c98d948e6cad8cc040180000
 abbrev variant3-order : Case
 variant3-order = refuses variant3 order 2 1536 4
 
-variant3-order-holds : Holds variant3-order
+variant3-order-holds : ComesOut variant3-order
 unfolding run
 variant3-order-holds = refl
 
@@ -625,7 +625,7 @@ kind7 = hex 22 0x1030b0a1c995cdbdd5c98d948e6cad8cc0400003c000
 abbrev kind7-order : Case
 kind7-order = refuses kind7 order 2 1536 4
 
-kind7-order-holds : Holds kind7-order
+kind7-order-holds : ComesOut kind7-order
 unfolding run
 kind7-order-holds = refl
 
@@ -637,7 +637,7 @@ annotations13 = hex 9 0x1020b0858808000340
 abbrev annotations13-order : Case
 annotations13-order = refuses annotations13 order 2 1536 4
 
-annotations13-order-holds : Holds annotations13-order
+annotations13-order-holds : ComesOut annotations13-order
 unfolding run
 annotations13-order-holds = refl
 
@@ -662,7 +662,7 @@ annotations12 = hex 38 0x1030b0a1c995cdbdd5c98d948e6cad8cc040001940280d02a074128
 abbrev annotations12-order : Case
 annotations12-order = accepts annotations12 order 4 1536 2 0x0200
 
-annotations12-order-holds : Holds annotations12-order
+annotations12-order-holds : ComesOut annotations12-order
 unfolding run
 annotations12-order-holds = refl
 
@@ -682,7 +682,7 @@ marks7 = hex 24 0x1030b0a1c995cdbdd5c98d948e6cad8cc0400801d00ff800
 abbrev marks7-order : Case
 marks7-order = accepts marks7 order 4 1536 2 0x0200
 
-marks7-order-holds : Holds marks7-order
+marks7-order-holds : ComesOut marks7-order
 unfolding run
 marks7-order-holds = refl
 
@@ -694,7 +694,7 @@ nestInTwoWords = hex 10 0x1020b085880804040050
 abbrev nestInTwoWords-order : Case
 nestInTwoWords-order = refuses nestInTwoWords order 2 1536 4
 
-nestInTwoWords-order-holds : Holds nestInTwoWords-order
+nestInTwoWords-order-holds : ComesOut nestInTwoWords-order
 unfolding run
 nestInTwoWords-order-holds = refl
 
@@ -708,7 +708,7 @@ associateInTwoWords = hex 26 0x1040b085890e4cae6deeae4c6ca473656c660201010012202
 abbrev associateInTwoWords-order : Case
 associateInTwoWords-order = accepts associateInTwoWords order 5 1536 3 0x020101
 
-associateInTwoWords-order-holds : Holds associateInTwoWords-order
+associateInTwoWords-order-holds : ComesOut associateInTwoWords-order
 unfolding run
 associateInTwoWords-order-holds = refl
 
@@ -723,14 +723,14 @@ noResources = hex 23 0x1030b0a1c995cdbdd5c98d948e6cad8cc0400004410000
 abbrev noResources-schedule : Case
 noResources-schedule = accepts noResources schedule 6 1536 4 0x02000000
 
-noResources-schedule-holds : Holds noResources-schedule
+noResources-schedule-holds : ComesOut noResources-schedule
 unfolding run
 noResources-schedule-holds = refl
 
 abbrev noResources-order : Case
 noResources-order = accepts noResources order 4 1536 2 0x0200
 
-noResources-order-holds : Holds noResources-order
+noResources-order-holds : ComesOut noResources-order
 unfolding run
 noResources-order-holds = refl
 
@@ -743,7 +743,7 @@ noExtensionParent = hex 23 0x1040b085890e4cae6deeae4c6ca473656c660008000400
 abbrev noExtensionParent-order : Case
 noExtensionParent-order = refuses noExtensionParent order 2 1536 4
 
-noExtensionParent-order-holds : Holds noExtensionParent-order
+noExtensionParent-order-holds : ComesOut noExtensionParent-order
 unfolding run
 noExtensionParent-order-holds = refl
 
@@ -763,7 +763,7 @@ everyKind = hex 70 0x10b0b085882c61640b30998c82ce1680b5a1c995cdbdd5c98d948e6cad8
 abbrev everyKind-order : Case
 everyKind-order = accepts everyKind order 4 1536 2 0x0200
 
-everyKind-order-holds : Holds everyKind-order
+everyKind-order-holds : ComesOut everyKind-order
 unfolding run
 everyKind-order-holds = refl
 
@@ -776,7 +776,7 @@ noSelf = hex 14 0x1020b0a1c995cdbdd5c98d940000
 abbrev noSelf-order : Case
 noSelf-order = refuses noSelf order 2 1536 5
 
-noSelf-order-holds : Holds noSelf-order
+noSelf-order-holds : ComesOut noSelf-order
 unfolding run
 noSelf-order-holds = refl
 
@@ -789,7 +789,7 @@ noResource = hex 10 0x1020b091cd95b1980000
 abbrev noResource-order : Case
 noResource-order = refuses noResource order 2 1536 5
 
-noResource-order-holds : Holds noResource-order
+noResource-order-holds : ComesOut noResource-order
 unfolding run
 noResource-order-holds = refl
 
@@ -802,7 +802,7 @@ wordTwice = hex 21 0x10343932b9b7bab931b291cd95b1988e6cad8cc000
 abbrev wordTwice-order : Case
 wordTwice-order = refuses wordTwice order 2 1536 5
 
-wordTwice-order-holds : Holds wordTwice-order
+wordTwice-order-holds : ComesOut wordTwice-order
 unfolding run
 wordTwice-order-holds = refl
 
@@ -815,7 +815,7 @@ prefixFirst = hex 23 0x1050b08985882c487265736f75726365239b2b63300000
 abbrev prefixFirst-order : Case
 prefixFirst-order = accepts prefixFirst order 3 1536 1 0x00
 
-prefixFirst-order-holds : Holds prefixFirst-order
+prefixFirst-order-holds : ComesOut prefixFirst-order
 unfolding run
 prefixFirst-order-holds = refl
 
@@ -827,7 +827,7 @@ fill = hex 17 0x10243932b9b7bab931b291cd95b1980001
 abbrev fill-order : Case
 fill-order = refuses fill order 2 1536 7
 
-fill-order-holds : Holds fill-order
+fill-order-holds : ComesOut fill-order
 unfolding run
 fill-order-holds = refl
 
@@ -839,7 +839,7 @@ moreBytes = hex 18 0x10243932b9b7bab931b291cd95b198000001
 abbrev moreBytes-order : Case
 moreBytes-order = refuses moreBytes order 2 1536 7
 
-moreBytes-order-holds : Holds moreBytes-order
+moreBytes-order-holds : ComesOut moreBytes-order
 unfolding run
 moreBytes-order-holds = refl
 
@@ -853,7 +853,7 @@ twoWordsTwice = hex 28 0x1040b085890e4cae6deeae4c6ca473656c660401010000010100000
 abbrev twoWordsTwice-order : Case
 twoWordsTwice-order = refuses twoWordsTwice order 2 1536 6
 
-twoWordsTwice-order-holds : Holds twoWordsTwice-order
+twoWordsTwice-order-holds : ComesOut twoWordsTwice-order
 unfolding run
 twoWordsTwice-order-holds = refl
 
@@ -867,7 +867,7 @@ keyTwice = hex 28 0x1040b085890e4cae6deeae4c6ca473656c6600100004400000110100
 abbrev keyTwice-order : Case
 keyTwice-order = refuses keyTwice order 2 1536 6
 
-keyTwice-order-holds : Holds keyTwice-order
+keyTwice-order-holds : ComesOut keyTwice-order
 unfolding run
 keyTwice-order-holds = refl
 
@@ -883,7 +883,7 @@ keysDiffer = hex 36 0x1040b085890e4cae6deeae4c6ca473656c660020000440001010110000
 abbrev keysDiffer-order : Case
 keysDiffer-order = accepts keysDiffer order 3 1536 1 0x00
 
-keysDiffer-order-holds : Holds keysDiffer-order
+keysDiffer-order-holds : ComesOut keysDiffer-order
 unfolding run
 keysDiffer-order-holds = refl
 
@@ -897,7 +897,7 @@ wordTwiceInAssociate = hex 29 0x1050b085902cc87265736f75726365239b2b633010000092
 abbrev wordTwiceInAssociate-order : Case
 wordTwiceInAssociate-order = refuses wordTwiceInAssociate order 2 1536 6
 
-wordTwiceInAssociate-order-holds : Holds wordTwiceInAssociate-order
+wordTwiceInAssociate-order-holds : ComesOut wordTwiceInAssociate-order
 unfolding run
 wordTwiceInAssociate-order-holds = refl
 
@@ -911,7 +911,7 @@ wordTwiceInNest = hex 26 0x1040b085990e4cae6deeae4c6ca473656c660200001440201000
 abbrev wordTwiceInNest-order : Case
 wordTwiceInNest-order = refuses wordTwiceInNest order 2 1536 6
 
-wordTwiceInNest-order-holds : Holds wordTwiceInNest-order
+wordTwiceInNest-order-holds : ComesOut wordTwiceInNest-order
 unfolding run
 wordTwiceInNest-order-holds = refl
 
@@ -926,7 +926,7 @@ equalSets = hex 34 0x1060b085902cc16743932b9b7bab931b291cd95b198080000890100c480
 abbrev equalSets-order : Case
 equalSets-order = refuses equalSets order 2 1536 6
 
-equalSets-order-holds : Holds equalSets-order
+equalSets-order-holds : ComesOut equalSets-order
 unfolding run
 equalSets-order-holds = refl
 
@@ -941,7 +941,7 @@ emptySets = hex 23 0x1030b0a1c995cdbdd5c98d948e6cad8cc0400004408000
 abbrev emptySets-order : Case
 emptySets-order = refuses emptySets order 2 1536 6
 
-emptySets-order-holds : Holds emptySets-order
+emptySets-order-holds : ComesOut emptySets-order
 unfolding run
 emptySets-order-holds = refl
 
@@ -957,7 +957,7 @@ unequalSets = hex 32 0x1050b085982ce87265736f75726365239b2b633010000192010108809
 abbrev unequalSets-order : Case
 unequalSets-order = accepts unequalSets order 4 1536 2 0x0200
 
-unequalSets-order-holds : Holds unequalSets-order
+unequalSets-order-holds : ComesOut unequalSets-order
 unfolding run
 unequalSets-order-holds = refl
 
@@ -972,7 +972,7 @@ inheritTwice = hex 29 0x1040b085890e4cae6deeae4c6ca473656c6602000028400014200008
 abbrev inheritTwice-order : Case
 inheritTwice-order = refuses inheritTwice order 2 1536 6
 
-inheritTwice-order-holds : Holds inheritTwice-order
+inheritTwice-order-holds : ComesOut inheritTwice-order
 unfolding run
 inheritTwice-order-holds = refl
 
@@ -988,7 +988,7 @@ inheritsDiffer = hex 34 0x1040b085890e4cae6deeae4c6ca473656c66020000384000142010
 abbrev inheritsDiffer-order : Case
 inheritsDiffer-order = accepts inheritsDiffer order 4 1536 2 0x0200
 
-inheritsDiffer-order-holds : Holds inheritsDiffer-order
+inheritsDiffer-order-holds : ComesOut inheritsDiffer-order
 unfolding run
 inheritsDiffer-order-holds = refl
 
@@ -1003,7 +1003,7 @@ deriveTwice = hex 24 0x1030b0a1c995cdbdd5c98d948e6cad8cc040000540680800
 abbrev deriveTwice-order : Case
 deriveTwice-order = refuses deriveTwice order 2 1536 6
 
-deriveTwice-order-holds : Holds deriveTwice-order
+deriveTwice-order-holds : ComesOut deriveTwice-order
 unfolding run
 deriveTwice-order-holds = refl
 
@@ -1018,7 +1018,7 @@ aliasTwice = hex 26 0x1040b085990e4cae6deeae4c6ca473656c660200002602c04000
 abbrev aliasTwice-order : Case
 aliasTwice-order = refuses aliasTwice order 2 1536 6
 
-aliasTwice-order-holds : Holds aliasTwice-order
+aliasTwice-order-holds : ComesOut aliasTwice-order
 unfolding run
 aliasTwice-order-holds = refl
 
@@ -1033,7 +1033,7 @@ makelistTwice = hex 22 0x1030b0a1c995cdbdd5c98d948e6cad8cc04000040000
 abbrev makelistTwice-order : Case
 makelistTwice-order = refuses makelistTwice order 2 1536 6
 
-makelistTwice-order-holds : Holds makelistTwice-order
+makelistTwice-order-holds : ComesOut makelistTwice-order
 unfolding run
 makelistTwice-order-holds = refl
 
@@ -1048,7 +1048,7 @@ noDeriveTwice = hex 22 0x1030b0a1c995cdbdd5c98d948e6cad8cc0400005b000
 abbrev noDeriveTwice-order : Case
 noDeriveTwice-order = refuses noDeriveTwice order 2 1536 6
 
-noDeriveTwice-order-holds : Holds noDeriveTwice-order
+noDeriveTwice-order-holds : ComesOut noDeriveTwice-order
 unfolding run
 noDeriveTwice-order-holds = refl
 
@@ -1065,7 +1065,7 @@ tagsDiffer = hex 30 0x1050b085982ce87265736f75726365239b2b6330100002501a04c05810
 abbrev tagsDiffer-order : Case
 tagsDiffer-order = accepts tagsDiffer order 4 1536 2 0x0200
 
-tagsDiffer-order-holds : Holds tagsDiffer-order
+tagsDiffer-order-holds : ComesOut tagsDiffer-order
 unfolding run
 tagsDiffer-order-holds = refl
 
@@ -1080,7 +1080,7 @@ againstNames = hex 33 0x1050b085882c687265736f75726365239b2b63303000080800080408
 abbrev againstNames-order : Case
 againstNames-order = accepts againstNames order 7 1536 5 0x0604010000
 
-againstNames-order-holds : Holds againstNames-order
+againstNames-order-holds : ComesOut againstNames-order
 unfolding run
 againstNames-order-holds = refl
 
@@ -1095,7 +1095,7 @@ nextRound = hex 32 0x1050b085882c687265736f75726365239b2b63303000000010080000100
 abbrev nextRound-order : Case
 nextRound-order = accepts nextRound order 7 1536 5 0x0600020080
 
-nextRound-order-holds : Holds nextRound-order
+nextRound-order-holds : ComesOut nextRound-order
 unfolding run
 nextRound-order-holds = refl
 
@@ -1110,7 +1110,7 @@ oneWordFirst = hex 30 0x1040b085890e4cae6deeae4c6ca473656c6606020000010100000000
 abbrev oneWordFirst-order : Case
 oneWordFirst-order = accepts oneWordFirst order 8 1536 6 0x060000808080
 
-oneWordFirst-order-holds : Holds oneWordFirst-order
+oneWordFirst-order-holds : ComesOut oneWordFirst-order
 unfolding run
 oneWordFirst-order-holds = refl
 
@@ -1126,7 +1126,7 @@ longestChain = hex 40 0x1060b085882c616443932b9b7bab931b291cd95b1982000080c02000
 abbrev longestChain-order : Case
 longestChain-order = accepts longestChain order 8 1536 6 0x080602008000
 
-longestChain-order-holds : Holds longestChain-order
+longestChain-order-holds : ComesOut longestChain-order
 unfolding run
 longestChain-order-holds = refl
 
@@ -1139,7 +1139,7 @@ selfTwice = hex 24 0x1030b0a1c995cdbdd5c98d948e6cad8cc040004040200000
 abbrev selfTwice-order : Case
 selfTwice-order = diagnoses selfTwice order 2 1536 8 2 false (hex 12 0x0100ff02ffff0100ff02ffff)
 
-selfTwice-order-holds : Holds selfTwice-order
+selfTwice-order-holds : ComesOut selfTwice-order
 unfolding run
 selfTwice-order-holds = refl
 
@@ -1154,7 +1154,7 @@ selfWaiting = hex 35 0x1050b085882c687265736f75726365239b2b633030101000100000040
 abbrev selfWaiting-order : Case
 selfWaiting-order = diagnoses selfWaiting order 2 1536 8 2 false (hex 12 0x0100ff04ffff0101ff04ffff)
 
-selfWaiting-order-holds : Holds selfWaiting-order
+selfWaiting-order-holds : ComesOut selfWaiting-order
 unfolding run
 selfWaiting-order-holds = refl
 
@@ -1168,7 +1168,7 @@ selfDeclared = hex 26 0x1030b0a1c995cdbdd5c98d948e6cad8cc0808000000020400000
 abbrev selfDeclared-order : Case
 selfDeclared-order = diagnoses selfDeclared order 2 1536 8 1 false (hex 6 0x0100ff02ffff)
 
-selfDeclared-order-holds : Holds selfDeclared-order
+selfDeclared-order-holds : ComesOut selfDeclared-order
 unfolding run
 selfDeclared-order-holds = refl
 
@@ -1183,7 +1183,7 @@ selfReplaced = hex 34 0x1040b085890e4cae6deeae4c6ca473656c6606000203008000804000
 abbrev selfReplaced-order : Case
 selfReplaced-order = diagnoses selfReplaced order 2 1536 8 4 false (hex 24 0x0203ff00ffff0201ff00ffff0200ff01ffff0200ff03ffff)
 
-selfReplaced-order-holds : Holds selfReplaced-order
+selfReplaced-order-holds : ComesOut selfReplaced-order
 unfolding run
 selfReplaced-order-holds = refl
 
@@ -1197,7 +1197,7 @@ selfInTwoWords = hex 28 0x1040b0858d0e4cae6deeae4c6ca473656c66040200000001038080
 abbrev selfInTwoWords-order : Case
 selfInTwoWords-order = diagnoses selfInTwoWords order 2 1536 8 1 false (hex 6 0x0300ff0301ff)
 
-selfInTwoWords-order-holds : Holds selfInTwoWords-order
+selfInTwoWords-order-holds : ComesOut selfInTwoWords-order
 unfolding run
 selfInTwoWords-order-holds = refl
 
@@ -1211,7 +1211,7 @@ firstBadParent = hex 33 0x1050b085890e4cae6deeae4c6ca473656c6613d3d0200018080008
 abbrev firstBadParent-order : Case
 firstBadParent-order = diagnoses firstBadParent order 2 1536 8 2 false (hex 12 0x0200ff00ffff0301ff04ffff)
 
-firstBadParent-order-holds : Holds firstBadParent-order
+firstBadParent-order-holds : ComesOut firstBadParent-order
 unfolding run
 firstBadParent-order-holds = refl
 
@@ -1225,7 +1225,7 @@ repeatedParent = hex 32 0x1050b085890e4cae6deeae4c6ca473656c6613d3d0200010080400
 abbrev repeatedParent-order : Case
 repeatedParent-order = diagnoses repeatedParent order 2 1536 8 3 false (hex 18 0x0301ff04ffff0301ff04ffff0301ff04ffff)
 
-repeatedParent-order-holds : Holds repeatedParent-order
+repeatedParent-order-holds : ComesOut repeatedParent-order
 unfolding run
 repeatedParent-order-holds = refl
 
@@ -1240,7 +1240,7 @@ throughPath = hex 38 0x1060b085882c687265736f75726365239b2b63309e9e8180008040400
 abbrev throughPath-order : Case
 throughPath-order = diagnoses throughPath order 2 1536 8 4 false (hex 24 0x0201ff00ffff0302ff05ffff0200ff01ffff0302ff05ffff)
 
-throughPath-order-holds : Holds throughPath-order
+throughPath-order-holds : ComesOut throughPath-order
 unfolding run
 throughPath-order-holds = refl
 
@@ -1255,7 +1255,7 @@ placedParent = hex 35 0x1050b085882c687265736f75726365239b2b63303000100808000400
 abbrev placedParent-order : Case
 placedParent-order = diagnoses placedParent order 2 1536 8 2 false (hex 12 0x0202ff02ffff0202ff02ffff)
 
-placedParent-order-holds : Holds placedParent-order
+placedParent-order-holds : ComesOut placedParent-order
 unfolding run
 placedParent-order-holds = refl
 
@@ -1271,14 +1271,14 @@ rows256 = hex 79 0x1080b805c50e4cae6deeae4c6ca473656c660ba05d42ec27a7a0a02010700
 abbrev rows256-schedule : Case
 rows256-schedule = diagnoses rows256 schedule 4 1540 8 256 false (times 256 (hex 6 0x0301ff07ffff))
 
-rows256-schedule-holds : Holds rows256-schedule
+rows256-schedule-holds : ComesOut rows256-schedule
 unfolding run
 rows256-schedule-holds = refl
 
 abbrev rows256-order : Case
 rows256-order = diagnoses rows256 order 4 1540 8 256 false (times 256 (hex 6 0x0301ff07ffff))
 
-rows256-order-holds : Holds rows256-order
+rows256-order-holds : ComesOut rows256-order
 unfolding run
 rows256-order-holds = refl
 
@@ -1294,14 +1294,14 @@ rows257 = hex 80 0x1080b805c50e4cae6deeae4c6ca473656c660ba05d42ec27a7a0a02010700
 abbrev rows257-schedule : Case
 rows257-schedule = diagnoses rows257 schedule 4 1540 8 256 true (times 256 (hex 6 0x0301ff07ffff))
 
-rows257-schedule-holds : Holds rows257-schedule
+rows257-schedule-holds : ComesOut rows257-schedule
 unfolding run
 rows257-schedule-holds = refl
 
 abbrev rows257-order : Case
 rows257-order = diagnoses rows257 order 4 1540 8 256 true (times 256 (hex 6 0x0301ff07ffff))
 
-rows257-order-holds : Holds rows257-order
+rows257-order-holds : ComesOut rows257-order
 unfolding run
 rows257-order-holds = refl
 
@@ -1327,7 +1327,7 @@ twoDoms = hex 66 0x1090b085882c61640b321c995cdbdd5c98d948e6cad8cc1780bc8700000a1
 abbrev twoDoms-schedule : Case
 twoDoms-schedule = accepts twoDoms schedule 33 1536 31 0x0e0001010100f0408820180008060412000480412020441409018140d03008
 
-twoDoms-schedule-holds : Holds twoDoms-schedule
+twoDoms-schedule-holds : ComesOut twoDoms-schedule
 unfolding run
 twoDoms-schedule-holds = refl
 
@@ -1348,7 +1348,7 @@ farDoms = hex 54 0x1080b085882c616643932b9b7bab931b291cd95b1982f01790a0000142070
 abbrev farDoms-schedule : Case
 farDoms-schedule = accepts farDoms schedule 37 1536 35 0x0a00068183c0c040400040080c28000d0400c0a0200c04030a0103410050281c080180
 
-farDoms-schedule-holds : Holds farDoms-schedule
+farDoms-schedule-holds : ComesOut farDoms-schedule
 unfolding run
 farDoms-schedule-holds = refl
 
@@ -1365,7 +1365,7 @@ unitedDoms = hex 44 0x1080b085882c616643932b9b7bab931b291cd95b1982f0179060000142
 abbrev unitedDoms-schedule : Case
 unitedDoms-schedule = diagnoses unitedDoms schedule 2 1536 9 2 false (hex 12 0x0402ff0603030402ff070303)
 
-unitedDoms-schedule-holds : Holds unitedDoms-schedule
+unitedDoms-schedule-holds : ComesOut unitedDoms-schedule
 unfolding run
 unitedDoms-schedule-holds = refl
 
@@ -1386,7 +1386,7 @@ ownDoms = hex 50 0x1070b085882c61640b321c995cdbdd5c98d948e6cad8cc141080060207044
 abbrev ownDoms-schedule : Case
 ownDoms-schedule = accepts ownDoms schedule 55 1536 53 0x0a000382020040400070001024110500c060001002040a03044140302008102800110500c060201004040a01044140501814080200
 
-ownDoms-schedule-holds : Holds ownDoms-schedule
+ownDoms-schedule-holds : ComesOut ownDoms-schedule
 unfolding run
 ownDoms-schedule-holds = refl
 
@@ -1404,7 +1404,7 @@ directParents = hex 49 0x1070b285982da87265736f75726365239b2b63305d02f4140480001
 abbrev directParents-schedule : Case
 directParents-schedule = accepts directParents schedule 33 1536 31 0x0a0001030080a000401004281805030040800814021c04030300a060082801
 
-directParents-schedule-holds : Holds directParents-schedule
+directParents-schedule-holds : ComesOut directParents-schedule
 unfolding run
 directParents-schedule-holds = refl
 
@@ -1422,7 +1422,7 @@ ownSorted = hex 42 0x1060b085902cc16743932b9b7bab931b291cd95b198201100000c090000
 abbrev ownSorted-schedule : Case
 ownSorted-schedule = accepts ownSorted schedule 37 1536 35 0x080001810100c000a000105008120800000082409040040001000061206820020000c0
 
-ownSorted-schedule-holds : Holds ownSorted-schedule
+ownSorted-schedule-holds : ComesOut ownSorted-schedule
 unfolding run
 ownSorted-schedule-holds = refl
 
@@ -1440,7 +1440,7 @@ virtual = hex 40 0x1060b085882cc16743932b9b7bab931b291cd95b1982011800019000000c0
 abbrev virtual-schedule : Case
 virtual-schedule = accepts virtual schedule 37 1536 35 0x0800010100c000c0001448120800803020000c240d0400401818040412048200202008
 
-virtual-schedule-holds : Holds virtual-schedule
+virtual-schedule-holds : ComesOut virtual-schedule
 unfolding run
 virtual-schedule-holds = refl
 
@@ -1462,7 +1462,7 @@ repeatedMarks = hex 49 0x1070b085882c61640b321c995cdbdd5c98d948e6cad8cc141080080
 abbrev repeatedMarks-schedule : Case
 repeatedMarks-schedule = accepts repeatedMarks schedule 25 1536 23 0x0a000101c1010040002010103800120104414062040100
 
-repeatedMarks-schedule-holds : Holds repeatedMarks-schedule
+repeatedMarks-schedule-holds : ComesOut repeatedMarks-schedule
 unfolding run
 repeatedMarks-schedule-holds = refl
 
@@ -1485,7 +1485,7 @@ otherKinds = hex 46 0x1060b085882cc87265736f75726365239b2b63309e9e81811006849828
 abbrev otherKinds-schedule : Case
 otherKinds-schedule = accepts otherKinds schedule 30 1536 28 0x06000200800100002090240c030580002008082800090300c1602008
 
-otherKinds-schedule-holds : Holds otherKinds-schedule
+otherKinds-schedule-holds : ComesOut otherKinds-schedule
 unfolding run
 otherKinds-schedule-holds = refl
 
@@ -1502,7 +1502,7 @@ extensions = hex 42 0x1050b085990e4cae6deeae4c6ca473656c6613d3d02000009101001200
 abbrev extensions-schedule : Case
 extensions-schedule = accepts extensions schedule 22 1536 20 0x0400010001000022a02812070200c08020080001
 
-extensions-schedule-holds : Holds extensions-schedule
+extensions-schedule-holds : ComesOut extensions-schedule
 unfolding run
 extensions-schedule-holds = refl
 
@@ -1518,7 +1518,7 @@ threeWords = hex 40 0x1070b085882c61640b321c995cdbdd5c98d948e6cad8cc0c1080000202
 abbrev threeWords-schedule : Case
 threeWords-schedule = accepts threeWords schedule 35 1536 33 0x060101040140c001001010409044140100808080281820580008220a008140c040
 
-threeWords-schedule-holds : Holds threeWords-schedule
+threeWords-schedule-holds : ComesOut threeWords-schedule
 unfolding run
 threeWords-schedule-holds = refl
 
@@ -1532,7 +1532,7 @@ ownClass = hex 23 0x1030b321c995cdbdd5c98d948e6cad8cc0400c02440000
 abbrev ownClass-schedule : Case
 ownClass-schedule = accepts ownClass schedule 16 1536 14 0x0200000200002240101004010000
 
-ownClass-schedule-holds : Holds ownClass-schedule
+ownClass-schedule-holds : ComesOut ownClass-schedule
 unfolding run
 ownClass-schedule-holds = refl
 
@@ -1546,7 +1546,7 @@ nestAlone = hex 26 0x1040b821c995cdbdd5c98d948e6cad8cc27a7a02000014206000
 abbrev nestAlone-schedule : Case
 nestAlone-schedule = accepts nestAlone schedule 6 1536 4 0x02000000
 
-nestAlone-schedule-holds : Holds nestAlone-schedule
+nestAlone-schedule-holds : ComesOut nestAlone-schedule
 unfolding run
 nestAlone-schedule-holds = refl
 
@@ -1561,7 +1561,7 @@ nestUnknown = hex 32 0x1050b105c10e4cae6deeae4c6ca473656c6613d3d0201000a10400000
 abbrev nestUnknown-schedule : Case
 nestUnknown-schedule = diagnoses nestUnknown schedule 2 1536 9 1 false (hex 6 0x0400ff04ff04)
 
-nestUnknown-schedule-holds : Holds nestUnknown-schedule
+nestUnknown-schedule-holds : ComesOut nestUnknown-schedule
 unfolding run
 nestUnknown-schedule-holds = refl
 
@@ -1577,7 +1577,7 @@ nestAndOwn = hex 34 0x1050b105982e087265736f75726365239b2b6330301200002080a10100
 abbrev nestAndOwn-schedule : Case
 nestAndOwn-schedule = accepts nestAndOwn schedule 19 1536 17 0x060202000000800010a020140c01002020
 
-nestAndOwn-schedule-holds : Holds nestAndOwn-schedule
+nestAndOwn-schedule-holds : ComesOut nestAndOwn-schedule
 unfolding run
 nestAndOwn-schedule-holds = refl
 
@@ -1594,7 +1594,7 @@ failedParent = hex 38 0x1060b185982e087265736f75726365239b2b63309e9e818090000100
 abbrev failedParent-schedule : Case
 failedParent-schedule = diagnoses failedParent schedule 2 1536 9 1 false (hex 6 0x0402ff05ff05)
 
-failedParent-schedule-holds : Holds failedParent-schedule
+failedParent-schedule-holds : ComesOut failedParent-schedule
 unfolding run
 failedParent-schedule-holds = refl
 
@@ -1611,7 +1611,7 @@ listedAgain = hex 40 0x1060b185982e087265736f75726365239b2b63309e9e8180900001000
 abbrev listedAgain-schedule : Case
 listedAgain-schedule = diagnoses listedAgain schedule 2 1536 9 2 false (hex 12 0x0402ff05ff050400ff05ff05)
 
-listedAgain-schedule-holds : Holds listedAgain-schedule
+listedAgain-schedule-holds : ComesOut listedAgain-schedule
 unfolding run
 listedAgain-schedule-holds = refl
 
@@ -1629,7 +1629,7 @@ failsThrough = hex 45 0x1070b1058c2cc17043932b9b7bab931b291cd95b1984f4f410088000
 abbrev failsThrough-schedule : Case
 failsThrough-schedule = diagnoses failsThrough schedule 2 1536 9 2 false (hex 12 0x0403ff06ff060400ff06ff06)
 
-failsThrough-schedule-holds : Holds failsThrough-schedule
+failsThrough-schedule-holds : ComesOut failsThrough-schedule
 unfolding run
 failsThrough-schedule-holds = refl
 
@@ -1652,7 +1652,7 @@ rowUnrefused = hex 59 0x1070b085982ce1700b8a1c995cdbdd5c98d948e6cad8cc1c04800008
 abbrev rowUnrefused-schedule : Case
 rowUnrefused-schedule = diagnoses rowUnrefused schedule 2 1536 9 2 false (hex 12 0x0604ffffff020600ffffff01)
 
-rowUnrefused-schedule-holds : Holds rowUnrefused-schedule
+rowUnrefused-schedule-holds : ComesOut rowUnrefused-schedule
 unfolding run
 rowUnrefused-schedule-holds = refl
 
@@ -1666,7 +1666,7 @@ unknownEnds = hex 30 0x1050b0a1c995cdbdd5c98d948e6cad8cc2797913d3d01000009204018
 abbrev unknownEnds-schedule : Case
 unknownEnds-schedule = diagnoses unknownEnds schedule 2 1536 9 1 false (hex 6 0x0400ff03ff03)
 
-unknownEnds-schedule-holds : Holds unknownEnds-schedule
+unknownEnds-schedule-holds : ComesOut unknownEnds-schedule
 unfolding run
 unknownEnds-schedule-holds = refl
 
@@ -1682,7 +1682,7 @@ after5 = hex 38 0x1060b085902cc87265736f75726365239b2b63309e9e818080000110000000
 abbrev after5-schedule : Case
 after5-schedule = diagnoses after5 schedule 2 1536 9 1 false (hex 6 0x0500ff01ff01)
 
-after5-schedule-holds : Holds after5-schedule
+after5-schedule-holds : ComesOut after5-schedule
 unfolding run
 after5-schedule-holds = refl
 
@@ -1698,7 +1698,7 @@ after5Unknown = hex 36 0x1060b085902cc87265736f75726365239b2b63309e9e81808000011
 abbrev after5Unknown-schedule : Case
 after5Unknown-schedule = diagnoses after5Unknown schedule 2 1536 9 2 false (hex 12 0x0500ff01ff010400ff05ff05)
 
-after5Unknown-schedule-holds : Holds after5Unknown-schedule
+after5Unknown-schedule-holds : ComesOut after5Unknown-schedule
 unfolding run
 after5Unknown-schedule-holds = refl
 
@@ -1714,7 +1714,7 @@ after6Unknown = hex 36 0x1050b085910e4cae6deeae4c6ca473656c6613d3d030120000080a0
 abbrev after6Unknown-schedule : Case
 after6Unknown-schedule = diagnoses after6Unknown schedule 2 1536 9 2 false (hex 12 0x0600ffffff010400ff04ff04)
 
-after6Unknown-schedule-holds : Holds after6Unknown-schedule
+after6Unknown-schedule-holds : ComesOut after6Unknown-schedule
 unfolding run
 after6Unknown-schedule-holds = refl
 
@@ -1730,7 +1730,7 @@ not6Where5 = hex 32 0x1040b085990e4cae6deeae4c6ca473656c660602000001014000000012
 abbrev not6Where5-schedule : Case
 not6Where5-schedule = diagnoses not6Where5 schedule 2 1536 9 1 false (hex 6 0x0500ff01ff01)
 
-not6Where5-schedule-holds : Holds not6Where5-schedule
+not6Where5-schedule-holds : ComesOut not6Where5-schedule
 unfolding run
 not6Where5-schedule-holds = refl
 
@@ -1749,7 +1749,7 @@ firstNoResource = hex 48 0x1070b085882c616643932b9b7bab931b291cd95b1982f0140c000
 abbrev firstNoResource-schedule : Case
 firstNoResource-schedule = diagnoses firstNoResource schedule 2 1536 9 1 false (hex 6 0x0502ff03ff03)
 
-firstNoResource-schedule-holds : Holds firstNoResource-schedule
+firstNoResource-schedule-holds : ComesOut firstNoResource-schedule
 unfolding run
 firstNoResource-schedule-holds = refl
 
@@ -1764,7 +1764,7 @@ otherVariant = hex 28 0x1040b085990e4cae6deeae4c6ca473656c6604028000000012202000
 abbrev otherVariant-schedule : Case
 otherVariant-schedule = diagnoses otherVariant schedule 2 1536 9 1 false (hex 6 0x0500ff01ff01)
 
-otherVariant-schedule-holds : Holds otherVariant-schedule
+otherVariant-schedule-holds : ComesOut otherVariant-schedule
 unfolding run
 otherVariant-schedule-holds = refl
 
@@ -1779,7 +1779,7 @@ wordLists = hex 36 0x1070b085ac2da87265736f75726365239b2b63309e5e44f4f4040000448
 abbrev wordLists-schedule : Case
 wordLists-schedule = diagnoses wordLists schedule 2 1536 9 2 false (hex 12 0x0400ff01ff010400ff02ff02)
 
-wordLists-schedule-holds : Holds wordLists-schedule
+wordLists-schedule-holds : ComesOut wordLists-schedule
 unfolding run
 wordLists-schedule-holds = refl
 
@@ -1796,7 +1796,7 @@ dedupOrder = hex 44 0x1080b085b42e017143932b9b7bab931b291cd95b1982e817a060400144
 abbrev dedupOrder-schedule : Case
 dedupOrder-schedule = diagnoses dedupOrder schedule 2 1536 9 3 false (hex 18 0x0406ff07ff070406ff01ff010406ff00ff00)
 
-dedupOrder-schedule-holds : Holds dedupOrder-schedule
+dedupOrder-schedule-holds : ComesOut dedupOrder-schedule
 unfolding run
 dedupOrder-schedule-holds = refl
 
@@ -1813,7 +1813,7 @@ dedupTurned = hex 44 0x1080b085b42e017143932b9b7bab931b291cd95b1982e817a06040014
 abbrev dedupTurned-schedule : Case
 dedupTurned-schedule = diagnoses dedupTurned schedule 2 1536 9 3 false (hex 18 0x0406ff00ff000406ff01ff010406ff07ff07)
 
-dedupTurned-schedule-holds : Holds dedupTurned-schedule
+dedupTurned-schedule-holds : ComesOut dedupTurned-schedule
 unfolding run
 dedupTurned-schedule-holds = refl
 
@@ -1830,7 +1830,7 @@ identicalOwn = hex 36 0x1050b085982ce87265736f75726365239b2b63303012000022000000
 abbrev identicalOwn-schedule : Case
 identicalOwn-schedule = diagnoses identicalOwn schedule 2 1536 9 1 false (hex 6 0x0600ffffff01)
 
-identicalOwn-schedule-holds : Holds identicalOwn-schedule
+identicalOwn-schedule-holds : ComesOut identicalOwn-schedule
 unfolding run
 identicalOwn-schedule-holds = refl
 
@@ -1848,7 +1848,7 @@ identicalAbove = hex 44 0x1060b305c02e287265736f75726365239b2b63305d0200c0100001
 abbrev identicalAbove-schedule : Case
 identicalAbove-schedule = diagnoses identicalAbove schedule 2 1536 9 1 false (hex 6 0x0605ffffff00)
 
-identicalAbove-schedule-holds : Holds identicalAbove-schedule
+identicalAbove-schedule-holds : ComesOut identicalAbove-schedule
 unfolding run
 identicalAbove-schedule-holds = refl
 
@@ -1867,7 +1867,7 @@ marksDiffer = hex 45 0x1060b305c02e287265736f75726365239b2b63305d0200c0100080a00
 abbrev marksDiffer-schedule : Case
 marksDiffer-schedule = accepts marksDiffer schedule 30 1536 28 0x080201800140014000605000500802060101400140200818020a0000
 
-marksDiffer-schedule-holds : Holds marksDiffer-schedule
+marksDiffer-schedule-holds : ComesOut marksDiffer-schedule
 unfolding run
 marksDiffer-schedule-holds = refl
 
@@ -1883,12 +1883,12 @@ declaredName = hex 32 0x1040b085990e4cae6deeae4c6ca473656c6606024000010140000000
 abbrev declaredName-schedule : Case
 declaredName-schedule = diagnoses declaredName schedule 2 1536 9 1 false (hex 6 0x0600ffffff01)
 
-declaredName-schedule-holds : Holds declaredName-schedule
+declaredName-schedule-holds : ComesOut declaredName-schedule
 unfolding run
 declaredName-schedule-holds = refl
 
 abbrev pub cases : List Case
 cases = refusal1-schedule ∷ refusal1-order ∷ refusal2-schedule ∷ refusal2-order ∷ refusal3-schedule ∷ refusal3-order ∷ refusal4-schedule ∷ refusal4-order ∷ refusal5-schedule ∷ refusal5-order ∷ refusal6-schedule ∷ refusal6-order ∷ refusal7-schedule ∷ refusal7-order ∷ refusal8-schedule ∷ refusal8-order ∷ refusal9-schedule ∷ refusal9-order ∷ refusal10-schedule ∷ refusal10-order ∷ fits-schedule ∷ oneShort-schedule ∷ orderFits-order ∷ orderOneShort-order ∷ longestSheet-order ∷ first1-order ∷ first2-order ∷ first7-order ∷ first5-order ∷ first6-order ∷ first8-schedule ∷ first9-schedule ∷ wordByte-order ∷ wordByteMissing-order ∷ wordBytes-order ∷ wordByte47-order ∷ wordByte58-order ∷ wordByte64-order ∷ wordByte91-order ∷ wordByte94-order ∷ wordByte96-order ∷ wordByte123-order ∷ emptyWord-order ∷ longWord-order ∷ words1-order ∷ words200-order ∷ words201-order ∷ types64Missing-order ∷ extensions32-order ∷ extensions33-order ∷ wordNumber-order ∷ variant3-order ∷ kind7-order ∷ annotations13-order ∷ annotations12-order ∷ marks7-order ∷ nestInTwoWords-order ∷ associateInTwoWords-order ∷ noResources-schedule ∷ noResources-order ∷ noExtensionParent-order ∷ everyKind-order ∷ noSelf-order ∷ noResource-order ∷ wordTwice-order ∷ prefixFirst-order ∷ fill-order ∷ moreBytes-order ∷ twoWordsTwice-order ∷ keyTwice-order ∷ keysDiffer-order ∷ wordTwiceInAssociate-order ∷ wordTwiceInNest-order ∷ equalSets-order ∷ emptySets-order ∷ unequalSets-order ∷ inheritTwice-order ∷ inheritsDiffer-order ∷ deriveTwice-order ∷ aliasTwice-order ∷ makelistTwice-order ∷ noDeriveTwice-order ∷ tagsDiffer-order ∷ againstNames-order ∷ nextRound-order ∷ oneWordFirst-order ∷ longestChain-order ∷ selfTwice-order ∷ selfWaiting-order ∷ selfDeclared-order ∷ selfReplaced-order ∷ selfInTwoWords-order ∷ firstBadParent-order ∷ repeatedParent-order ∷ throughPath-order ∷ placedParent-order ∷ rows256-schedule ∷ rows256-order ∷ rows257-schedule ∷ rows257-order ∷ twoDoms-schedule ∷ farDoms-schedule ∷ unitedDoms-schedule ∷ ownDoms-schedule ∷ directParents-schedule ∷ ownSorted-schedule ∷ virtual-schedule ∷ repeatedMarks-schedule ∷ otherKinds-schedule ∷ extensions-schedule ∷ threeWords-schedule ∷ ownClass-schedule ∷ nestAlone-schedule ∷ nestUnknown-schedule ∷ nestAndOwn-schedule ∷ failedParent-schedule ∷ listedAgain-schedule ∷ failsThrough-schedule ∷ rowUnrefused-schedule ∷ unknownEnds-schedule ∷ after5-schedule ∷ after5Unknown-schedule ∷ after6Unknown-schedule ∷ not6Where5-schedule ∷ firstNoResource-schedule ∷ otherVariant-schedule ∷ wordLists-schedule ∷ dedupOrder-schedule ∷ dedupTurned-schedule ∷ identicalOwn-schedule ∷ identicalAbove-schedule ∷ marksDiffer-schedule ∷ declaredName-schedule ∷ []
 
-pub hold : AllHold cases
+pub hold : AllComeOut cases
 hold = (refusal1-schedule-holds, (refusal1-order-holds, (refusal2-schedule-holds, (refusal2-order-holds, (refusal3-schedule-holds, (refusal3-order-holds, (refusal4-schedule-holds, (refusal4-order-holds, (refusal5-schedule-holds, (refusal5-order-holds, (refusal6-schedule-holds, (refusal6-order-holds, (refusal7-schedule-holds, (refusal7-order-holds, (refusal8-schedule-holds, (refusal8-order-holds, (refusal9-schedule-holds, (refusal9-order-holds, (refusal10-schedule-holds, (refusal10-order-holds, (fits-schedule-holds, (oneShort-schedule-holds, (orderFits-order-holds, (orderOneShort-order-holds, (longestSheet-order-holds, (first1-order-holds, (first2-order-holds, (first7-order-holds, (first5-order-holds, (first6-order-holds, (first8-schedule-holds, (first9-schedule-holds, (wordByte-order-holds, (wordByteMissing-order-holds, (wordBytes-order-holds, (wordByte47-order-holds, (wordByte58-order-holds, (wordByte64-order-holds, (wordByte91-order-holds, (wordByte94-order-holds, (wordByte96-order-holds, (wordByte123-order-holds, (emptyWord-order-holds, (longWord-order-holds, (words1-order-holds, (words200-order-holds, (words201-order-holds, (types64Missing-order-holds, (extensions32-order-holds, (extensions33-order-holds, (wordNumber-order-holds, (variant3-order-holds, (kind7-order-holds, (annotations13-order-holds, (annotations12-order-holds, (marks7-order-holds, (nestInTwoWords-order-holds, (associateInTwoWords-order-holds, (noResources-schedule-holds, (noResources-order-holds, (noExtensionParent-order-holds, (everyKind-order-holds, (noSelf-order-holds, (noResource-order-holds, (wordTwice-order-holds, (prefixFirst-order-holds, (fill-order-holds, (moreBytes-order-holds, (twoWordsTwice-order-holds, (keyTwice-order-holds, (keysDiffer-order-holds, (wordTwiceInAssociate-order-holds, (wordTwiceInNest-order-holds, (equalSets-order-holds, (emptySets-order-holds, (unequalSets-order-holds, (inheritTwice-order-holds, (inheritsDiffer-order-holds, (deriveTwice-order-holds, (aliasTwice-order-holds, (makelistTwice-order-holds, (noDeriveTwice-order-holds, (tagsDiffer-order-holds, (againstNames-order-holds, (nextRound-order-holds, (oneWordFirst-order-holds, (longestChain-order-holds, (selfTwice-order-holds, (selfWaiting-order-holds, (selfDeclared-order-holds, (selfReplaced-order-holds, (selfInTwoWords-order-holds, (firstBadParent-order-holds, (repeatedParent-order-holds, (throughPath-order-holds, (placedParent-order-holds, (rows256-schedule-holds, (rows256-order-holds, (rows257-schedule-holds, (rows257-order-holds, (twoDoms-schedule-holds, (farDoms-schedule-holds, (unitedDoms-schedule-holds, (ownDoms-schedule-holds, (directParents-schedule-holds, (ownSorted-schedule-holds, (virtual-schedule-holds, (repeatedMarks-schedule-holds, (otherKinds-schedule-holds, (extensions-schedule-holds, (threeWords-schedule-holds, (ownClass-schedule-holds, (nestAlone-schedule-holds, (nestUnknown-schedule-holds, (nestAndOwn-schedule-holds, (failedParent-schedule-holds, (listedAgain-schedule-holds, (failsThrough-schedule-holds, (rowUnrefused-schedule-holds, (unknownEnds-schedule-holds, (after5-schedule-holds, (after5Unknown-schedule-holds, (after6Unknown-schedule-holds, (not6Where5-schedule-holds, (firstNoResource-schedule-holds, (otherVariant-schedule-holds, (wordLists-schedule-holds, (dedupOrder-schedule-holds, (dedupTurned-schedule-holds, (identicalOwn-schedule-holds, (identicalAbove-schedule-holds, (marksDiffer-schedule-holds, (declaredName-schedule-holds, tt)))))))))))))))))))))))))))))))))))))))))))))))))))))))))))))))))))))))))))))))))))))))))))))))))))))))))))))))))))))))))))))))))))))

@@ -4,7 +4,7 @@ use mathlib.Core.List.{List, [], _∷_}
 use mathlib.Core.Path.{refl}
 use Prim.Native.Nat.{ℕ}
 use Rattle.definitions.specs.Answer.{schedule, order}
-use Rattle.definitions.specs.Cases.{Case, Holds, AllHold, run, hex, accepts, refuses, diagnoses}
+use Rattle.definitions.specs.Cases.{Case, ComesOut, AllComeOut, run, hex, accepts, refuses, diagnoses}
 
 -- Words `resource`, `self` alone: 17 bytes, first four 10 24 39 32; schedule 00 00 00.
 --   => nothing
@@ -14,14 +14,14 @@ noTypes = hex 17 0x10243932b9b7bab931b291cd95b1980000
 abbrev noTypes-schedule : Case
 noTypes-schedule = accepts noTypes schedule 5 1536 3 0x000000
 
-noTypes-schedule-holds : Holds noTypes-schedule
+noTypes-schedule-holds : ComesOut noTypes-schedule
 unfolding run
 noTypes-schedule-holds = refl
 
 abbrev noTypes-order : Case
 noTypes-order = accepts noTypes order 3 1536 1 0x00
 
-noTypes-order-holds : Holds noTypes-order
+noTypes-order-holds : ComesOut noTypes-order
 unfolding run
 noTypes-order-holds = refl
 
@@ -35,14 +35,14 @@ eachOther = hex 28 0x1040b085890e4cae6deeae4c6ca473656c6604000101000100800000
 abbrev eachOther-schedule : Case
 eachOther-schedule = diagnoses eachOther schedule 2 1536 8 2 false (hex 12 0x0201ff00ffff0200ff01ffff)
 
-eachOther-schedule-holds : Holds eachOther-schedule
+eachOther-schedule-holds : ComesOut eachOther-schedule
 unfolding run
 eachOther-schedule-holds = refl
 
 abbrev eachOther-order : Case
 eachOther-order = diagnoses eachOther order 2 1536 8 2 false (hex 12 0x0201ff00ffff0200ff01ffff)
 
-eachOther-order-holds : Holds eachOther-order
+eachOther-order-holds : ComesOut eachOther-order
 unfolding run
 eachOther-order-holds = refl
 
@@ -56,14 +56,14 @@ undeclaredParent = hex 32 0x1050b085890e4cae6deeae4c6ca473656c6613d3d02000100810
 abbrev undeclaredParent-schedule : Case
 undeclaredParent-schedule = diagnoses undeclaredParent schedule 2 1536 8 2 false (hex 12 0x0300ff04ffff0201ff01ffff)
 
-undeclaredParent-schedule-holds : Holds undeclaredParent-schedule
+undeclaredParent-schedule-holds : ComesOut undeclaredParent-schedule
 unfolding run
 undeclaredParent-schedule-holds = refl
 
 abbrev undeclaredParent-order : Case
 undeclaredParent-order = diagnoses undeclaredParent order 2 1536 8 2 false (hex 12 0x0300ff04ffff0201ff01ffff)
 
-undeclaredParent-order-holds : Holds undeclaredParent-order
+undeclaredParent-order-holds : ComesOut undeclaredParent-order
 unfolding run
 undeclaredParent-order-holds = refl
 
@@ -76,14 +76,14 @@ selfAlone = hex 26 0x1040b0a1c995cdbdd5c98d948e6cad8cc27a7a02000202018000
 abbrev selfAlone-schedule : Case
 selfAlone-schedule = diagnoses selfAlone schedule 2 1536 8 1 false (hex 6 0x0300ff02ffff)
 
-selfAlone-schedule-holds : Holds selfAlone-schedule
+selfAlone-schedule-holds : ComesOut selfAlone-schedule
 unfolding run
 selfAlone-schedule-holds = refl
 
 abbrev selfAlone-order : Case
 selfAlone-order = diagnoses selfAlone order 2 1536 8 1 false (hex 6 0x0300ff02ffff)
 
-selfAlone-order-holds : Holds selfAlone-order
+selfAlone-order-holds : ComesOut selfAlone-order
 unfolding run
 selfAlone-order-holds = refl
 
@@ -97,14 +97,14 @@ selfBesideFree = hex 31 0x1050b0858d0e4cae6deeae4c6ca473656c6613d3d0200010181000
 abbrev selfBesideFree-schedule : Case
 selfBesideFree-schedule = diagnoses selfBesideFree schedule 2 1536 8 1 false (hex 6 0x0100ff03ffff)
 
-selfBesideFree-schedule-holds : Holds selfBesideFree-schedule
+selfBesideFree-schedule-holds : ComesOut selfBesideFree-schedule
 unfolding run
 selfBesideFree-schedule-holds = refl
 
 abbrev selfBesideFree-order : Case
 selfBesideFree-order = diagnoses selfBesideFree order 2 1536 8 1 false (hex 6 0x0100ff03ffff)
 
-selfBesideFree-order-holds : Holds selfBesideFree-order
+selfBesideFree-order-holds : ComesOut selfBesideFree-order
 unfolding run
 selfBesideFree-order-holds = refl
 
@@ -123,14 +123,14 @@ twoWaysUp = hex 54 0x1070b085882c616423334b632a1c995cdbdd5c98d948e6cad8cc180c040
 abbrev twoWaysUp-schedule : Case
 twoWaysUp-schedule = accepts twoWaysUp schedule 54 1536 52 0x0c00050080808030004000081208828020001002040a00044140101008020205000220a008100401810380412020441401030080
 
-twoWaysUp-schedule-holds : Holds twoWaysUp-schedule
+twoWaysUp-schedule-holds : ComesOut twoWaysUp-schedule
 unfolding run
 twoWaysUp-schedule-holds = refl
 
 abbrev twoWaysUp-order : Case
 twoWaysUp-order = accepts twoWaysUp order 10 1536 8 0x0c00050080808030
 
-twoWaysUp-order-holds : Holds twoWaysUp-order
+twoWaysUp-order-holds : ComesOut twoWaysUp-order
 unfolding run
 twoWaysUp-order-holds = refl
 
@@ -147,14 +147,14 @@ parentAndChild = hex 39 0x1050b085888ccd2d8ca87265736f75726365239b2b633030000091
 abbrev parentAndChild-schedule : Case
 parentAndChild-schedule = accepts parentAndChild schedule 35 1536 33 0x06000200800140002090240c010000401010481206000080828000903004040100
 
-parentAndChild-schedule-holds : Holds parentAndChild-schedule
+parentAndChild-schedule-holds : ComesOut parentAndChild-schedule
 unfolding run
 parentAndChild-schedule-holds = refl
 
 abbrev parentAndChild-order : Case
 parentAndChild-order = accepts parentAndChild order 7 1536 5 0x0600020080
 
-parentAndChild-order-holds : Holds parentAndChild-order
+parentAndChild-order-holds : ComesOut parentAndChild-order
 unfolding run
 parentAndChild-order-holds = refl
 
@@ -230,14 +230,14 @@ types64 = hex 286 0x10a0b085882c61640b285982ce16843932b9b7bab931b291cd95b19a0004
 abbrev types64-schedule : Case
 types64-schedule = accepts types64 schedule 141 1536 139 0x80010000808040802060104008280418020e0300018080c0806060304018280c18060e05000280814080a0605040282814180a0e0700038081c080e060704038281c180e0e090004808240812060904048282418120e0b00058082c0816060b04058282c18160e0d000680834081a060d040682834181a0e0f00078083c081e060f04078283c181e0e0000
 
-types64-schedule-holds : Holds types64-schedule
+types64-schedule-holds : ComesOut types64-schedule
 unfolding run
 types64-schedule-holds = refl
 
 abbrev types64-order : Case
 types64-order = accepts types64 order 139 1536 137 0x80010000808040802060104008280418020e0300018080c0806060304018280c18060e05000280814080a0605040282814180a0e0700038081c080e060704038281c180e0e090004808240812060904048282418120e0b00058082c0816060b04058282c18160e0d000680834081a060d040682834181a0e0f00078083c081e060f04078283c181e0e
 
-types64-order-holds : Holds types64-order
+types64-order-holds : ComesOut types64-order
 unfolding run
 types64-order-holds = refl
 
@@ -314,14 +314,14 @@ types65 = hex 289 0x10a0b085882c61640b285982ce16843932b9b7bab931b291cd95b19a0804
 abbrev types65-schedule : Case
 types65-schedule = refuses types65 schedule 2 1536 4
 
-types65-schedule-holds : Holds types65-schedule
+types65-schedule-holds : ComesOut types65-schedule
 unfolding run
 types65-schedule-holds = refl
 
 abbrev types65-order : Case
 types65-order = refuses types65 order 2 1536 4
 
-types65-order-holds : Holds types65-order
+types65-order-holds : ComesOut types65-order
 unfolding run
 types65-order-holds = refl
 
@@ -335,14 +335,14 @@ parents8 = hex 35 0x1040b085c10e4cae6deeae4c6ca473656c66040200000008010080402010
 abbrev parents8-schedule : Case
 parents8-schedule = accepts parents8 schedule 8 1536 6 0x040200000000
 
-parents8-schedule-holds : Holds parents8-schedule
+parents8-schedule-holds : ComesOut parents8-schedule
 unfolding run
 parents8-schedule-holds = refl
 
 abbrev parents8-order : Case
 parents8-order = accepts parents8 order 6 1536 4 0x04020000
 
-parents8-order-holds : Holds parents8-order
+parents8-order-holds : ComesOut parents8-order
 unfolding run
 parents8-order-holds = refl
 
@@ -356,14 +356,14 @@ parents9 = hex 36 0x1040b085c10e4cae6deeae4c6ca473656c66040200000009010080402010
 abbrev parents9-schedule : Case
 parents9-schedule = refuses parents9 schedule 2 1536 4
 
-parents9-schedule-holds : Holds parents9-schedule
+parents9-schedule-holds : ComesOut parents9-schedule
 unfolding run
 parents9-schedule-holds = refl
 
 abbrev parents9-order : Case
 parents9-order = refuses parents9 order 2 1536 4
 
-parents9-order-holds : Holds parents9-order
+parents9-order-holds : ComesOut parents9-order
 unfolding run
 parents9-order-holds = refl
 
@@ -379,14 +379,14 @@ nested = hex 39 0x1050b11199a5b1942e087265736f75726365239b2b6330302000a101810000
 abbrev nested-schedule : Case
 nested-schedule = accepts nested schedule 20 1536 18 0x06040280800000800010a020140c01000020
 
-nested-schedule-holds : Holds nested-schedule
+nested-schedule-holds : ComesOut nested-schedule
 unfolding run
 nested-schedule-holds = refl
 
 abbrev nested-order : Case
 nested-order = accepts nested order 8 1536 6 0x060402808000
 
-nested-order-holds : Holds nested-order
+nested-order-holds : ComesOut nested-order
 unfolding run
 nested-order-holds = refl
 
@@ -403,19 +403,19 @@ worked = hex 38 0x10423130b9b29199a5b1950e4cae6deeae4c6ca473656c6606000012202002
 abbrev worked-schedule : Case
 worked-schedule = accepts worked schedule 18 1536 16 0x06000200800080001090140802800010
 
-worked-schedule-holds : Holds worked-schedule
+worked-schedule-holds : ComesOut worked-schedule
 unfolding run
 worked-schedule-holds = refl
 
 abbrev worked-order : Case
 worked-order = accepts worked order 7 1536 5 0x0600020080
 
-worked-order-holds : Holds worked-order
+worked-order-holds : ComesOut worked-order
 unfolding run
 worked-order-holds = refl
 
 abbrev pub cases : List Case
 cases = noTypes-schedule ∷ noTypes-order ∷ eachOther-schedule ∷ eachOther-order ∷ undeclaredParent-schedule ∷ undeclaredParent-order ∷ selfAlone-schedule ∷ selfAlone-order ∷ selfBesideFree-schedule ∷ selfBesideFree-order ∷ twoWaysUp-schedule ∷ twoWaysUp-order ∷ parentAndChild-schedule ∷ parentAndChild-order ∷ types64-schedule ∷ types64-order ∷ types65-schedule ∷ types65-order ∷ parents8-schedule ∷ parents8-order ∷ parents9-schedule ∷ parents9-order ∷ nested-schedule ∷ nested-order ∷ worked-schedule ∷ worked-order ∷ []
 
-pub hold : AllHold cases
+pub hold : AllComeOut cases
 hold = (noTypes-schedule-holds, (noTypes-order-holds, (eachOther-schedule-holds, (eachOther-order-holds, (undeclaredParent-schedule-holds, (undeclaredParent-order-holds, (selfAlone-schedule-holds, (selfAlone-order-holds, (selfBesideFree-schedule-holds, (selfBesideFree-order-holds, (twoWaysUp-schedule-holds, (twoWaysUp-order-holds, (parentAndChild-schedule-holds, (parentAndChild-order-holds, (types64-schedule-holds, (types64-order-holds, (types65-schedule-holds, (types65-order-holds, (parents8-schedule-holds, (parents8-order-holds, (parents9-schedule-holds, (parents9-order-holds, (nested-schedule-holds, (nested-order-holds, (worked-schedule-holds, (worked-order-holds, tt))))))))))))))))))))))))))

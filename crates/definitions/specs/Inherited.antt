@@ -7,7 +7,7 @@ use lib.Dec.{eqb}
 use lib.ListN.{length}
 use Rattle.lists.specs.Lists.{filter, each, sort, setOf}
 use Rattle.definitions.specs.Records.{Name, makeList, associate, nestAssociate, alias, inherit, derive, noDerive, AnnotationInfo, TypeInfo}
-use Rattle.definitions.specs.Orders.{nameBefore}
+use Rattle.definitions.specs.Comparisons.{nameBefore}
 use Rattle.definitions.specs.Checks.{kindOf}
 use Rattle.definitions.specs.Map.{TypeMap}
 use Rattle.definitions.specs.OrderRows.{typeNamed}

@@ -7,9 +7,9 @@ use lib.Dec.{eqb, ltb}
 use lib.ListN.{length}
 use Rattle.lists.specs.Lists.{any, filter, each, sort, setOf}
 use Rattle.definitions.specs.Records.{Name, Dom, Resource, makeList, associate, nestAssociate, alias, inherit, derive, noDerive, Annotation, Item}
-use Rattle.definitions.specs.Orders.{sameName, nameBefore, domBefore, dotted}
+use Rattle.definitions.specs.Comparisons.{sameName, nameBefore, domBefore, dotted}
 use Rattle.definitions.specs.Checks.{resourcesOf}
-use Rattle.definitions.specs.Map.{Declaration, Map}
+use Rattle.definitions.specs.Map.{LineType, LineMap}
 use Rattle.definitions.specs.Making.{classNames, createSyntheticResource, extensionLine}
 
 -- ---- what a type associates
@@ -25,11 +25,11 @@ associateOf (derive t) = []
 associateOf noDerive = []
 
 -- 'each resource of each own Associate'
-unfoldable pub owned : Declaration → List Resource
+unfoldable pub owned : LineType → List Resource
 owned T = each associateOf (T .annotations)
 
 -- 'A type associates r when an annotation of its own does, nested or not.'
-unfoldable pub given : Declaration → List Resource
+unfoldable pub given : LineType → List Resource
 given T = each resourcesOf (T .annotations)
 
 abbrev pub ofWord : ℕ → List Resource → List Resource
@@ -38,61 +38,61 @@ ofWord r us = filter (λ (u : Resource). eqb (u .word) r) us
 abbrev pub hasWord : List Resource → ℕ → Bool
 hasWord us r = any (λ (u : Resource). eqb (u .word) r) us
 
-abbrev pub associateWord : List Declaration → ℕ → Bool
+abbrev pub associateWord : List LineType → ℕ → Bool
 associateWord As r = any (λ A. hasWord (given A) r) As
 
 -- ---- ancestors
 
 -- the direct parents, ascending by name
-unfoldable pub parentsOf : Map → Declaration → List Declaration
-parentsOf m T = filter (λ (P : Declaration). T .inherits (P .name)) (m .types)
+unfoldable pub parentsOf : LineMap → LineType → List LineType
+parentsOf m T = filter (λ (P : LineType). T .inherits (P .name)) (m .types)
 
 -- the types reached from T by at most k + 1 steps to a parent
-unfoldable pub reached : ℕ → Map → Declaration → List Declaration
+unfoldable pub reached : ℕ → LineMap → LineType → List LineType
 reached zero m T = parentsOf m T
 reached (suc k) m T = further (reached k m T)
   where
-    further : List Declaration → List Declaration
-    further S = filter (λ (A : Declaration). any (λ (B : Declaration). sameName (B .name) (A .name) || B .inherits (A .name)) S) (m .types)
+    further : List LineType → List LineType
+    further S = filter (λ (A : LineType). any (λ (B : LineType). sameName (B .name) (A .name) || B .inherits (A .name)) S) (m .types)
 
 -- 'A proper ancestor of T is a parent of T or a proper ancestor of one.' No chain has more steps than there are types.
-unfoldable pub ancestors : Map → Declaration → List Declaration
+unfoldable pub ancestors : LineMap → LineType → List LineType
 ancestors m T = reached (length (m .types)) m T
 
 -- ---- the items
 
 -- 'each resource of each own Associate makes a resource T.r whose class is `r`, or `dom.r`, and whose first parents are the class names'
-unfoldable pub ownResource : Map → Declaration → ℕ → Name → Item
+unfoldable pub ownResource : LineMap → LineType → ℕ → Name → Item
 ownResource m T r class = createSyntheticResource m T r (class ∷ []) (class ∷ [])
 
 -- the own classes of a word, ascending by name
-unfoldable pub ownClasses : Declaration → ℕ → List Name
+unfoldable pub ownClasses : LineType → ℕ → List Name
 ownClasses T r = sort nameBefore (map (λ (u : Resource). dotted (u .dom) r) (ofWord r (owned T)))
 
 -- 'Its classes come from every dom that any proper ancestor gives r, none first, then ascending.' As are the proper ancestors.
-unfoldable pub domsAbove : List Declaration → ℕ → List Dom
+unfoldable pub domsAbove : List LineType → ℕ → List Dom
 domsAbove As r = setOf domBefore (map (λ (u : Resource). u .dom) (ofWord r (each given As)))
 
 -- 'Its first parents are P.r for each direct parent P that associates r, or has an ancestor that does, ascending by P, each once.'
-unfoldable pub parentsAbove : Map → Declaration → ℕ → List Name
-parentsAbove m T r = map (λ (P : Declaration). dotted (P .name) r) (filter (λ P. associateWord (P ∷ ancestors m P) r) (parentsOf m T))
+unfoldable pub parentsAbove : LineMap → LineType → ℕ → List Name
+parentsAbove m T r = map (λ (P : LineType). dotted (P .name) r) (filter (λ P. associateWord (P ∷ ancestors m P) r) (parentsOf m T))
 
 -- 'each word r associated, nested or not, by a proper ancestor makes one T.r'
-unfoldable pub inheritedResource : Map → Declaration → List Declaration → ℕ → Item
+unfoldable pub inheritedResource : LineMap → LineType → List LineType → ℕ → Item
 inheritedResource m T As r = createSyntheticResource m T r (classNames (domsAbove As r) r) (parentsAbove m T r)
 
 -- the words with a making, ascending
-unfoldable pub wordsMade : Declaration → List Declaration → List ℕ
+unfoldable pub wordsMade : LineType → List LineType → List ℕ
 wordsMade T As = setOf ltb (map (λ (u : Resource). u .word) (owned T ++ each given As))
 
-unfoldable pub itemsAt : Map → Declaration → List Declaration → ℕ → List Item
+unfoldable pub itemsAt : LineMap → LineType → List LineType → ℕ → List Item
 itemsAt m T As r =
     map (ownResource m T r) (ownClasses T r)
     ++ (map (inheritedResource m T As) (filter (associateWord As) (r ∷ []))
     ++ (extensionLine T r ∷ []))
 
-unfoldable pub itemsFor : Map → Declaration → List Declaration → List Item
+unfoldable pub itemsFor : LineMap → LineType → List LineType → List Item
 itemsFor m T As = each (itemsAt m T As) (wordsMade T As)
 
-unfoldable pub itemsOf : Map → List Item
+unfoldable pub itemsOf : LineMap → List Item
 itemsOf m = each (λ T. itemsFor m T (ancestors m T)) (m .types)

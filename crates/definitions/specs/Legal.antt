@@ -7,7 +7,7 @@ use Prim.Native.Nat.{ℕ, _≤_, _<_}
 use lib.ListN.{length}
 use Rattle.lists.specs.Lists.{In, Sorted}
 use Rattle.definitions.specs.Records.{Name, Resource, makeList, associate, nestAssociate, alias, inherit, derive, noDerive, Annotation, Mark, makelistMark, deriveMark, TypeInfo, Extension, Sheet}
-use Rattle.definitions.specs.Orders.{bytesBefore}
+use Rattle.definitions.specs.Comparisons.{bytesBefore}
 use Rattle.definitions.specs.Checks.{resourceBytes, selfBytes, resourcesOf}
 
 -- P of each element

@@ -1,7 +1,7 @@
 pub mod Bits
 pub mod Parse
 pub mod Records
-pub mod Orders
+pub mod Comparisons
 pub mod Reading
 pub mod Checks
 pub mod Map

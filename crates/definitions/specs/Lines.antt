@@ -7,7 +7,7 @@ use mathlib.Core.Path.{_≡_}
 use Prim.Native.Nat.{ℕ}
 use Rattle.lists.specs.Lists.{In, At, Sorted}
 use Rattle.definitions.specs.Records.{Name, Dom, Resource, associate, nestAssociate, Variant, Mark, TypeInfo, Extension, Sheet, Item, synthesized, extension}
-use Rattle.definitions.specs.Orders.{nameBefore, domBefore}
+use Rattle.definitions.specs.Comparisons.{nameBefore, domBefore}
 use Rattle.definitions.specs.Checks.{resourceBytes}
 use Rattle.definitions.specs.Ancestry.{Parent, Ancestor}
 
@@ -70,7 +70,7 @@ pub data Marks (s : Sheet) : List Name → List Mark → Type 0 where
 -- T and all its classes are virtual
 pub record AllVirtual (s : Sheet) (T : TypeInfo) (classes : List Name) : Type 0 where
   pub type : T .virtual ≡ true
-  pub each : (c : Name) (D : TypeInfo) → In c classes → In D (s .types) → D .name ≡ c → D .virtual ≡ true
+  pub classes : (c : Name) (D : TypeInfo) → In c classes → In D (s .types) → D .name ≡ c → D .virtual ≡ true
 
 -- the resource T.r with its classes and its first parents: 'Then follow `resource` and the extension's parents for T.r. Virtual: T and all its classes are.'
 pub record Makes (s : Sheet) (T : TypeInfo) (r : ℕ) (classes firsts : List Name) (i : Item) : Type 0 where
@@ -97,7 +97,7 @@ pub record OwnMaking (s : Sheet) (T : TypeInfo) (i j : ℕ) (x : Item) : Type 0 
 -- 'Its classes come from every dom that any proper ancestor gives r, none first, then ascending.'
 pub record DomsAbove (s : Sheet) (T : TypeInfo) (r : ℕ) (ds : List Dom) : Type 0 where
   pub sorted : Sorted (λ d e. domBefore d e ≡ true) ds
-  pub each : (d : Dom) → In d ds ↔ GivenAbove s T r d
+  pub exactly : (d : Dom) → In d ds ↔ GivenAbove s T r d
 
 -- P 'associates r, or has an ancestor that does'
 abbrev pub Passes : Sheet → TypeInfo → ℕ → Type 0
@@ -106,7 +106,7 @@ Passes s P r = Associates P r ⊎ AssociatedAbove s P r
 -- the names of 'each direct parent P that associates r, or has an ancestor that does, ascending by P, each once'
 pub record ParentsAbove (s : Sheet) (T : TypeInfo) (r : ℕ) (Ps : List Name) : Type 0 where
   pub sorted : Sorted (λ P Q. nameBefore P Q ≡ true) Ps
-  pub each : (p : Name) → In p Ps ↔ ((P : TypeInfo) × Parent s P T × Passes s P r × (P .name ≡ p))
+  pub exactly : (p : Name) → In p Ps ↔ ((P : TypeInfo) × Parent s P T × Passes s P r × (P .name ≡ p))
 
 -- 'each word r associated, nested or not, by a proper ancestor makes one T.r'
 pub record InheritedMaking (s : Sheet) (T : TypeInfo) (r : ℕ) (x : Item) : Type 0 where

@@ -5,12 +5,12 @@ use Prim.Native.Nat.{ℕ}
 use lib.Dec.{eqb}
 use Rattle.lists.specs.Lists.{all, filter, each, sameList}
 use Rattle.definitions.specs.Records.{Name, Dom, Variant, domain, resource, other, Mark, makelistMark, deriveMark, Extension, Item, synthesized, extension}
-use Rattle.definitions.specs.Orders.{sameName, lookUp, dotted}
-use Rattle.definitions.specs.Map.{Declaration, Map}
+use Rattle.definitions.specs.Comparisons.{sameName, lookUp, dotted}
+use Rattle.definitions.specs.Map.{LineType, LineMap}
 
 -- the type that is declared under a name, or none
-abbrev pub declared : Map → Name → List Declaration
-declared m n = lookUp (λ (D : Declaration). D .name) (m .types) n
+abbrev pub declared : LineMap → Name → List LineType
+declared m n = lookUp (λ (D : LineType). D .name) (m .types) n
 
 -- 'a resource T.r whose class is `r`, or `dom.r`'
 abbrev pub classNames : List Dom → ℕ → List Name
@@ -22,28 +22,28 @@ isResourceVariant domain = false
 isResourceVariant resource = true
 isResourceVariant other = false
 
-abbrev pub isResource : Map → Name → Bool
-isResource m c = all (λ (D : Declaration). isResourceVariant (D .variant)) (declared m c)
+abbrev pub isResource : LineMap → Name → Bool
+isResource m c = all (λ (D : LineType). isResourceVariant (D .variant)) (declared m c)
 
 -- 'the extension's parents for T.r'
-unfoldable pub extensionParents : Map → Name → ℕ → List Name
+unfoldable pub extensionParents : LineMap → Name → ℕ → List Name
 extensionParents m T r = each (λ (e : Extension). e .parents) (filter (λ (e : Extension). sameName (e .name) T && eqb (e .word) r) (m .extensions))
 
 -- 'Marks: those of the classes in turn, repeats kept.'
-unfoldable pub marksOf : Map → List Name → List Mark
-marksOf m cs = each (λ c. each (λ (D : Declaration). D .marks) (declared m c)) cs
+unfoldable pub marksOf : LineMap → List Name → List Mark
+marksOf m cs = each (λ c. each (λ (D : LineType). D .marks) (declared m c)) cs
 
 -- 'Virtual: T and all its classes are.'
-unfoldable pub allVirtual : Map → List Name → Bool
-allVirtual m cs = all (λ c. all (λ (D : Declaration). D .virtual) (declared m c)) cs
+unfoldable pub allVirtual : LineMap → List Name → Bool
+allVirtual m cs = all (λ c. all (λ (D : LineType). D .virtual) (declared m c)) cs
 
 -- T.r with its classes and its first parents: 'Then follow `resource` and the extension's parents for T.r.'
-unfoldable pub createSyntheticResource : Map → Declaration → ℕ → List Name → List Name → Item
+unfoldable pub createSyntheticResource : LineMap → LineType → ℕ → List Name → List Name → Item
 createSyntheticResource m T r classes firsts =
     synthesized (T .name) r (T .virtual && allVirtual m classes) (firsts ++ (m .resource ∷ []) ∷ extensionParents m (T .name) r) (marksOf m classes)
 
 -- 'T and each r with a making have one extension line, its virtual and trait those of T.'
-unfoldable pub extensionLine : Declaration → ℕ → Item
+unfoldable pub extensionLine : LineType → ℕ → Item
 extensionLine T r = extension (T .name) (T .virtual) (T .trait) r
 
 -- 'two lines are the same when every field is, parents and marks in their order'

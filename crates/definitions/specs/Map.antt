@@ -5,7 +5,7 @@ use Prim.Native.Nat.{ℕ}
 use lib.Dec.{eqb}
 use Rattle.lists.specs.Lists.{sameList, placeOf, sort}
 use Rattle.definitions.specs.Records.{Name, Annotation, Variant, Mark, TypeInfo, Extension, Sheet}
-use Rattle.definitions.specs.Orders.{elemName, nameBefore}
+use Rattle.definitions.specs.Comparisons.{elemName, nameBefore}
 use Rattle.definitions.specs.Checks.{resourceBytes, selfBytes}
 
 -- the map as listed: the numbers of the words `resource` and `self`, the types in name order with their parents as listed
@@ -28,7 +28,7 @@ typeMapOf s = record {
 }
 
 -- A type as the lines see it: of its parents it has a test and no list, so that their order and repeats can't matter.
-pub record Declaration : Type 0 where
+pub record LineType : Type 0 where
   pub name : Name
   pub variant : Variant
   pub virtual : Bool
@@ -37,13 +37,13 @@ pub record Declaration : Type 0 where
   pub annotations : List Annotation
   pub marks : List Mark
 
-pub record Map : Type 0 where
+pub record LineMap : Type 0 where
   pub resource : ℕ
-  pub types : List Declaration
+  pub types : List LineType
   pub extensions : List Extension
 
-unfoldable pub declarationOf : TypeInfo → Declaration
-declarationOf T = record {
+unfoldable pub lineTypeOf : TypeInfo → LineType
+lineTypeOf T = record {
   name = T .name;
   variant = T .variant;
   virtual = T .virtual;
@@ -53,5 +53,5 @@ declarationOf T = record {
   marks = T .marks;
 }
 
-unfoldable pub mapOf : TypeMap → Map
-mapOf m = record { resource = m .resource; types = map declarationOf (m .types); extensions = m .extensions }
+unfoldable pub lineMapOf : TypeMap → LineMap
+lineMapOf m = record { resource = m .resource; types = map lineTypeOf (m .types); extensions = m .extensions }

@@ -5,7 +5,7 @@ use Prim.Native.Nat.{ℕ, zero, suc}
 use lib.ListN.{length}
 use Rattle.lists.specs.Lists.{any, all, null, filter}
 use Rattle.definitions.specs.Records.{Name, TypeInfo}
-use Rattle.definitions.specs.Orders.{sameName, elemName}
+use Rattle.definitions.specs.Comparisons.{sameName, elemName}
 use Rattle.definitions.specs.Map.{TypeMap}
 
 -- a parent spelled `self`

@@ -5,7 +5,7 @@ use Prim.Native.Nat.{ℕ, zero, suc}
 use lib.ListN.{length}
 use Rattle.lists.specs.Lists.{null, filter, each, firstOf}
 use Rattle.definitions.specs.Records.{Name, TypeInfo, Row}
-use Rattle.definitions.specs.Orders.{elemName, lookUp}
+use Rattle.definitions.specs.Comparisons.{elemName, lookUp}
 use Rattle.definitions.specs.Map.{TypeMap}
 use Rattle.definitions.specs.Order.{isSelf, passes, lastPass, inheritsSelf}
 

@@ -11,7 +11,7 @@ use Rattle.definitions.specs.Bits.{bitsOf}
 use Rattle.definitions.specs.Parse.{done}
 use Rattle.definitions.specs.Reading.{sheet}
 use Rattle.definitions.specs.Checks.{badFill, badWords, somethingTwice}
-use Rattle.definitions.specs.Answer.{Input, outcome, scheduleOf, mapIn}
+use Rattle.definitions.specs.Answer.{Input, outcome, scheduleOf, typeMapIn}
 
 -- 'in each of these, the order and repeats of its parents; its set of parent names stays'
 pub record SameButParents (T U : TypeInfo) : Type 0 where
@@ -62,5 +62,5 @@ pub record RelistedInputs (i j : Input) : Type 0 where
 pub record Alike (i j : Input) : Type 0 where
   pub number : outcome i .answer .number ≡ outcome j .answer .number
   pub size : outcome i .answer .size ≡ outcome j .answer .size
-  pub order : outcome i .answer .number ≡ 0 → scheduleOf (i .call) (mapIn i) .order ≡ scheduleOf (j .call) (mapIn j) .order
-  pub lines : outcome i .answer .number ≡ 0 → (x : Item) → In x (scheduleOf (i .call) (mapIn i) .items) ↔ In x (scheduleOf (j .call) (mapIn j) .items)
+  pub order : outcome i .answer .number ≡ 0 → scheduleOf (i .call) (typeMapIn i) .order ≡ scheduleOf (j .call) (typeMapIn j) .order
+  pub lines : outcome i .answer .number ≡ 0 → (x : Item) → In x (scheduleOf (i .call) (typeMapIn i) .items) ↔ In x (scheduleOf (j .call) (typeMapIn j) .items)

@@ -6,9 +6,9 @@ use lib.Dec.{eqb}
 use lib.ListN.{length}
 use Rattle.lists.specs.Lists.{any, null, keep, filter, each, firstOf}
 use Rattle.definitions.specs.Records.{Name, AssociatedResource, TypeInfo, Item, Row}
-use Rattle.definitions.specs.Orders.{elemName, dotted}
+use Rattle.definitions.specs.Comparisons.{elemName, dotted}
 use Rattle.definitions.specs.Checks.{kindOf, resourcesOf}
-use Rattle.definitions.specs.Map.{TypeMap, Declaration, Map, declarationOf, mapOf}
+use Rattle.definitions.specs.Map.{TypeMap, LineType, LineMap, lineTypeOf, lineMapOf}
 use Rattle.definitions.specs.OrderRows.{typeNamed}
 use Rattle.definitions.specs.Inherited.{InheritedAnnotation, dedup, ownAssociates, handedOn}
 use Rattle.definitions.specs.Making.{declared, classNames, isResource, createSyntheticResource, extensionLine, sameItem}
@@ -16,7 +16,7 @@ use Rattle.definitions.specs.Making.{declared, classNames, isResource, c
 -- ---- one annotation, after `interpret_associate`
 
 -- '4 unknown class, 5 first class that is no resource, 6 duplicate (no other name)'; 'The other name is the class in 4 and 5'
-abbrev pub classRow : ℕ → Declaration → ℕ → Name → Row
+abbrev pub classRow : ℕ → LineType → ℕ → Name → Row
 classRow kind T r c = record { kind = kind; subject = T .name; other = c; word = r ∷ [] }
 
 -- the rows added and the items made
@@ -53,15 +53,15 @@ firstParents [] classes r = classes
 firstParents (P ∷ Ps) classes r = map (λ Q. dotted Q r) (P ∷ Ps)
 
 -- 'T.r is a declared type, or two of its makings are identical'
-unfoldable pub isDuplicate : Map → Declaration → ℕ → Item → List Item → Bool
+unfoldable pub isDuplicate : LineMap → LineType → ℕ → Item → List Item → Bool
 isDuplicate m T r new is = not (null (declared m (dotted (T .name) r))) || any (sameItem new) is
 
 -- the items with a new making and its extension line, of which there is one for each word
-unfoldable pub withMaking : Declaration → ℕ → Item → List Item → List Item
+unfoldable pub withMaking : LineType → ℕ → Item → List Item → List Item
 withMaking T r new is = is ++ (new ∷ keep (not (any (sameItem (extensionLine T r)) is)) (extensionLine T r) [])
 
 -- the words of an annotation, ascending; `failed` once a row 5 or 6 stands
-unfoldable pub interpretWords : Map → Declaration → List Name → List AssociatedResource → Bool → List Item → Interpreted
+unfoldable pub interpretWords : LineMap → LineType → List Name → List AssociatedResource → Bool → List Item → Interpreted
 interpretWords m T Ps [] failed is = interpreted [] is
 interpretWords m T Ps (u ∷ us) failed is =
     let r = u .word in
@@ -80,7 +80,7 @@ interpretWords m T Ps (u ∷ us) failed is =
 abbrev pub behindRows : List Row → Interpreted → Interpreted
 behindRows rs i = interpreted (rs ++ i .rows) (i .items)
 
-unfoldable pub interpretAll : Map → Declaration → List InheritedAnnotation → List Item → Interpreted
+unfoldable pub interpretAll : LineMap → LineType → List InheritedAnnotation → List Item → Interpreted
 interpretAll m T [] is = interpreted [] is
 interpretAll m T (a ∷ l) is = let i = interpretWords m T (a .parents) (resourcesOf (a .annotation)) false is in behindRows (i .rows) (interpretAll m T l (i .items))
 
@@ -89,7 +89,7 @@ unfoldable pub ownEntries : TypeInfo → List InheritedAnnotation
 ownEntries T = map (λ a. record { annotation = a; parents = [] }) (filter (λ a. eqb (kindOf a) 1) (ownAssociates T))
 
 unfoldable pub interpretType : TypeMap → TypeInfo → List InheritedAnnotation → Interpreted
-interpretType m T got = interpretAll (mapOf m) (declarationOf T) (ownEntries T ++ dedup got) []
+interpretType m T got = interpretAll (lineMapOf m) (lineTypeOf T) (ownEntries T ++ dedup got) []
 
 -- ---- the visit, after `inherit_annotations` and `apply_associate_annotations`
 

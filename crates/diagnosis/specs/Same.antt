@@ -12,7 +12,7 @@ use Rattle.lists.specs.Tests.{by, never, or-false-right}
 use Rattle.lists.specs.Appending.{each-map, map-each, map-map, filter-map, null-map, map-same, first-alike}
 use Rattle.definitions.specs.Records.{Name, TypeInfo}
 use Rattle.definitions.specs.Records as records
-use Rattle.definitions.specs.Orders.{elemName}
+use Rattle.definitions.specs.Comparisons.{elemName}
 use Rattle.definitions.specs.Map.{TypeMap}
 use Rattle.definitions.specs.Order.{isSelf}
 use Rattle.definitions.specs.OrderRows as rules

@@ -14,8 +14,8 @@ use Rattle.lists.specs.Tests.{by}
 use Rattle.lists.specs.Appending.{any-append}
 use Rattle.rows.specs.declared.Row.{Row}
 use Rattle.definitions.specs.Records.{Name, Mark, Item, synthesized, extension}
-use Rattle.definitions.specs.Orders.{sameName, lookUp, dotted}
-use Rattle.definitions.specs.Map.{Declaration}
+use Rattle.definitions.specs.Comparisons.{sameName, lookUp, dotted}
+use Rattle.definitions.specs.Map.{LineType}
 use Rattle.definitions.specs.Making.{declared, createSyntheticResource, extensionLine, sameItem}
 use Rattle.definitions.specs.Synthesis.{withMaking}
 use Rattle.fields.specs.Fields.{optional, twoWords}
@@ -30,13 +30,13 @@ use Rattle.duplicates.specs.Held.{Makings, makingsIn, wordAt, domsAt, pa
 -- ---- what stands among the items
 
 -- an extension line is no making
-kept-none : (b : Bool) (n : Name) (r : ℕ) (v : Bool) (ps : List Name) (ms : List Mark) (D : Declaration) (w : ℕ) →
+kept-none : (b : Bool) (n : Name) (r : ℕ) (v : Bool) (ps : List Name) (ms : List Mark) (D : LineType) (w : ℕ) →
     any (sameItem (synthesized n r v ps ms)) (keep b (extensionLine D w) []) ≡ false
 unfolding sameItem extensionLine
 kept-none true n r v ps ms D w = refl
 kept-none false n r v ps ms D w = refl
 
-made-step : (n : Name) (r : ℕ) (v : Bool) (ps : List Name) (ms : List Mark) (D : Declaration) (w : ℕ) (new : Item) (is : List Item) →
+made-step : (n : Name) (r : ℕ) (v : Bool) (ps : List Name) (ms : List Mark) (D : LineType) (w : ℕ) (new : Item) (is : List Item) →
     any (sameItem (synthesized n r v ps ms)) (withMaking D w new is) ≡ (any (sameItem (synthesized n r v ps ms)) is || sameItem (synthesized n r v ps ms) new)
 unfolding withMaking
 made-step n r v ps ms D w new is =
@@ -175,7 +175,7 @@ tail-longer b d w h = rw (ne-eqb d 255 h) (by (eqb b 255) (λ e. rw e) (λ e. rw
 pub three-words : (t : Table) (place word : ℕ) → (getD (t .seconds) place 0 ≡ 255 → ⊥) → declared (tableMap t) (dotted (nameAt t place) word) ≡ []
 unfolding tableMap lookUp declarationAt
 three-words t place word h =
-    none-there (λ (D : Declaration). sameName (D .name) (dotted (nameAt t place) word)) (declarationAt t) (t .count)
+    none-there (λ (D : LineType). sameName (D .name) (dotted (nameAt t place) word)) (declarationAt t) (t .count)
     (λ i _.
     ap (λ x. eqb (getD (t .firsts) i 0) (getD (t .firsts) place 0) && x) (tail-longer (getD (t .seconds) i 0) (getD (t .seconds) place 0) word h)
     ∙ and-false (eqb (getD (t .firsts) i 0) (getD (t .firsts) place 0)))

@@ -8,7 +8,7 @@ ghost use mathlib.Core.Path.{_≡_};
 ghost use Prim.Native.Nat.{_+_, _<_, _≤_};
 ghost use Rattle.lists.specs.Lists.{any, null};
 ghost use Rattle.definitions.specs.Making.{declared, sameItem};
-ghost use Rattle.definitions.specs.Orders.{dotted};
+ghost use Rattle.definitions.specs.Comparisons.{dotted};
 ghost use Rattle.definitions.specs.Synthesis.{isDuplicate};
 ghost use Rattle.making.specs.Making.{itemOf};
 ghost use Rattle.table.specs.Table.{nameAt, declarationAt, tableMap, Sound};

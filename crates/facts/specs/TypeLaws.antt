@@ -10,7 +10,7 @@ use lib.ListN.{length, getD, set}
 use lib.Seq
 use Rattle.lists.specs.Tests.{by}
 use Rattle.lists.specs.Tabulating.{tabulate, tabulate-same}
-use Rattle.definitions.specs.Map.{declarationOf}
+use Rattle.definitions.specs.Map.{lineTypeOf}
 use Rattle.records.specs.Marks.{markAs, ofMarks}
 use Rattle.records.specs.MarkLaws.{length-ofMarks}
 use Rattle.records.specs.declared.Marks.{Marks}
@@ -59,7 +59,7 @@ few-marks x h = omega (arith, h, length-ofMarks (x .marks))
 pub type-laid : (f : List ℕ) (i : ℕ) (x : TypeInfo) (v w t : ℕ) (g : List ℕ) → i < 65 → length f ≡ 1944 → variantOf v ≡ variantOf (x .variant)
     → eqb w 1 ≡ x .«is_virtual» → eqb t 1 ≡ x .«is_trait»
     → MarksLaid (set (four f (20 * i) (x .name .first) (x .name .second) v w) (20 * i + 4) t) i (x .marks) g → TypeLaid f i (typeInfoOf x) g
-unfolding declarationAt bare declarationOf typeInfoOf
+unfolding declarationAt bare lineTypeOf typeInfoOf
 type-laid f i x v w t g h l ev ew et m =
     let u = four f (20 * i) (x .name .first) (x .name .second) v w in
     let s = set u (20 * i + 4) t in

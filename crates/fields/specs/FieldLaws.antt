@@ -11,7 +11,7 @@ use lib.Seq
 use Rattle.lists.specs.Lists.{sameList}
 use Rattle.lists.specs.Tabulating.{tabulate-set, length-tabulate}
 use Rattle.lists.specs.Tests.{and-left, and-right}
-use Rattle.definitions.specs.Orders.{sameName}
+use Rattle.definitions.specs.Comparisons.{sameName}
 use Rattle.definitions.specs.Parse.{Parsed, done, refused, Parser, next, pure, refuse, choose, field, allowed, between, repeat, counted}
 use Rattle.definitions.specs.Reading.{wordField}
 use Rattle.fields.specs.ParseLaws.{repeat-length}

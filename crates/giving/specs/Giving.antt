@@ -9,7 +9,7 @@ use Rattle.lists.specs.Tabulating.{tabulate}
 use Rattle.definitions.specs.Records.{Resource}
 use Rattle.definitions.specs.Records as records
 use Rattle.definitions.specs.Checks.{resourcesOf}
-use Rattle.definitions.specs.Map.{declarationOf}
+use Rattle.definitions.specs.Map.{lineTypeOf}
 use Rattle.definitions.specs.Items.{associateOf, owned, given, hasWord}
 use Rattle.fields.specs.Fields.{optional}
 use Rattle.records.specs.declared.Annotation.{Annotation}
@@ -45,11 +45,11 @@ pub record DomPlace (d r : ℕ) : Type 0 where
 
 -- what a type associates, nested or not; without nested ones 'each resource of each own Associate'
 abbrev pub givenBy : Bool → TypeInfo → List Resource
-givenBy true t = given (declarationOf (typeInfoOf t))
-givenBy false t = owned (declarationOf (typeInfoOf t))
+givenBy true t = given (lineTypeOf (typeInfoOf t))
+givenBy false t = owned (lineTypeOf (typeInfoOf t))
 
 pub record WordsGiven (t : TypeInfo) (nested : Bool) (r : Row) : Type 0 where
   pub bits : (k : ℕ) → has r k ≡ hasWord (givenBy nested t) k
 
 pub record DomsGiven (t : TypeInfo) (word : ℕ) (r : Row) : Type 0 where
-  pub bits : (k : ℕ) → has r k ≡ hasDom (given (declarationOf (typeInfoOf t))) word k
+  pub bits : (k : ℕ) → has r k ≡ hasDom (given (lineTypeOf (typeInfoOf t))) word k

@@ -13,7 +13,7 @@ use Rattle.lists.specs.Tabulating.{tabulate-in, map-tabulate, tabulate, places,
 use Rattle.lists.specs.Appending.{any-append, filter-append}
 use Rattle.definitions.specs.Records.{Resource}
 use Rattle.definitions.specs.Records as records
-use Rattle.definitions.specs.Map.{declarationOf}
+use Rattle.definitions.specs.Map.{lineTypeOf}
 use Rattle.definitions.specs.Items.{owned, given, ofWord, hasWord}
 use Rattle.line_laws.specs.Within.{AnnotationWithin, TypeWithin}
 use Rattle.fields.specs.Fields.{twoWords, ofNames}
@@ -118,7 +118,7 @@ unfolding typeInfoOf ofAnnotations places
 annotations-are t = refl
 
 pub given-are : (nested : Bool) (t : TypeInfo) → givenBy nested t ≡ each (resourcesIf nested) (firstOnes (t .annotations .items) (t .annotations .count))
-unfolding typeInfoOf ofAnnotations places declarationOf given owned
+unfolding typeInfoOf ofAnnotations places lineTypeOf given owned
 given-are true t = refl
 given-are false t = refl
 

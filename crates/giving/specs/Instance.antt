@@ -9,7 +9,7 @@ use Rattle.lists.specs.Tests.{cons-elim}
 use Rattle.lists.specs.Tabulating.{tabulate, places}
 use Rattle.definitions.specs.Records.{Resource}
 use Rattle.definitions.specs.Records as records
-use Rattle.definitions.specs.Map.{declarationOf}
+use Rattle.definitions.specs.Map.{lineTypeOf}
 use Rattle.definitions.specs.Items.{owned, given, hasWord}
 use Rattle.line_laws.specs.Within.{WordsWithin, AnnotationWithin, TypeWithin}
 use Rattle.fields.specs.Fields.{ofNames}
@@ -48,12 +48,12 @@ abbrev resource : ℕ → List ℕ → Resource
 resource w d = record { word = w; dom = d }
 
 -- what it gives, and what it owns
-pub sample-given : given (declarationOf (typeInfoOf sample)) ≡ resource 199 (199 ∷ []) ∷ resource 0 [] ∷ resource 0 (0 ∷ []) ∷ []
-unfolding given declarationOf typeInfoOf ofAnnotations places tabulate annotationOf annotationAs ofNames
+pub sample-given : given (lineTypeOf (typeInfoOf sample)) ≡ resource 199 (199 ∷ []) ∷ resource 0 [] ∷ resource 0 (0 ∷ []) ∷ []
+unfolding given lineTypeOf typeInfoOf ofAnnotations places tabulate annotationOf annotationAs ofNames
 sample-given = refl
 
-pub sample-owned : owned (declarationOf (typeInfoOf sample)) ≡ resource 199 (199 ∷ []) ∷ resource 0 [] ∷ []
-unfolding owned declarationOf typeInfoOf ofAnnotations places tabulate annotationOf annotationAs ofNames
+pub sample-owned : owned (lineTypeOf (typeInfoOf sample)) ≡ resource 199 (199 ∷ []) ∷ resource 0 [] ∷ []
+unfolding owned lineTypeOf typeInfoOf ofAnnotations places tabulate annotationOf annotationAs ofNames
 sample-owned = refl
 
 pub no-dom : WordsWithin 200 0 1 []
@@ -125,6 +125,6 @@ pub pair-filled : Filled pair 2 pairAt pairTable
 pair-filled =
     record {
       types = pair-types;
-      words = λ a h. record { bits = λ k. pair-table .words a h k ∙ sym (ap (λ (T : records.TypeInfo). hasWord (given (declarationOf T)) k) (pair-types a h)) };
-      doms = λ a h r l. record { bits = λ k. pair-table .doms a h r l k ∙ sym (ap (λ (T : records.TypeInfo). hasDom (given (declarationOf T)) r k) (pair-types a h)) };
+      words = λ a h. record { bits = λ k. pair-table .words a h k ∙ sym (ap (λ (T : records.TypeInfo). hasWord (given (lineTypeOf T)) k) (pair-types a h)) };
+      doms = λ a h r l. record { bits = λ k. pair-table .doms a h r l k ∙ sym (ap (λ (T : records.TypeInfo). hasDom (given (lineTypeOf T)) r k) (pair-types a h)) };
     }

@@ -4,7 +4,7 @@ use mathlib.Core.List.{List}
 use mathlib.Core.Path.{_≡_, ap, _∙_}
 use Prim.Native.Nat.{ℕ, _+_, _<_}
 use Rattle.definitions.specs.Records as records
-use Rattle.definitions.specs.Map.{TypeMap, declarationOf}
+use Rattle.definitions.specs.Map.{TypeMap, lineTypeOf}
 use Rattle.definitions.specs.Items.{given, hasWord}
 use Rattle.types.specs.Types.{typeInfoOf}
 use Rattle.types.specs.declared.TypeInfo.{TypeInfo}
@@ -22,6 +22,6 @@ pub record Filled (m : TypeMap) (n : ℕ) (at : ℕ → TypeInfo) (table : List 
 pub filled-table : (m : TypeMap) (n : ℕ) (at : ℕ → TypeInfo) (table : List ℕ) → Filled m n at table → Table m n table
 filled-table m n at table f =
     record {
-      words = λ a h k. f .words a h .bits k ∙ ap (λ (T : records.TypeInfo). hasWord (given (declarationOf T)) k) (f .types a h);
-      doms = λ a h r l k. f .doms a h r l .bits k ∙ ap (λ (T : records.TypeInfo). hasDom (given (declarationOf T)) r k) (f .types a h);
+      words = λ a h k. f .words a h .bits k ∙ ap (λ (T : records.TypeInfo). hasWord (given (lineTypeOf T)) k) (f .types a h);
+      doms = λ a h r l k. f .doms a h r l .bits k ∙ ap (λ (T : records.TypeInfo). hasDom (given (lineTypeOf T)) r k) (f .types a h);
     }

@@ -7,7 +7,7 @@ use Rattle.lists.specs.Lists.{all, null, include, setOf}
 use Rattle.lists.specs.Tests.{and-both, by, and-left, and-right}
 use Rattle.lists.specs.Appending.{all-append}
 use Rattle.definitions.specs.Records.{Name, AnnotationInfo}
-use Rattle.definitions.specs.Orders.{nameBefore}
+use Rattle.definitions.specs.Comparisons.{nameBefore}
 use Rattle.definitions.specs.Annotations.{intersection, difference}
 use Rattle.definitions.specs.Inherited.{InheritedAnnotation, underParents, sharedEntry, restEntry, toList, dedupOne, dedupOnto}
 

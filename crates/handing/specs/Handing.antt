@@ -8,7 +8,7 @@ use lib.ListN.{length, getD}
 use Rattle.lists.specs.Lists.{In, any, ascends}
 use Rattle.rows.specs.Rows.{hasBit}
 use Rattle.definitions.specs.Records.{Name, TypeInfo, Sheet}
-use Rattle.definitions.specs.Orders.{nameBefore}
+use Rattle.definitions.specs.Comparisons.{nameBefore}
 use Rattle.definitions.specs.Map.{TypeMap, typeMapOf}
 use Rattle.definitions.specs.Inherited.{InheritedAnnotation, dedup, dedupOnto, ownAssociates, asAssociate}
 use Rattle.definitions.specs.Synthesis.{listedParents}

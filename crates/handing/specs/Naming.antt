@@ -15,7 +15,7 @@ use Rattle.rows.specs.Rows.{hasBit}
 use Rattle.rows.specs.RowLaws.{bit-one}
 use Rattle.rows.specs.Lists.{elem, below, between-same, elem-between, elem-below}
 use Rattle.definitions.specs.Records.{Name}
-use Rattle.definitions.specs.Orders.{sameName, nameBefore}
+use Rattle.definitions.specs.Comparisons.{sameName, nameBefore}
 use Rattle.inheritance.specs.OwnLaws.{ascending-is}
 use Rattle.dedup.specs.Reading.{namesAt}
 use Rattle.ordering.specs.Lists as lists

@@ -15,7 +15,7 @@ use Rattle.lists.specs.Lexicographic.{numbers-same}
 use Rattle.rows.specs.Rows.{hasBit}
 use Rattle.definitions.specs.Records.{Name, TypeInfo, Sheet}
 use Rattle.definitions.specs.Records as records
-use Rattle.definitions.specs.Orders.{sameName, nameBefore}
+use Rattle.definitions.specs.Comparisons.{sameName, nameBefore}
 use Rattle.definitions.specs.Map.{TypeMap, typeMapOf}
 use Rattle.definitions.specs.Inherited.{InheritedAnnotation, dedup, dedupOnto, ownAssociates, asAssociate, handedOn}
 use Rattle.definitions.specs.Synthesis.{onlyIf}

@@ -12,12 +12,12 @@ use Rattle.lists.specs.Tabulating.{length-places, getD-places}
 use Rattle.lists.specs.Appending.{map-map, each-single}
 use Rattle.lists.specs.Places.{getD-in, sorted-places}
 use Rattle.definitions.specs.Records.{Name, TypeInfo, Sheet}
-use Rattle.definitions.specs.Orders.{nameBefore}
+use Rattle.definitions.specs.Comparisons.{nameBefore}
 use Rattle.definitions.specs.Checks.{namesTwice}
 use Rattle.definitions.specs.Map.{typeMapOf}
 use Rattle.definitions.specs.Synthesis.{listedParents}
 use Rattle.definitions.specs.OrderRows.{typeNamed}
-use Rattle.laws.specs.Orders.{names-once, types-perm, types-is, types-apart, types-ascend}
+use Rattle.laws.specs.Comparisons.{names-once, types-perm, types-is, types-apart, types-ascend}
 use Rattle.types.specs.Types.{typeInfoOf, zeroType, ofTypes}
 use Rattle.types.specs.declared.Types.{Types}
 use Rattle.types.specs.declared.Extensions.{Extensions}

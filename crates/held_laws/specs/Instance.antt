@@ -10,7 +10,7 @@ use Rattle.lists.specs.Lists.{insert, sort, include, setOf}
 use Rattle.lists.specs.Tests.{cons-elim}
 use Rattle.lists.specs.Tabulating.{tabulate, places}
 use Rattle.definitions.specs.Records as records
-use Rattle.definitions.specs.Orders.{nameBefore, bytesBefore}
+use Rattle.definitions.specs.Comparisons.{nameBefore, bytesBefore}
 use Rattle.definitions.specs.Checks.{resourceBytes, selfBytes, badWords, namesTwice, keysTwice, wordsTwice, annotationsTwice, sameAnnotation, somethingTwice}
 use Rattle.definitions.specs.Map.{typeMapOf, numberOf}
 use Rattle.definitions.specs.Order.{isSelf, ready, pass, passes, lastPass, inheritsSelf, hasOrder}

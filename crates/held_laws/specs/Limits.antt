@@ -13,7 +13,7 @@ use Rattle.lists.specs.Tests.{by, or-false-left, or-false-right, any-not}
 use Rattle.lists.specs.Tabulating.{length-tabulate, length-places, places-in, tabulate-in}
 use Rattle.definitions.specs.Records.{Name, Resource, Sheet}
 use Rattle.definitions.specs.Records as records
-use Rattle.definitions.specs.Orders.{sameName}
+use Rattle.definitions.specs.Comparisons.{sameName}
 use Rattle.definitions.specs.Checks.{resourcesOf, namesTwice, keysTwice, wordsTwice, annotationsTwice, somethingTwice}
 use Rattle.definitions.specs.Map.{typeMapOf}
 use Rattle.line_laws.specs.Within.{WordsWithin, NameWithin, ResourceWithin, AnnotationWithin, TypeWithin, ExtensionWithin}

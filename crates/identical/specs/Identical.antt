@@ -10,7 +10,7 @@ use lib.ListN.{length}
 use Rattle.lists.specs.Lists.{sameList}
 use Rattle.lists.specs.Tests.{by, never, not-so, and-right}
 use Rattle.lists.specs.Tabulating.{tabulate, tabulate-more, length-tabulate}
-use Rattle.definitions.specs.Orders.{sameName}
+use Rattle.definitions.specs.Comparisons.{sameName}
 use Rattle.fields.specs.Fields.{optional}
 use Rattle.definitions.specs.Records.{makelistMark}
 use Rattle.definitions.specs.Making.{sameMark, sameItem}

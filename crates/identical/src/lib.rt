@@ -9,7 +9,7 @@ ghost use Prim.Native.Nat.{_<_, _≤_};
 ghost use lib.Dec.{eqb};
 ghost use Rattle.lists.specs.Lists.{sameList};
 ghost use Rattle.definitions.specs.Making.{sameItem, sameMark};
-ghost use Rattle.definitions.specs.Orders.{sameName};
+ghost use Rattle.definitions.specs.Comparisons.{sameName};
 ghost use Rattle.making.specs.Making.{parentOf, parentAt, parentsOf, markAs, marksOf, itemOf};
 
 // The second word of a parent. A parent of two words is held as `a.b`, or as the resource b of a one-word a: its words are the same.

@@ -13,7 +13,7 @@ use Rattle.rows.specs.Rows.{has, empty}
 use Rattle.rows.specs.RowLaws.{Small}
 use Rattle.rows.specs.Lists.{elem}
 use Rattle.definitions.specs.Records.{Name}
-use Rattle.definitions.specs.Orders.{nameBefore}
+use Rattle.definitions.specs.Comparisons.{nameBefore}
 use Rattle.definitions.specs.Inherited.{InheritedAnnotation, dedupOne, dedupOnto, asAssociate}
 use Rattle.annotations.specs.declared.AnnotationInfo.{AnnotationInfo}
 use Rattle.annotations.specs.Reading.{infoOf}

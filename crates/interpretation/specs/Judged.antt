@@ -9,7 +9,7 @@ use Rattle.rows.specs.Rows.{has}
 use Rattle.rows.specs.Lists.{between}
 use Rattle.annotations.specs.Reading.{domAt}
 use Rattle.definitions.specs.Records.{Name}
-use Rattle.definitions.specs.Orders.{dotted}
+use Rattle.definitions.specs.Comparisons.{dotted}
 use Rattle.definitions.specs.Making.{declared, isResource}
 use Rattle.table.specs.declared.Table.{Table}
 use Rattle.table.specs.Table.{tableMap}

@@ -14,7 +14,7 @@ use Rattle.rows.specs.declared.Row.{Row}
 use Rattle.rows.specs.Rows.{has}
 use Rattle.definitions.specs.Records.{Name}
 use Rattle.definitions.specs.Making.{declared, isResourceVariant}
-use Rattle.definitions.specs.Map.{Declaration}
+use Rattle.definitions.specs.Map.{LineType}
 use Rattle.definitions.specs.Packing.{rowBytes}
 use Rattle.definitions.specs.Synthesis.{classRow}
 use Rattle.fields.specs.Fields.{twoWords}
@@ -120,13 +120,13 @@ not-less a b = by (ltb a b) (λ e. rw (e, lt-leb b a (ltb-true a b e))) (λ e. r
 
 -- ---- rows
 
-pub row-bytes : (kind : ℕ) (D : Declaration) (w f s a b : ℕ) (c : Name) → D .name ≡ twoWords f s → c ≡ twoWords a b →
+pub row-bytes : (kind : ℕ) (D : LineType) (w f s a b : ℕ) (c : Name) → D .name ≡ twoWords f s → c ≡ twoWords a b →
     rowBytes (classRow kind D w c) ≡ kind ∷ f ∷ s ∷ a ∷ b ∷ w ∷ []
 unfolding rowBytes
 row-bytes kind D w f s a b c p q = rw (p, q, name-bytes f s, name-bytes a b)
 
 -- one row more
-pub row-step : (limit kind : ℕ) (D : Declaration) (w f s a b : ℕ) (c : Name) (rest : List Name) (buf buf′ : List ℕ) (n n′ : ℕ) → D .name ≡ twoWords f s → c ≡ twoWords a b →
+pub row-step : (limit kind : ℕ) (D : LineType) (w f s a b : ℕ) (c : Name) (rest : List Name) (buf buf′ : List ℕ) (n n′ : ℕ) → D .name ≡ twoWords f s → c ≡ twoWords a b →
     (buf′, n′) ≡ emitBytes limit (buf, n) (kind ∷ f ∷ s ∷ a ∷ b ∷ w ∷ []) →
     emit limit (buf, n) (map (classRow kind D w) (c ∷ rest)) ≡ emit limit (buf′, n′) (map (classRow kind D w) rest)
 unfolding emitting.emit

@@ -8,7 +8,7 @@ use Rattle.lists.specs.Lists.{null}
 use Rattle.rows.specs.declared.Row.{Row}
 use Rattle.definitions.specs.Records.{Item}
 use Rattle.definitions.specs.Checks.{resourcesOf}
-use Rattle.definitions.specs.Map.{Map, Declaration}
+use Rattle.definitions.specs.Map.{LineMap, LineType}
 use Rattle.definitions.specs.Inherited.{InheritedAnnotation}
 use Rattle.definitions.specs.Synthesis.{Interpreted, interpreted, behindRows, interpretWords, interpretAll}
 use Rattle.definitions.specs.Packing.{rowBytes}
@@ -30,7 +30,7 @@ use Rattle.interpreting.specs.Annotations.{TypeReached, typeNames, ownEn
 
 -- ---- some annotations, and then others
 
-all-append : (m : Map) (D : Declaration) (a b : List InheritedAnnotation) (is : List Item) →
+all-append : (m : LineMap) (D : LineType) (a b : List InheritedAnnotation) (is : List Item) →
     interpretAll m D (a ++ b) is ≡ behindRows (interpretAll m D a is .rows) (interpretAll m D b (interpretAll m D a is .items))
 unfolding interpretAll
 all-append m D [] b is = refl

@@ -18,7 +18,7 @@ use Rattle.rows.specs.Lists.{between}
 use Rattle.annotations.specs.declared.AnnotationInfo.{AnnotationInfo}
 use Rattle.annotations.specs.Reading.{domsOf, resourcesIn, infoOf}
 use Rattle.definitions.specs.Records.{synthesized, extension, makelistMark}
-use Rattle.definitions.specs.Orders.{lookUp}
+use Rattle.definitions.specs.Comparisons.{lookUp}
 use Rattle.definitions.specs.Making.{extensionParents, marksOf, allVirtual, createSyntheticResource, extensionLine, sameItem}
 use Rattle.definitions.specs.Synthesis.{classRow, isDuplicate, withMaking, interpretWords, interpretAll}
 use Rattle.records.specs.Marks.{ofMarks}

@@ -14,7 +14,7 @@ use Rattle.rows.specs.declared.Row.{Row}
 use Rattle.rows.specs.Rows.{has}
 use Rattle.rows.specs.Lists.{between}
 use Rattle.definitions.specs.Records.{Name, AssociatedResource, Item}
-use Rattle.definitions.specs.Map.{Declaration}
+use Rattle.definitions.specs.Map.{LineType}
 use Rattle.definitions.specs.Synthesis.{judge, isDuplicate, Interpreted, interpreted, behindRows, interpretWords}
 use Rattle.definitions.specs.Packing.{rowBytes}
 use Rattle.dedup.specs.declared.Entry.{Entry}
@@ -71,7 +71,7 @@ from-end D r w h = rw (between-end (has r) w 200 h)
 
 -- ---- a verdict fails where it adds a row, or where the annotation had failed
 
-judge-rows : (D : Declaration) (r : ℕ) (L : List Rattle.definitions.specs.Records.Row) (f : Bool) (xs ns : List Name) (twice : Bool) →
+judge-rows : (D : LineType) (r : ℕ) (L : List Rattle.definitions.specs.Records.Row) (f : Bool) (xs ns : List Name) (twice : Bool) →
     (failsIn (judge f xs ns twice) || not (null L)) ≡ (f || not (null (rowsIn D r (judge f xs ns twice) ++ L)))
 judge-rows D r L true (x ∷ xs) ns twice = refl
 judge-rows D r L false (x ∷ xs) ns twice = refl

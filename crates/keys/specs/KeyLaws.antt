@@ -10,7 +10,7 @@ use lib.Seq
 use Rattle.lists.specs.Lists.{repeats}
 use Rattle.lists.specs.Tabulating.{map-tabulate, tabulate, places, tabulate-set, length-tabulate, getD-tabulate}
 use Rattle.lists.specs.Appending.{repeats-map, repeats-alike}
-use Rattle.definitions.specs.Orders.{sameName}
+use Rattle.definitions.specs.Comparisons.{sameName}
 use Rattle.definitions.specs.Records as records
 use Rattle.fields.specs.Fields.{twoWords, nameOf}
 use Rattle.fields.specs.declared.Name.{Name}

@@ -6,7 +6,7 @@ use lib.Dec.{eqb}
 use lib.ListN.{getD, drop}
 use Rattle.lists.specs.Lists.{any}
 use Rattle.lists.specs.Tabulating.{tabulate, places}
-use Rattle.definitions.specs.Orders.{sameName}
+use Rattle.definitions.specs.Comparisons.{sameName}
 use Rattle.definitions.specs.Records as records
 use Rattle.fields.specs.Fields.{twoWords, nameOf}
 use Rattle.types.specs.Types.{zeroType}

@@ -13,12 +13,12 @@ use Rattle.definitions.specs.Bits.{bitsOf, size, pack}
 use Rattle.definitions.specs.Parse.{Parsed}
 use Rattle.definitions.specs.Reading.{sheet}
 use Rattle.definitions.specs.Checks.{badFill, badWords, somethingTwice}
-use Rattle.definitions.specs.Map.{TypeMap, typeMapOf, mapOf}
+use Rattle.definitions.specs.Map.{TypeMap, typeMapOf, lineMapOf}
 use Rattle.definitions.specs.Order.{hasOrder, organizeTypeMap}
 use Rattle.definitions.specs.Items.{itemsOf}
-use Rattle.definitions.specs.Answer.{Settings, Call, schedule, order, Input, Outcome, overwrite, refusedBy, restOf, sheetOf, itemsFor, scheduleOf, bitsWritten, Refusal, synthesisRows, refusals, refuse, mapIn, accept, firstRefusal, outcome}
+use Rattle.definitions.specs.Answer.{Settings, Call, schedule, order, Input, Outcome, overwrite, refusedBy, restOf, sheetOf, itemsWritten, scheduleOf, bitsWritten, Refusal, synthesisRows, refusals, reject, typeMapIn, accept, firstRefusal, outcome}
 use Rattle.definitions.specs.Relisted.{Holds, RelistedInputs, Alike}
-use Rattle.laws.specs.Orders.{names-once}
+use Rattle.laws.specs.Comparisons.{names-once}
 use Rattle.laws.specs.Relisting.{relisted-map, relisted-order}
 
 -- ---- lists of refusals
@@ -29,7 +29,7 @@ data Match : List Refusal → List Refusal → Type 0 where
   next : {r q : Refusal} {l k : List Refusal} → r .number ≡ q .number → r .holds tt ≡ q .holds tt → r .size tt ≡ q .size tt
       → (r .holds tt ≡ false → Match l k) → Match (r ∷ l) (q ∷ k)
 
-pub first-holds : (i : Input) (r : Refusal) (l : List Refusal) → r .holds tt ≡ true → firstRefusal i (r ∷ l) ≡ refuse i r
+pub first-holds : (i : Input) (r : Refusal) (l : List Refusal) → r .holds tt ≡ true → firstRefusal i (r ∷ l) ≡ reject i r
 unfolding firstRefusal
 first-holds i r l e = rw (e, firstRefusal)
 
@@ -43,8 +43,8 @@ record Same (i j : Input) (x y : Outcome) : Type 0 where
   size : x .answer .size ≡ y .answer .size
   listing : i .listing ≡ j .listing → x .listing ≡ y .listing
 
-refuse-same : (i j : Input) (r q : Refusal) → r .number ≡ q .number → r .size tt ≡ q .size tt → Same i j (refuse i r) (refuse j q)
-unfolding refuse
+refuse-same : (i j : Input) (r q : Refusal) → r .number ≡ q .number → r .size tt ≡ q .size tt → Same i j (reject i r) (reject j q)
+unfolding reject
 refuse-same i j r q n z = record { number = n; size = z; listing = λ e. e }
 
 match-same : (i j : Input) → Same i j (accept i) (accept j) → {l k : List Refusal} → Match l k → Same i j (firstRefusal i l) (firstRefusal j k)
@@ -83,11 +83,11 @@ module _ {bytes : List ℕ} {s : Sheet} (h : Holds bytes s) where
 -- ---- two inputs
 
 -- maps with one order, and one map as the lines see it, have one schedule
-items-same : (c : Call) (m n : TypeMap) → mapOf m ≡ mapOf n → itemsFor c m ≡ itemsFor c n
+items-same : (c : Call) (m n : TypeMap) → lineMapOf m ≡ lineMapOf n → itemsWritten c m ≡ itemsWritten c n
 items-same schedule m n e = ap itemsOf e
 items-same order m n e = refl
 
-schedule-same : (c : Call) (m n : TypeMap) → organizeTypeMap m ≡ organizeTypeMap n → mapOf m ≡ mapOf n → scheduleOf c m ≡ scheduleOf c n
+schedule-same : (c : Call) (m n : TypeMap) → organizeTypeMap m ≡ organizeTypeMap n → lineMapOf m ≡ lineMapOf n → scheduleOf c m ≡ scheduleOf c n
 unfolding scheduleOf
 schedule-same c m n o e = λ i. record { order = o i; items = items-same c m n e i }
 
@@ -95,21 +95,21 @@ module _ (i j : Input) (h : RelistedInputs i j) where
   orders : (hasOrder (typeMapOf (h .s)) ≡ hasOrder (typeMapOf (h .t))) × (organizeTypeMap (typeMapOf (h .s)) ≡ organizeTypeMap (typeMapOf (h .t)))
   orders = relisted-order (h .s) (h .t) (names-once (h .s) (h .left .once)) (h .relisted)
 
-  maps : mapOf (typeMapOf (h .s)) ≡ mapOf (typeMapOf (h .t))
+  maps : lineMapOf (typeMapOf (h .s)) ≡ lineMapOf (typeMapOf (h .t))
   maps = relisted-map (h .s) (h .t) (names-once (h .s) (h .left .once)) (h .relisted)
 
-  has-order : hasOrder (mapIn i) ≡ hasOrder (mapIn j)
-  unfolding mapIn
+  has-order : hasOrder (typeMapIn i) ≡ hasOrder (typeMapIn j)
+  unfolding typeMapIn
   has-order = ap hasOrder (map-read (h .left)) ∙ orders .0 ∙ sym (ap hasOrder (map-read (h .right)))
 
-  schedules : scheduleOf (i .call) (mapIn i) ≡ scheduleOf (j .call) (mapIn j)
-  unfolding mapIn
+  schedules : scheduleOf (i .call) (typeMapIn i) ≡ scheduleOf (j .call) (typeMapIn j)
+  unfolding typeMapIn
   schedules =
       ap (scheduleOf (i .call)) (map-read (h .left))
       ∙ schedule-same (i .call) (typeMapOf (h .s)) (typeMapOf (h .t)) (orders .1) maps
       ∙ ap₂ scheduleOf (h .call) (sym (map-read (h .right)))
 
-  bits : bitsWritten (i .call) (scheduleOf (i .call) (mapIn i)) ≡ bitsWritten (j .call) (scheduleOf (j .call) (mapIn j))
+  bits : bitsWritten (i .call) (scheduleOf (i .call) (typeMapIn i)) ≡ bitsWritten (j .call) (scheduleOf (j .call) (typeMapIn j))
   bits = ap₂ bitsWritten (h .call) schedules
 
   accept-same : Same i j (accept i) (accept j)
@@ -117,9 +117,9 @@ module _ (i j : Input) (h : RelistedInputs i j) where
   accept-same = record { number = refl; size = ap (λ b. length (pack b)) bits; listing = λ e. ap₂ (λ b l. overwrite (pack b) l) bits e }
 
   -- where there is an order, and the synthesis leaves no row of the one exactly if it leaves none of the other
-  module _ (rows : hasOrder (mapIn i) ≡ true → null (synthesisRows (i .call) (mapIn i)) ≡ null (synthesisRows (j .call) (mapIn j))) where
+  module _ (rows : hasOrder (typeMapIn i) ≡ true → null (synthesisRows (i .call) (typeMapIn i)) ≡ null (synthesisRows (j .call) (typeMapIn j))) where
     matches : Match (refusals i) (refusals j)
-    unfolding refusals mapIn
+    unfolding refusals typeMapIn
     matches =
         next refl (not-long (h .left) ∙ sym (not-long (h .right))) refl
         (λ e. next refl (ap₂ (λ n (c : Settings). ltb n (6 * c .rows)) (h .diagnosis) (h .settings)) refl
@@ -129,7 +129,7 @@ module _ (i j : Input) (h : RelistedInputs i j) where
         (λ e. next refl (good-words (h .left) ∙ sym (good-words (h .right))) refl
         (λ e. next refl (nothing-twice (h .left) ∙ sym (nothing-twice (h .right))) refl
         (λ e. next refl (ap not has-order) refl
-        (λ o. next refl (ap not (rows (not-false (hasOrder (mapIn i)) o))) refl
+        (λ o. next refl (ap not (rows (not-false (hasOrder (typeMapIn i)) o))) refl
         (λ e. next refl (ap₂ (λ n b. ltb n (size (length b))) (h .listing) bits) (ap (λ b. size (length b)) bits)
         (λ e. none))))))))))
 

@@ -12,12 +12,12 @@ use Rattle.lists.specs.Tests.{by, never, not-so, and-left, or-cases, or-false-l
 use Rattle.lists.specs.Sorting.{Distinct}
 use Rattle.lists.specs.Counting.{pigeonhole}
 use Rattle.definitions.specs.Records.{Name, TypeInfo}
-use Rattle.definitions.specs.Orders.{elemName}
+use Rattle.definitions.specs.Comparisons.{elemName}
 use Rattle.definitions.specs.Map.{TypeMap, typeMapOf}
 use Rattle.definitions.specs.Order.{isSelf, passes, lastPass, inheritsSelf, hasOrder}
 use Rattle.definitions.specs.OrderRows.{parentRow, selfRows, typeNamed, isBad, badRow, findCyclesOrBadTypes, noParentRows, orderRows}
 use Rattle.laws.specs.Statements.{Reaches, start, onward, CycleDiagnosis, WaitingHasRow, PlacedHasNoRow, RefusalHasRow}
-use Rattle.laws.specs.Orders.{namesOf, elem-in, elem-of, look-up-is, types-apart, NamesApart}
+use Rattle.laws.specs.Comparisons.{namesOf, elem-in, elem-of, look-up-is, types-apart, NamesApart}
 use Rattle.laws.specs.Passes.{Placed, Waits, ready-not, placed-type, waits-type, placed-or-waits, stays, listed-placed, last-waits, none-first, waits-not}
 
 -- ---- one call of the walk

@@ -1,4 +1,4 @@
-pub mod Orders
+pub mod Comparisons
 pub mod Passes
 pub mod Statements
 pub mod Self

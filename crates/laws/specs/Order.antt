@@ -12,7 +12,7 @@ use Rattle.definitions.specs.Map.{TypeMap, typeMapOf}
 use Rattle.definitions.specs.Order.{isSelf, lastPass, inheritsSelf, hasOrder, organizeTypeMap}
 use Rattle.definitions.specs.Ancestry.{Before, HasOrder}
 use Rattle.laws.specs.Statements.{WellNamed, OrderExists, OrderIsByRound, OrderIsOne, OrderIsNames}
-use Rattle.laws.specs.Orders.{namesOf, types-is}
+use Rattle.laws.specs.Comparisons.{namesOf, types-is}
 use Rattle.laws.specs.Passes.{Placed, placed-type, placed-or-waits, stays, not-self, listed-placed}
 use Rattle.laws.specs.Self.{self-is}
 use Rattle.laws.specs.Rounds.{before-asymmetric, none-waits, no-cycle, placed-sorted}

@@ -10,10 +10,10 @@ use Rattle.lists.specs.Lists.{In, any, null, filter}
 use Rattle.lists.specs.Tests.{never, not-so, or-cases, or-left, or-right, any-not, all-in, all-of, all-not, filter-in, filter-of, filter-all, null-in}
 use Rattle.lists.specs.Sorting.{sorted-across, sorted-filter, perm-in, perm-length, perm-sorted, filter-perm}
 use Rattle.definitions.specs.Records.{Name, TypeInfo}
-use Rattle.definitions.specs.Orders.{elemName, nameBefore}
+use Rattle.definitions.specs.Comparisons.{elemName, nameBefore}
 use Rattle.definitions.specs.Map.{TypeMap}
 use Rattle.definitions.specs.Order.{isSelf, Pass, ready, pass, passes, lastPass, inheritsSelf}
-use Rattle.laws.specs.Orders.{namesOf, named-in, named-of, NamesApart, NamesAscend}
+use Rattle.laws.specs.Comparisons.{namesOf, named-in, named-of, NamesApart, NamesAscend}
 
 -- a parent that holds no type back
 abbrev lets : TypeMap → List TypeInfo → Name → Bool

@@ -8,13 +8,13 @@ use Rattle.lists.specs.Lists.{any, all, null, keep, filter, insert, sort}
 use Rattle.lists.specs.Tests.{never, any-same, all-same}
 use Rattle.lists.specs.Sorting.{sort-shuffled}
 use Rattle.definitions.specs.Records.{Name, TypeInfo, Sheet}
-use Rattle.definitions.specs.Orders.{sameName, elemName, nameBefore}
+use Rattle.definitions.specs.Comparisons.{sameName, elemName, nameBefore}
 use Rattle.definitions.specs.Checks.{resourceBytes, selfBytes, namesTwice}
-use Rattle.definitions.specs.Map.{TypeMap, numberOf, typeMapOf, declarationOf, mapOf}
+use Rattle.definitions.specs.Map.{TypeMap, numberOf, typeMapOf, lineTypeOf, lineMapOf}
 use Rattle.definitions.specs.Order.{isSelf, ready, pass, passes, lastPass, inheritsSelf, hasOrder, organizeTypeMap}
 use Rattle.definitions.specs.Relisted.{SameButParents, Reparented, end, and, Relisted}
 use Rattle.laws.specs.Statements.{RelistedMap, RelistedOrder}
-use Rattle.laws.specs.Orders.{name-strict, namesOf, names-apart}
+use Rattle.laws.specs.Comparisons.{name-strict, namesOf, names-apart}
 
 -- ---- lists of types that differ in their parents' order and repeats
 
@@ -97,8 +97,8 @@ module _ (s t : Sheet) (once : namesTwice s ≡ false) (r : Relisted s t) where
   extensions-same = r .extensions
 
 -- of its parents a declaration has a test
-declaration-same : {T U : TypeInfo} → SameButParents T U → declarationOf T ≡ declarationOf U
-unfolding declarationOf
+declaration-same : {T U : TypeInfo} → SameButParents T U → lineTypeOf T ≡ lineTypeOf U
+unfolding lineTypeOf
 declaration-same {T} {U} h = λ i. record {
   name = h .name i;
   variant = h .variant i;
@@ -109,12 +109,12 @@ declaration-same {T} {U} h = λ i. record {
   marks = h .marks i;
 }
 
-declarations-same : {l k : List TypeInfo} → Reparented l k → map declarationOf l ≡ map declarationOf k
+declarations-same : {l k : List TypeInfo} → Reparented l k → map lineTypeOf l ≡ map lineTypeOf k
 declarations-same end = refl
 declarations-same (and h r) = ap₂ (λ x y. x ∷ y) (declaration-same h) (declarations-same r)
 
 pub relisted-map : RelistedMap
-unfolding mapOf
+unfolding lineMapOf
 relisted-map s t once r = λ i. record {
   resource = resource-same s t once r i;
   types = declarations-same (types-same s t once r) i;

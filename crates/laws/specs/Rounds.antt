@@ -14,12 +14,12 @@ use Rattle.lists.specs.Strict.{asymmetric}
 use Rattle.lists.specs.Sorting.{sorted-append, sorted-filter, sorted-imp, one-key}
 use Rattle.lists.specs.Counting.{no-climb}
 use Rattle.definitions.specs.Records.{Name, TypeInfo, Sheet}
-use Rattle.definitions.specs.Orders.{nameBefore}
+use Rattle.definitions.specs.Comparisons.{nameBefore}
 use Rattle.definitions.specs.Checks.{namesTwice}
 use Rattle.definitions.specs.Map.{TypeMap, typeMapOf}
 use Rattle.definitions.specs.Order.{ready, pass, passes, lastPass, inheritsSelf}
 use Rattle.definitions.specs.Ancestry.{Parent, Ancestor, direct, further, Chain, top, link, Round, Before}
-use Rattle.laws.specs.Orders.{name-strict, types-is, types-apart, types-ascend}
+use Rattle.laws.specs.Comparisons.{name-strict, types-is, types-apart, types-ascend}
 use Rattle.laws.specs.Passes.{Placed, Waits, ready-not, placed-type, waits-type, placed-or-waits, stays, listed-placed, last-waits, waiting-ascends}
 
 -- ---- ancestors

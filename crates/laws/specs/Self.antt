@@ -11,12 +11,12 @@ use Rattle.lists.specs.Tests.{never, or-false-left, or-false-right, place-at}
 use Rattle.lists.specs.Sorting.{Distinct, sorted-imp, ascends-sorted, one-place}
 use Rattle.lists.specs.Lexicographic.{same-numbers}
 use Rattle.definitions.specs.Records.{Name, Sheet}
-use Rattle.definitions.specs.Orders.{bytesBefore}
+use Rattle.definitions.specs.Comparisons.{bytesBefore}
 use Rattle.definitions.specs.Checks.{resourceBytes, selfBytes, badWords}
 use Rattle.definitions.specs.Map.{numberOf, typeMapOf}
 use Rattle.definitions.specs.Order.{isSelf}
 use Rattle.definitions.specs.Ancestry.{IsSelf}
-use Rattle.laws.specs.Orders.{same-name, name-same, bytes-strict}
+use Rattle.laws.specs.Comparisons.{same-name, name-same, bytes-strict}
 
 -- refusal 5 leaves words that are distinct, `self` among them
 words-ascend : (ws : List (List ℕ)) → badWords ws ≡ false → ascends bytesBefore ws ≡ true

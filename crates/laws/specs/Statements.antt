@@ -8,7 +8,7 @@ use lib.ListN.{length}
 use Rattle.lists.specs.Lists.{In, null}
 use Rattle.definitions.specs.Records.{Name, TypeInfo, Sheet}
 use Rattle.definitions.specs.Checks.{badWords, namesTwice}
-use Rattle.definitions.specs.Map.{TypeMap, typeMapOf, mapOf}
+use Rattle.definitions.specs.Map.{TypeMap, typeMapOf, lineMapOf}
 use Rattle.definitions.specs.Order.{passes, lastPass, inheritsSelf, hasOrder, organizeTypeMap}
 use Rattle.definitions.specs.OrderRows.{typeNamed, isBad, findCyclesOrBadTypes, orderRows}
 use Rattle.definitions.specs.Ancestry.{HasOrder, IsOrder}
@@ -68,7 +68,7 @@ RefusalHasRow = (m : TypeMap) → hasOrder m ≡ false → null (orderRows m) �
 
 -- relisted sheets have one map, as the lines see it
 abbrev pub RelistedMap : Type 0
-RelistedMap = (s t : Sheet) → namesTwice s ≡ false → Relisted s t → mapOf (typeMapOf s) ≡ mapOf (typeMapOf t)
+RelistedMap = (s t : Sheet) → namesTwice s ≡ false → Relisted s t → lineMapOf (typeMapOf s) ≡ lineMapOf (typeMapOf t)
 
 -- and one order, or none
 abbrev pub RelistedOrder : Type 0

@@ -4,7 +4,7 @@ use mathlib.Core.List.{[]}
 use mathlib.Core.Path.{_≡_, refl, _∙_}
 use Prim.Native.Nat.{ℕ, suc}
 use Rattle.definitions.specs.Records.{TypeInfo}
-use Rattle.definitions.specs.Orders.{elemName}
+use Rattle.definitions.specs.Comparisons.{elemName}
 use Rattle.definitions.specs.Map.{TypeMap}
 use Rattle.definitions.specs.Synthesis.{interpretType, Visited, Heard, hearAll, listedParents, finish, visit}
 

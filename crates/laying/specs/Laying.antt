@@ -3,7 +3,7 @@ use mathlib.Core.List.{List}
 use mathlib.Core.Path.{_≡_}
 use Prim.Native.Nat.{ℕ, _*_, _≤_, _<_}
 use lib.ListN.{length, getD}
-use Rattle.definitions.specs.Map.{declarationOf}
+use Rattle.definitions.specs.Map.{lineTypeOf}
 use Rattle.types.specs.Types.{ofTypes, typeInfoOf, itemAt}
 use Rattle.types.specs.declared.Types.{Types}
 use Rattle.associations.specs.Associations.{FillsTable}
@@ -26,7 +26,7 @@ pub record OwnRoom (ts : Types) (own : List ℕ) : Type 0 where
 -- the own resources of the first n types stand in their places
 pub record OwnTo (ts : Types) (n : ℕ) (own own′ : List ℕ) : Type 0 where
   pub long : length own′ ≡ length own
-  pub owns : (a : ℕ) → a < n → OwnIn own′ a (declarationOf (typeInfoOf (itemAt ts a)))
+  pub owns : (a : ℕ) → a < n → OwnIn own′ a (lineTypeOf (typeInfoOf (itemAt ts a)))
 
 pub record Lays (ts : Types) (table table′ facts facts′ classes′ own own′ : List ℕ) : Type 0 where
   pub gives : FillsTable ts table table′

@@ -6,7 +6,7 @@ use native.Mathlib.Omega.{arith}
 use borrow.Author.Tests.{ltb-true, ltb-false}
 use lib.Dec.{ltb}
 use Rattle.lists.specs.Tests.{by}
-use Rattle.definitions.specs.Map.{declarationOf}
+use Rattle.definitions.specs.Map.{lineTypeOf}
 use Rattle.types.specs.Types.{typeInfoOf, itemAt}
 use Rattle.types.specs.declared.Types.{Types}
 use Rattle.associations.specs.Associations.{Blanks}
@@ -25,14 +25,14 @@ use Rattle.laying.specs.Laying.{Unmarked, OwnTo, Lays}
 own-none : (ts : Types) (own : List ℕ) → OwnTo ts 0 own own
 own-none ts own = record { long = refl; owns = λ a h. absurd (omega arith) }
 
-own-more : (ts : Types) (n : ℕ) (o0 o1 o2 : List ℕ) → OwnTo ts n o0 o1 → PutsOwn o1 n (declarationOf (typeInfoOf (itemAt ts n))) o2 → OwnTo ts (n + 1) o0 o2
+own-more : (ts : Types) (n : ℕ) (o0 o1 o2 : List ℕ) → OwnTo ts n o0 o1 → PutsOwn o1 n (lineTypeOf (typeInfoOf (itemAt ts n))) o2 → OwnTo ts (n + 1) o0 o2
 own-more ts n o0 o1 o2 d p =
     record {
       long = p .long ∙ d .long;
       owns = λ a h.
           by (ltb a n)
           (λ e. own-stays o1 o2 n a _ (ltb-true a n e) (p .before) (d .owns a (ltb-true a n e)))
-          (λ e. let q : a ≡ n = omega (arith, ltb-false a n e) in subst (λ (k : ℕ). OwnIn o2 k (declarationOf (typeInfoOf (itemAt ts k)))) (sym q) (p .here));
+          (λ e. let q : a ≡ n = omega (arith, ltb-false a n e) in subst (λ (k : ℕ). OwnIn o2 k (lineTypeOf (typeInfoOf (itemAt ts k)))) (sym q) (p .here));
     }
 
 -- ---- all tables
@@ -50,7 +50,7 @@ laid-start ts table facts classes own b u =
 
 pub laid-step : (ts : Types) (n : ℕ) (t0 t1 t2 f0 f1 f2 c1 c2 o0 o1 o2 : List ℕ) → n < ts .count → n < 65 → LaidTo ts n t0 t1 f0 f1 c1 o0 o1 → Fills t1 n (itemAt ts n) t2
     → TypeLaid f1 n (typeInfoOf (itemAt ts n)) f2 → Notes c1 (itemAt ts n .name .first) (itemAt ts n .name .second) (itemAt ts n .variant) c2
-    → PutsOwn o1 n (declarationOf (typeInfoOf (itemAt ts n))) o2 → LaidTo ts (n + 1) t0 t2 f0 f2 c2 o0 o2
+    → PutsOwn o1 n (lineTypeOf (typeInfoOf (itemAt ts n))) o2 → LaidTo ts (n + 1) t0 t2 f0 f2 c2 o0 o2
 laid-step ts n t0 t1 t2 f0 f1 f2 c1 c2 o0 o1 o2 h l d p q r w =
     record {
       gives = filled-step ts n t0 t1 t2 h (d .gives) p;

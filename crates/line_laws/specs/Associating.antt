@@ -11,14 +11,14 @@ use Rattle.lists.specs.Tests.{or-cases, or-left, or-right, any-in, any-of, filt
 use Rattle.lists.specs.Strict.{number-strict}
 use Rattle.lists.specs.Sorting.{sorted-filter, set-is, set-sorted}
 use Rattle.definitions.specs.Records.{Name, Dom, Resource, makeList, associate, nestAssociate, alias, inherit, derive, noDerive, Annotation, TypeInfo, Sheet}
-use Rattle.definitions.specs.Orders.{nameBefore, dotted}
+use Rattle.definitions.specs.Comparisons.{nameBefore, dotted}
 use Rattle.definitions.specs.Checks.{resourcesOf}
-use Rattle.definitions.specs.Map.{Declaration, Map, declarationOf}
+use Rattle.definitions.specs.Map.{LineType, LineMap, lineTypeOf}
 use Rattle.definitions.specs.Making.{classNames}
 use Rattle.definitions.specs.Items.{associateOf, owned, given, ofWord, hasWord, associateWord, parentsOf, ancestors, domsAbove, parentsAbove, wordsMade}
 use Rattle.definitions.specs.Ancestry.{Ancestor}
 use Rattle.definitions.specs.Lines.{Gives, plainly, nested, Associates, GivenAbove, AssociatedAbove, OwnResource, HasMaking, DomsAbove, Passes, ParentsAbove, ClassOf}
-use Rattle.laws.specs.Orders.{dom-strict}
+use Rattle.laws.specs.Comparisons.{dom-strict}
 use Rattle.lists.specs.Members.{in-at, sorted-map}
 use Rattle.line_laws.specs.Statements.{Readable, lineMap, classesOf}
 use Rattle.line_laws.specs.Declarations.{name-is, declarations-ascend}
@@ -54,13 +54,13 @@ gives-of (plainly rs i j) = each-in resourcesOf i j
 gives-of (nested rs i j) = each-in resourcesOf i j
 
 -- 'A type associates r when an annotation of its own does, nested or not.'
-pub given-is : (A : TypeInfo) (u : Resource) → In u (given (declarationOf A)) ↔ Gives A u
-unfolding given declarationOf
+pub given-is : (A : TypeInfo) (u : Resource) → In u (given (lineTypeOf A)) ↔ Gives A u
+unfolding given lineTypeOf
 given-is A u = (λ i. let x = each-of resourcesOf (A .annotations) i in gives-in (x .0) (x .1) (x .2), gives-of)
 
-pub associates-is : (A : TypeInfo) (r : ℕ) → (hasWord (given (declarationOf A)) r ≡ true) ↔ Associates A r
+pub associates-is : (A : TypeInfo) (r : ℕ) → (hasWord (given (lineTypeOf A)) r ≡ true) ↔ Associates A r
 associates-is A r = (
-  λ e. let x = word-of (given (declarationOf A)) r e in record { resource = x .0; gives = given-is A (x .0) .0 (x .1); word = x .2 },
+  λ e. let x = word-of (given (lineTypeOf A)) r e in record { resource = x .0; gives = given-is A (x .0) .0 (x .1); word = x .2 },
   λ h. has-word (given-is A (h .resource) .1 (h .gives)) (h .word),
 )
 
@@ -74,23 +74,23 @@ own-at (derive t) p k = absurd (List·Memᴰ·not-nil k)
 own-at noDerive p k = absurd (List·Memᴰ·not-nil k)
 
 -- 'each resource of each own Associate'
-pub owned-of : (T : TypeInfo) {u : Resource} → In u (owned (declarationOf T)) → (i j : ℕ) × OwnResource T i j u
-unfolding owned declarationOf
+pub owned-of : (T : TypeInfo) {u : Resource} → In u (owned (lineTypeOf T)) → (i j : ℕ) × OwnResource T i j u
+unfolding owned lineTypeOf
 owned-of T k =
     let x = each-of associateOf (T .annotations) k in
     let p = in-at (x .1) in
     let q = own-at (x .0) (p .1) (x .2) in
     (p .0, q .0, q .1)
 
-pub owned-in : {T : TypeInfo} {i j : ℕ} {u : Resource} → OwnResource T i j u → In u (owned (declarationOf T))
-unfolding owned declarationOf
+pub owned-in : {T : TypeInfo} {i j : ℕ} {u : Resource} → OwnResource T i j u → In u (owned (lineTypeOf T))
+unfolding owned lineTypeOf
 owned-in h = each-in associateOf (at-in (h .annotation)) (at-in (h .resource))
 
 -- ---- through ancestors
 
 module _ (s : Sheet) (ok : Readable s) (T : TypeInfo) where
-  abbrev pub above : List Declaration
-  above = ancestors (lineMap s) (declarationOf T)
+  abbrev pub above : List LineType
+  above = ancestors (lineMap s) (lineTypeOf T)
 
   pub above-is : (u : Resource) → In u (each given above) ↔ ((A : TypeInfo) × Ancestor s A T × Gives A u)
   above-is u = (
@@ -110,10 +110,10 @@ module _ (s : Sheet) (ok : Readable s) (T : TypeInfo) where
     λ h. any-in (λ A. hasWord (given A) r) (ancestor-in s (h .above)) (associates-is (h .by) r .1 (h .associates)),
   )
 
-  pub passes-is : (r : ℕ) → (associateWord (declarationOf T ∷ above) r ≡ true) ↔ Passes s T r
+  pub passes-is : (r : ℕ) → (associateWord (lineTypeOf T ∷ above) r ≡ true) ↔ Passes s T r
   passes-is r = (
-    λ e. ⊎-elim (λ p. inl (associates-is T r .0 p)) (λ p. inr (associated-above r .0 p)) (or-cases (hasWord (given (declarationOf T)) r) (associateWord above r) e),
-    ⊎-elim (λ p. or-left (associateWord above r) (associates-is T r .1 p)) (λ p. or-right (hasWord (given (declarationOf T)) r) (associated-above r .1 p)),
+    λ e. ⊎-elim (λ p. inl (associates-is T r .0 p)) (λ p. inr (associated-above r .0 p)) (or-cases (hasWord (given (lineTypeOf T)) r) (associateWord above r) e),
+    ⊎-elim (λ p. or-left (associateWord above r) (associates-is T r .1 p)) (λ p. or-right (hasWord (given (lineTypeOf T)) r) (associated-above r .1 p)),
   )
 
   pub given-above : (r : ℕ) (d : Dom) → In d (map (λ (u : Resource). u .dom) (ofWord r (each given above))) ↔ GivenAbove s T r d
@@ -133,16 +133,16 @@ module _ (s : Sheet) (ok : Readable s) (T : TypeInfo) where
   unfolding domsAbove
   doms-are r = record {
     sorted = set-sorted dom-strict (map (λ (u : Resource). u .dom) (ofWord r (each given above)));
-    each = λ d.
+    exactly = λ d.
         let l = map (λ (u : Resource). u .dom) (ofWord r (each given above)) in
         (λ i. given-above r d .0 (set-is dom-strict l d .0 i), λ h. set-is dom-strict l d .1 (given-above r d .1 h));
   }
 
   -- the words with a making
-  pub made-is : (r : ℕ) → In r (wordsMade (declarationOf T) above) ↔ HasMaking s T r
+  pub made-is : (r : ℕ) → In r (wordsMade (lineTypeOf T) above) ↔ HasMaking s T r
   unfolding wordsMade
   made-is r =
-      let us = owned (declarationOf T) ++ each given above in
+      let us = owned (lineTypeOf T) ++ each given above in
       let l = map (λ (u : Resource). u .word) us in (
         λ i.
             let x = Memᴰ·of-map (λ (u : Resource). u .word) us (set-is number-strict l r .0 i) in
@@ -151,57 +151,57 @@ module _ (s : Sheet) (ok : Readable s) (T : TypeInfo) where
             (λ k.
             let a = above-is (x .0) .0 k in
             HasMaking.inherited (record { by = a .0; above = a .1; associates = record { resource = x .0; gives = a .2; word = x .2 } }))
-            (List·Memᴰ·append-cases (owned (declarationOf T)) (x .1)),
+            (List·Memᴰ·append-cases (owned (lineTypeOf T)) (x .1)),
         λ h. set-is number-strict l r .1 (of h),
       )
     where
-      of : HasMaking s T r → In r (map (λ (u : Resource). u .word) (owned (declarationOf T) ++ each given above))
+      of : HasMaking s T r → In r (map (λ (u : Resource). u .word) (owned (lineTypeOf T) ++ each given above))
       of (HasMaking.own i j u h e) = Memᴰ·cast (sym e) (Memᴰ·map (λ (u : Resource). u .word) (Memᴰ·append-left (each given above) (owned-in h)))
       of (HasMaking.inherited h) =
           Memᴰ·cast (sym (h .associates .word))
-          (Memᴰ·map (λ (u : Resource). u .word) (Memᴰ·append-right (owned (declarationOf T)) (above-is (h .associates .resource) .1 (h .by, h .above, h .associates .gives))))
+          (Memᴰ·map (λ (u : Resource). u .word) (Memᴰ·append-right (owned (lineTypeOf T)) (above-is (h .associates .resource) .1 (h .by, h .above, h .associates .gives))))
 
 -- the direct parents that associate r, or have an ancestor that does
-abbrev pub passing : Map → Declaration → ℕ → List Declaration
+abbrev pub passing : LineMap → LineType → ℕ → List LineType
 passing m T r = filter (λ P. associateWord (P ∷ ancestors m P) r) (parentsOf m T)
 
-abbrev pub namesPassing : Map → Declaration → ℕ → List Name
-namesPassing m T r = map (λ (P : Declaration). P .name) (passing m T r)
+abbrev pub namesPassing : LineMap → LineType → ℕ → List Name
+namesPassing m T r = map (λ (P : LineType). P .name) (passing m T r)
 
-pub parents-above-is : (m : Map) (T : Declaration) (r : ℕ) → parentsAbove m T r ≡ classNames (namesPassing m T r) r
+pub parents-above-is : (m : LineMap) (T : LineType) (r : ℕ) → parentsAbove m T r ≡ classNames (namesPassing m T r) r
 unfolding parentsAbove
-parents-above-is m T r = sym (map-map (λ (n : Name). dotted n r) (λ (P : Declaration). P .name) (passing m T r))
+parents-above-is m T r = sym (map-map (λ (n : Name). dotted n r) (λ (P : LineType). P .name) (passing m T r))
 
 -- 'P.r for each direct parent P that associates r, or has an ancestor that does, ascending by P, each once'
-pub parents-above-are : (s : Sheet) → Readable s → (T : TypeInfo) (r : ℕ) → ParentsAbove s T r (namesPassing (lineMap s) (declarationOf T) r)
+pub parents-above-are : (s : Sheet) → Readable s → (T : TypeInfo) (r : ℕ) → ParentsAbove s T r (namesPassing (lineMap s) (lineTypeOf T) r)
 unfolding parentsOf
 parents-above-are s ok T r =
     let m = lineMap s in
-    let f : Declaration → Bool = λ P. associateWord (P ∷ ancestors m P) r in
-    let g : Declaration → Bool = λ P. declarationOf T .inherits (P .name) in
+    let f : LineType → Bool = λ P. associateWord (P ∷ ancestors m P) r in
+    let g : LineType → Bool = λ P. lineTypeOf T .inherits (P .name) in
     record {
       sorted =
-          sorted-map (λ P Q. nameBefore P Q ≡ true) (λ (P : Declaration). P .name) (passing m (declarationOf T) r)
-          (sorted-filter (λ (P Q : Declaration). nameBefore (P .name) (Q .name) ≡ true) f (parentsOf m (declarationOf T))
-          (sorted-filter (λ (P Q : Declaration). nameBefore (P .name) (Q .name) ≡ true) g (m .types) (declarations-ascend s ok)));
-      each = λ p. (
+          sorted-map (λ P Q. nameBefore P Q ≡ true) (λ (P : LineType). P .name) (passing m (lineTypeOf T) r)
+          (sorted-filter (λ (P Q : LineType). nameBefore (P .name) (Q .name) ≡ true) f (parentsOf m (lineTypeOf T))
+          (sorted-filter (λ (P Q : LineType). nameBefore (P .name) (Q .name) ≡ true) g (m .types) (declarations-ascend s ok)));
+      exactly = λ p. (
         λ i.
-            let x = Memᴰ·of-map (λ (P : Declaration). P .name) (passing m (declarationOf T) r) i in
-            let y = filter-of f (parentsOf m (declarationOf T)) (x .1) in
+            let x = Memᴰ·of-map (λ (P : LineType). P .name) (passing m (lineTypeOf T) r) i in
+            let y = filter-of f (parentsOf m (lineTypeOf T)) (x .1) in
             let q = parents-are s T (x .0) .0 (y .0) in
-            let k : f (declarationOf (q .0)) ≡ true = subst (λ D. f D ≡ true) (sym (q .2)) (y .1) in
-            (q .0, q .1, passes-is s ok (q .0) r .0 k, sym (name-is (q .0)) ∙ ap (λ (D : Declaration). D .name) (q .2) ∙ x .2),
+            let k : f (lineTypeOf (q .0)) ≡ true = subst (λ D. f D ≡ true) (sym (q .2)) (y .1) in
+            (q .0, q .1, passes-is s ok (q .0) r .0 k, sym (name-is (q .0)) ∙ ap (λ (D : LineType). D .name) (q .2) ∙ x .2),
         λ h.
             Memᴰ·cast (sym (h .3) ∙ sym (name-is (h .0)))
-            (Memᴰ·map (λ (P : Declaration). P .name) (filter-in f (parents-are s T (declarationOf (h .0)) .1 (h .0, h .1, refl)) (passes-is s ok (h .0) r .1 (h .2)))),
+            (Memᴰ·map (λ (P : LineType). P .name) (filter-in f (parents-are s T (lineTypeOf (h .0)) .1 (h .0, h .1, refl)) (passes-is s ok (h .0) r .1 (h .2)))),
       );
     }
 
 -- ---- classes
 
-pub classes-are : (s : Sheet) → Readable s → (T : TypeInfo) (c : Name) → In c (classesOf (declarationOf T) (ancestors (lineMap s) (declarationOf T))) ↔ ClassOf s T c
+pub classes-are : (s : Sheet) → Readable s → (T : TypeInfo) (c : Name) → In c (classesOf (lineTypeOf T) (ancestors (lineMap s) (lineTypeOf T))) ↔ ClassOf s T c
 classes-are s ok T c =
-    let us = owned (declarationOf T) ++ each given (above s ok T) in (
+    let us = owned (lineTypeOf T) ++ each given (above s ok T) in (
       λ i.
           let x = Memᴰ·of-map (λ (u : Resource). dotted (u .dom) (u .word)) us i in
           ⊎-elim
@@ -209,12 +209,12 @@ classes-are s ok T c =
           (λ k.
           let a = above-is s ok T (x .0) .0 k in
           ClassOf.inherited (x .0 .word) (x .0 .dom) (record { by = a .0; above = a .1; resource = x .0; gives = a .2; word = refl; dom = refl }) (sym (x .2)))
-          (List·Memᴰ·append-cases (owned (declarationOf T)) (x .1)),
+          (List·Memᴰ·append-cases (owned (lineTypeOf T)) (x .1)),
       from,
     )
   where
-    from : ClassOf s T c → In c (classesOf (declarationOf T) (ancestors (lineMap s) (declarationOf T)))
+    from : ClassOf s T c → In c (classesOf (lineTypeOf T) (ancestors (lineMap s) (lineTypeOf T)))
     from (ClassOf.own i j u h e) = Memᴰ·cast e (Memᴰ·map (λ (u : Resource). dotted (u .dom) (u .word)) (Memᴰ·append-left (each given (above s ok T)) (owned-in h)))
     from (ClassOf.inherited r d h e) =
         Memᴰ·cast (e ∙ ap₂ (λ d r. dotted d r) (sym (h .dom)) (sym (h .word)))
-        (Memᴰ·map (λ (u : Resource). dotted (u .dom) (u .word)) (Memᴰ·append-right (owned (declarationOf T)) (above-is s ok T (h .resource) .1 (h .by, h .above, h .gives))))
+        (Memᴰ·map (λ (u : Resource). dotted (u .dom) (u .word)) (Memᴰ·append-right (owned (lineTypeOf T)) (above-is s ok T (h .resource) .1 (h .by, h .above, h .gives))))

@@ -10,12 +10,12 @@ use Rattle.lists.specs.Lists.{In, Sorted, filter, each, setOf}
 use Rattle.lists.specs.Tests.{at-in}
 use Rattle.lists.specs.Sorting.{Distinct, sorted-imp, sort-perm, perm-length, set-sorted}
 use Rattle.definitions.specs.Records.{Name, Resource, makeList, associate, nestAssociate, alias, inherit, derive, noDerive, Annotation, TypeInfo, Sheet, Item}
-use Rattle.definitions.specs.Orders.{nameBefore, dotted}
-use Rattle.definitions.specs.Map.{Declaration, Map, typeMapOf, declarationOf, mapOf}
+use Rattle.definitions.specs.Comparisons.{nameBefore, dotted}
+use Rattle.definitions.specs.Map.{LineType, LineMap, typeMapOf, lineTypeOf, lineMapOf}
 use Rattle.definitions.specs.Making.{extensionLine}
 use Rattle.definitions.specs.Items.{associateOf, owned, given, ofWord, associateWord, ownResource, ownClasses, inheritedResource, wordsMade, itemsAt, itemsFor, itemsOf, ancestors}
 use Rattle.definitions.specs.Lines.{Gives, plainly, nested, OwnResource, HasMaking}
-use Rattle.laws.specs.Orders.{types-perm}
+use Rattle.laws.specs.Comparisons.{types-perm}
 use Rattle.laws.specs.Rounds.{ancestor-type}
 use Rattle.line_laws.specs.Within.{ResourceWithin, AnnotationWithin, Within}
 use Rattle.lists.specs.Members.{filter-short, each-short, rising-short, keep-once, each-more}
@@ -38,7 +38,7 @@ words-short (u ∷ us) W d =
 
 -- ---- the items of a type
 
-module _ (m : Map) (D : Declaration) (As : List Declaration) where
+module _ (m : LineMap) (D : LineType) (As : List LineType) where
   pub own-classes-length : (r : ℕ) → length (ownClasses D r) ≡ length (ofWord r (owned D))
   unfolding ownClasses
   own-classes-length r =
@@ -87,8 +87,8 @@ module _ (s : Sheet) (ok : Readable s) (in′ : Within s) where
   made-below t (HasMaking.own i j u o e) = subst (λ n. n < W) e (own-within t o .word)
   made-below t (HasMaking.inherited h) = subst (λ n. n < W) (h .associates .word) (gives-within (ancestor-type (h .above)) (h .associates .gives) .word)
 
-  owned-short : (T : TypeInfo) → In T (s .types) → length (owned (declarationOf T)) ≤ 12 * 15
-  unfolding owned declarationOf
+  owned-short : (T : TypeInfo) → In T (s .types) → length (owned (lineTypeOf T)) ≤ 12 * 15
+  unfolding owned lineTypeOf
   owned-short T t =
       let w = in′ .type T t in
       let h = each-short associateOf (T .annotations) 15 (λ a i. short-of a (w .annotation a i)) in
@@ -105,18 +105,18 @@ module _ (s : Sheet) (ok : Readable s) (in′ : Within s) where
       short-of noDerive h = zero-le
 
   pub types-short : length (lineMap s .types) ≤ 64
-  unfolding mapOf
-  types-short = let a = length-map (typeMapOf s .types) declarationOf in let b = perm-length (types-perm s) in let c = in′ .types in omega arith
+  unfolding lineMapOf
+  types-short = let a = length-map (typeMapOf s .types) lineTypeOf in let b = perm-length (types-perm s) in let c = in′ .types in omega arith
 
-  pub type-items-short : (T : TypeInfo) → In T (s .types) → length (itemsFor (lineMap s) (declarationOf T) (above s ok T)) ≤ 12 * 15 + 200 + 200
+  pub type-items-short : (T : TypeInfo) → In T (s .types) → length (itemsFor (lineMap s) (lineTypeOf T) (above s ok T)) ≤ 12 * 15 + 200 + 200
   type-items-short T t =
-      for-short (lineMap s) (declarationOf T) (above s ok T) (12 * 15) 200 (owned-short T t)
+      for-short (lineMap s) (lineTypeOf T) (above s ok T) (12 * 15) 200 (owned-short T t)
       (λ r j. let b = made-below t (made-is s ok T r .0 j) in let w = in′ .words in omega arith)
 
   items-short : length (itemsOf (lineMap s)) ≤ 64 * (12 * 15 + 200 + 200)
   unfolding itemsOf
   items-short =
-      let f : Declaration → List Item = λ D. itemsFor (lineMap s) D (ancestors (lineMap s) D) in
+      let f : LineType → List Item = λ D. itemsFor (lineMap s) D (ancestors (lineMap s) D) in
       let h = each-short f (lineMap s .types) (12 * 15 + 200 + 200) (λ X i.
       let t = type-of s i in subst (λ D. length (f D) ≤ 12 * 15 + 200 + 200) (t .2) (type-items-short (t .0) (t .1))) in
       let k = types-short in

@@ -14,12 +14,12 @@ use Rattle.lists.specs.Tests.{by, never, not-so, or-false-left, or-false-right,
 use Rattle.lists.specs.Sorting.{sorted-imp, repeats-not}
 use Rattle.lists.specs.Counting.{pigeonhole}
 use Rattle.definitions.specs.Records.{Name, Dom, Resource, makeList, associate, nestAssociate, alias, inherit, derive, noDerive, Annotation, TypeInfo, Sheet}
-use Rattle.definitions.specs.Orders.{dotted}
+use Rattle.definitions.specs.Comparisons.{dotted}
 use Rattle.definitions.specs.Checks.{resourcesOf, namesTwice, keysTwice, wordsTwice, annotationsTwice, somethingTwice}
-use Rattle.definitions.specs.Map.{declarationOf}
+use Rattle.definitions.specs.Map.{lineTypeOf}
 use Rattle.definitions.specs.Making.{classNames}
 use Rattle.definitions.specs.Items.{associateOf, owned, ofWord, domsAbove, parentsAbove, wordsMade}
-use Rattle.laws.specs.Orders.{name-strict, dom-strict}
+use Rattle.laws.specs.Comparisons.{name-strict, dom-strict}
 use Rattle.laws.specs.Rounds.{ancestor-type}
 use Rattle.line_laws.specs.Within.{WordsWithin, Within}
 use Rattle.lists.specs.Members.{filter-none, each-short, rising-short}
@@ -79,17 +79,17 @@ module _ (s : Sheet) (ok : Readable s) where
   own-one r noDerive h = zero-le
 
   -- each own Associate has a word once at most
-  owns-short : (T : TypeInfo) → In T (s .types) → (r : ℕ) → length (ofWord r (owned (declarationOf T))) ≤ length (T .annotations)
-  unfolding owned declarationOf
+  owns-short : (T : TypeInfo) → In T (s .types) → (r : ℕ) → length (ofWord r (owned (lineTypeOf T))) ≤ length (T .annotations)
+  unfolding owned lineTypeOf
   owns-short T t r =
       let test : Resource → Bool = λ u. eqb (u .word) r in
       let h = each-short (λ a. ofWord r (associateOf a)) (T .annotations) 1 (λ a i. own-one r a (words-apart t i)) in
       rw (filter-each test associateOf (T .annotations)) (omega arith)
 
   module _ (in′ : Within s) (T : TypeInfo) (t : In T (s .types)) where
-    words-short : length (wordsMade (declarationOf T) (above s ok T)) ≤ 200
+    words-short : length (wordsMade (lineTypeOf T) (above s ok T)) ≤ 200
     words-short =
-        let h = rising-short (wordsMade (declarationOf T) (above s ok T)) 0 (length (s .words)) zero-le (words-ascend (lineMap s) (declarationOf T) (above s ok T))
+        let h = rising-short (wordsMade (lineTypeOf T) (above s ok T)) 0 (length (s .words)) zero-le (words-ascend (lineMap s) (lineTypeOf T) (above s ok T))
         (λ r i. (zero-le, made-below s ok in′ t (made-is s ok T r .0 i))) in
         let k = in′ .words in
         omega arith
@@ -103,7 +103,7 @@ module _ (s : Sheet) (ok : Readable s) where
         let all : List Dom = [] ∷ map (λ w. w ∷ []) (numbers W) in
         let h : length ds ≤ length all =
         pigeonhole ds all (sorted-imp ds (λ x y _ _ b e. never b (rw e (dom-strict .irreflexive y))) (D .sorted)) (λ d i.
-        let g = D .each d .0 i in
+        let g = D .exactly d .0 i in
         listed d (subst (WordsWithin W 0 1) (g .dom) (gives-within s ok in′ (ancestor-type (g .above)) (g .gives) .dom))) in
         let k = in′ .words in
         omega (arith, length-map (numbers W) (λ w. w ∷ []), numbers-length W)
@@ -113,21 +113,21 @@ module _ (s : Sheet) (ok : Readable s) where
         listed (w ∷ []) h = List·Memᴰ·tail (Memᴰ·map (λ w. w ∷ []) (numbers-in (length (s .words)) (h .below w (List·Memᴰ·head refl))))
         listed (w ∷ v ∷ d) h = let l = h .most in absurd (omega arith)
 
-    parents-short : (r : ℕ) → length (parentsAbove (lineMap s) (declarationOf T) r) ≤ 8
+    parents-short : (r : ℕ) → length (parentsAbove (lineMap s) (lineTypeOf T) r) ≤ 8
     parents-short r =
-        let ps = namesPassing (lineMap s) (declarationOf T) r in
+        let ps = namesPassing (lineMap s) (lineTypeOf T) r in
         let P = parents-above-are s ok T r in
         let few : length ps ≤ length (T .parents) =
         pigeonhole ps (T .parents) (sorted-imp ps (λ x y _ _ b e. never b (rw e (name-strict .irreflexive y))) (P .sorted))
-        (λ p i. let x = P .each p .0 i in Memᴰ·cast (sym (x .3)) (x .1 .listed)) in
+        (λ p i. let x = P .exactly p .0 i in Memᴰ·cast (sym (x .3)) (x .1 .listed)) in
         let most = in′ .type T t .parents in
         let same : length (classNames ps r) ≡ length ps = length-map ps (λ (n : Name). dotted n r) in
-        rw (parents-above-is (lineMap s) (declarationOf T) r) (omega arith)
+        rw (parents-above-is (lineMap s) (lineTypeOf T) r) (omega arith)
 
 pub counts-are : CountsAre
 counts-are s ok in′ T t = record {
   words = words-short s ok in′ T t;
-  owns = λ r. let a = owns-short s ok T t r in let b = in′ .type T t .annotations in let c = own-classes-length (lineMap s) (declarationOf T) (above s ok T) r in omega arith;
+  owns = λ r. let a = owns-short s ok T t r in let b = in′ .type T t .annotations in let c = own-classes-length (lineMap s) (lineTypeOf T) (above s ok T) r in omega arith;
   doms = doms-short s ok in′ T t;
   parents = parents-short s ok in′ T t;
   items = type-items-short s ok in′ T t;

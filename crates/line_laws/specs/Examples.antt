@@ -10,9 +10,9 @@ use Rattle.lists.specs.Lists.{In, repeats, each, setOf}
 use Rattle.lists.specs.Tests.{never, cons-elim}
 use Rattle.lists.specs.Sorting.{Distinct}
 use Rattle.definitions.specs.Records.{Name, Resource, associate, nestAssociate, Annotation, domain, resource, Mark, makelistMark, deriveMark, TypeInfo, Sheet, Item, synthesized, extension}
-use Rattle.definitions.specs.Orders.{domBefore}
+use Rattle.definitions.specs.Comparisons.{domBefore}
 use Rattle.definitions.specs.Checks.{resourceBytes, selfBytes}
-use Rattle.definitions.specs.Map.{typeMapOf, declarationOf}
+use Rattle.definitions.specs.Map.{typeMapOf, lineTypeOf}
 use Rattle.definitions.specs.Making.{sameItem}
 use Rattle.definitions.specs.Items.{parentsOf, ancestors, domsAbove, itemsOf, itemsFor}
 use Rattle.definitions.specs.Ancestry.{Ancestor, direct, further}
@@ -96,21 +96,21 @@ a-above-c =
     further (record { declared = List·Memᴰ·tail (List·Memᴰ·tail (List·Memᴰ·head refl)); listed = List·Memᴰ·head refl })
     (direct (record { declared = List·Memᴰ·tail (List·Memᴰ·head refl); listed = List·Memᴰ·head refl }))
 
-ancestors-of-c : ancestors (lineMap family) (declarationOf typeC) ≡ declarationOf typeA ∷ declarationOf typeB ∷ []
+ancestors-of-c : ancestors (lineMap family) (lineTypeOf typeC) ≡ lineTypeOf typeA ∷ lineTypeOf typeB ∷ []
 unfolding run
 ancestors-of-c = refl
 
-found-above-c : (A : TypeInfo) × Ancestor family A typeC × (declarationOf A ≡ declarationOf typeB)
+found-above-c : (A : TypeInfo) × Ancestor family A typeC × (lineTypeOf A ≡ lineTypeOf typeB)
 unfolding run
-found-above-c = ancestors-are family family-readable typeC (declarationOf typeB) .0 (List·Memᴰ·tail (List·Memᴰ·head refl))
+found-above-c = ancestors-are family family-readable typeC (lineTypeOf typeB) .0 (List·Memᴰ·tail (List·Memᴰ·head refl))
 
 -- the doms of `c.file` from above, and through the parent `b`
-doms-of-c : domsAbove (ancestors (lineMap family) (declarationOf typeC)) 3 ≡ [] ∷ (4 ∷ []) ∷ []
+doms-of-c : domsAbove (ancestors (lineMap family) (lineTypeOf typeC)) 3 ≡ [] ∷ (4 ∷ []) ∷ []
 unfolding run
 doms-of-c = refl
 
-doms-through-b : domsAbove (ancestors (lineMap family) (declarationOf typeC)) 3
-    ≡ setOf domBefore (each (λ P. domsAbove (P ∷ ancestors (lineMap family) P) 3) (parentsOf (lineMap family) (declarationOf typeC)))
+doms-through-b : domsAbove (ancestors (lineMap family) (lineTypeOf typeC)) 3
+    ≡ setOf domBefore (each (λ P. domsAbove (P ∷ ancestors (lineMap family) P) 3) (parentsOf (lineMap family) (lineTypeOf typeC)))
 doms-through-b = doms-unroll family family-readable typeC 3
 
 family-accepted : Accepted family
@@ -146,7 +146,7 @@ family-once = items-once family family-readable family-accepted
 c-none-identical : NoneIdentical family typeC
 c-none-identical p q x n h k = family-accepted typeC (List·Memᴰ·head refl) (Refused.identical p q x n h k)
 
-c-once : Distinct (itemsFor (lineMap family) (declarationOf typeC) (ancestors (lineMap family) (declarationOf typeC)))
+c-once : Distinct (itemsFor (lineMap family) (lineTypeOf typeC) (ancestors (lineMap family) (lineTypeOf typeC)))
 c-once = identical-is-twice family family-readable typeC (accepted-declared family family-readable family-accepted typeC (List·Memᴰ·head refl)) .0 c-none-identical
 
 -- ---- bounds
@@ -301,6 +301,6 @@ twice-declared = all-declared twice twice-readable twoAssociates refl
 twice-identical : NoneIdentical twice twoAssociates → ⊥
 unfolding run
 twice-identical n =
-    let l = itemsFor (lineMap twice) (declarationOf twoAssociates) (ancestors (lineMap twice) (declarationOf twoAssociates)) in
+    let l = itemsFor (lineMap twice) (lineTypeOf twoAssociates) (ancestors (lineMap twice) (lineTypeOf twoAssociates)) in
     let e : repeats sameItem l ≡ true = refl in
     never e (once-tested l (identical-is-twice twice twice-readable twoAssociates twice-declared .0 n))

@@ -10,8 +10,8 @@ use Rattle.lists.specs.Lists.{In, At, here, later, Sorted, any, keep, filter, e
 use Rattle.lists.specs.Tests.{by, never, not-so, and-left, and-right, and-both, cons-elim, any-of, any-not, filter-in, filter-of, each-in, each-of, at-in}
 use Rattle.lists.specs.Sorting.{Distinct, sorted-across, sorted-imp, perm-sorted, sort-perm}
 use Rattle.definitions.specs.Records.{Name, Resource, makeList, associate, nestAssociate, alias, inherit, derive, noDerive, Annotation, resource, TypeInfo, Sheet, Item}
-use Rattle.definitions.specs.Orders.{nameBefore, dotted}
-use Rattle.definitions.specs.Map.{Declaration, Map, declarationOf}
+use Rattle.definitions.specs.Comparisons.{nameBefore, dotted}
+use Rattle.definitions.specs.Map.{LineType, LineMap, lineTypeOf}
 use Rattle.definitions.specs.Making.{extensionLine, sameItem}
 use Rattle.definitions.specs.Items.{associateOf, owned, ofWord, hasWord, associateWord, ownResource, ownClasses, inheritedResource, wordsMade, itemsAt, itemsFor}
 use Rattle.definitions.specs.Lines.{OwnResource, HasMaking, OwnMaking, InheritedMaking, Source, Making, ClassOf}
@@ -43,10 +43,10 @@ by-word (u ∷ us) h = (
     rest l false s = s
 
 module _ (s : Sheet) (ok : Readable s) (T : TypeInfo) where
-  abbrev D : Declaration
-  D = declarationOf T
+  abbrev D : LineType
+  D = lineTypeOf T
 
-  abbrev As : List Declaration
+  abbrev As : List LineType
   As = above s ok T
 
   module _ (once : Distinct (itemsFor (lineMap s) D As)) where
@@ -77,7 +77,7 @@ module _ (s : Sheet) (ok : Readable s) (T : TypeInfo) where
 
     -- two own resources that are alike stand at one place
     one-source : {i j k l : ℕ} {u w : Resource} → OwnResource T i j u → OwnResource T k l w → SameResource u w → Source.own i j ≡ Source.own k l
-    unfolding owned declarationOf
+    unfolding owned lineTypeOf
     one-source {i} {j} {k} {l} {u} {w} o p e =
         let R : Resource → Resource → Type 0 = λ u w. SameResource u w → ⊥ in
         let across = each-sorted R associateOf (T .annotations) owned-unlike in
@@ -163,14 +163,14 @@ abbrev Made : Type 0
 Made = Source × Item
 
 -- 'each resource of each own Associate makes a resource T.r'
-abbrev ownMade : Map → Declaration → ℕ × Annotation → List Made
+abbrev ownMade : LineMap → LineType → ℕ × Annotation → List Made
 ownMade m T a = map (λ (u : ℕ × Resource). (Source.own (a .0) (u .0), ownResource m T (u .1 .word) (dotted (u .1 .dom) (u .1 .word)))) (places (associateOf (a .1)))
 
 -- 'each word r associated, nested or not, by a proper ancestor makes one T.r'
-abbrev inheritedMade : Map → Declaration → List Declaration → ℕ → Made
+abbrev inheritedMade : LineMap → LineType → List LineType → ℕ → Made
 inheritedMade m T As r = (Source.inherited r, inheritedResource m T As r)
 
-madeOf : Map → Declaration → List Declaration → List Made
+madeOf : LineMap → LineType → List LineType → List Made
 madeOf m T As = each (ownMade m T) (places (T .annotations)) ++ map (inheritedMade m T As) (filter (associateWord As) (wordsMade T As))
 
 sameSource : Source → Source → Bool
@@ -205,41 +205,41 @@ abbrev pub Identical : Sheet → TypeInfo → Type 0
 Identical s T = (a b : Source) × (x : Item) × (a ≡ b → ⊥) × Making s T a x × Making s T b x
 
 module _ (s : Sheet) (ok : Readable s) (T : TypeInfo) where
-  made-in : {a : Source} {x : Item} → Making s T a x → In (a, x) (madeOf (lineMap s) (declarationOf T) (above s ok T))
-  unfolding madeOf declarationOf
+  made-in : {a : Source} {x : Item} → Making s T a x → In (a, x) (madeOf (lineMap s) (lineTypeOf T) (above s ok T))
+  unfolding madeOf lineTypeOf
   made-in {a} {x} (Making.own i j e h) =
       let k = own-making-of s ok T h in
       let u = k .0 in
-      let f : ℕ × Resource → Made = λ u. (Source.own i (u .0), ownResource (lineMap s) (declarationOf T) (u .1 .word) (dotted (u .1 .dom) (u .1 .word))) in
+      let f : ℕ × Resource → Made = λ u. (Source.own i (u .0), ownResource (lineMap s) (lineTypeOf T) (u .1 .word) (dotted (u .1 .dom) (u .1 .word))) in
       Memᴰ·append-left _
-      (each-in (ownMade (lineMap s) (declarationOf T)) (places-in (k .1 .annotation)) (Memᴰ·cast (ap₂ (λ a x. (a, x)) e (k .3)) (Memᴰ·map f (places-in (k .1 .resource)))))
+      (each-in (ownMade (lineMap s) (lineTypeOf T)) (places-in (k .1 .annotation)) (Memᴰ·cast (ap₂ (λ a x. (a, x)) e (k .3)) (Memᴰ·map f (places-in (k .1 .resource)))))
   made-in {a} {x} (Making.inherited r e h) =
       let k = inherited-making-is s ok T r x .0 h in
-      Memᴰ·append-right (each (ownMade (lineMap s) (declarationOf T)) (places (T .annotations)))
+      Memᴰ·append-right (each (ownMade (lineMap s) (lineTypeOf T)) (places (T .annotations)))
       (Memᴰ·cast (ap₂ (λ a x. (a, x)) e (k .2))
-      (Memᴰ·map (inheritedMade (lineMap s) (declarationOf T) (above s ok T))
+      (Memᴰ·map (inheritedMade (lineMap s) (lineTypeOf T) (above s ok T))
       (filter-in (associateWord (above s ok T)) (made-is s ok T r .1 (HasMaking.inherited (h .associated))) (k .0))))
 
-  made-of : DeclaredFor s T → (p : Made) → In p (madeOf (lineMap s) (declarationOf T) (above s ok T)) → Making s T (p .0) (p .1)
-  unfolding madeOf declarationOf
+  made-of : DeclaredFor s T → (p : Made) → In p (madeOf (lineMap s) (lineTypeOf T) (above s ok T)) → Making s T (p .0) (p .1)
+  unfolding madeOf lineTypeOf
   made-of d p i =
       let m = lineMap s in
-      let f : ℕ → ℕ × Resource → Made = λ n u. (Source.own n (u .0), ownResource m (declarationOf T) (u .1 .word) (dotted (u .1 .dom) (u .1 .word))) in
+      let f : ℕ → ℕ × Resource → Made = λ n u. (Source.own n (u .0), ownResource m (lineTypeOf T) (u .1 .word) (dotted (u .1 .dom) (u .1 .word))) in
       ⊎-elim
       (λ j.
-      let y = each-of (ownMade m (declarationOf T)) (places (T .annotations)) j in
+      let y = each-of (ownMade m (lineTypeOf T)) (places (T .annotations)) j in
       let z = Memᴰ·of-map (f (y .0 .0)) (places (associateOf (y .0 .1))) (y .2) in
       let u = z .0 .1 in
       let o : OwnResource T (y .0 .0) (z .0 .0) u = own-place (y .0 .1) (places-of (y .0) (T .annotations) (y .1)) (places-of (z .0) (associateOf (y .0 .1)) (z .1)) in
       subst (λ (q : Made). Making s T (q .0) (q .1)) (z .2)
       (Making.own (y .0 .0) (z .0 .0) refl (own-making-in s ok T u o (d (dotted (u .dom) (u .word)) (ClassOf.own (y .0 .0) (z .0 .0) u o refl)) refl)))
       (λ j.
-      let y = Memᴰ·of-map (inheritedMade m (declarationOf T) (above s ok T)) (filter (associateWord (above s ok T)) (wordsMade (declarationOf T) (above s ok T))) j in
-      let z = filter-of (associateWord (above s ok T)) (wordsMade (declarationOf T) (above s ok T)) (y .1) in
+      let y = Memᴰ·of-map (inheritedMade m (lineTypeOf T) (above s ok T)) (filter (associateWord (above s ok T)) (wordsMade (lineTypeOf T) (above s ok T))) j in
+      let z = filter-of (associateWord (above s ok T)) (wordsMade (lineTypeOf T) (above s ok T)) (y .1) in
       subst (λ (q : Made). Making s T (q .0) (q .1)) (y .2)
-      (Making.inherited (y .0) refl (inherited-making-is s ok T (y .0) (inheritedResource m (declarationOf T) (above s ok T) (y .0)) .1
+      (Making.inherited (y .0) refl (inherited-making-is s ok T (y .0) (inheritedResource m (lineTypeOf T) (above s ok T) (y .0)) .1
       (z .1, λ c k. d c (class-above s ok T (y .0) k), refl))))
-      (List·Memᴰ·append-cases (each (ownMade m (declarationOf T)) (places (T .annotations))) i)
+      (List·Memᴰ·append-cases (each (ownMade m (lineTypeOf T)) (places (T .annotations))) i)
 
   -- whether two are identical is decided
   pub identical-or-not : DeclaredFor s T → Identical s T ⊎ NoneIdentical s T
@@ -264,7 +264,7 @@ module _ (s : Sheet) (ok : Readable s) (T : TypeInfo) where
       (any-not (twice (a, x)) (any-not (λ p. any (twice p) L) e (made-in h)) (made-in g))))
     where
       L : List Made
-      L = madeOf (lineMap s) (declarationOf T) (above s ok T)
+      L = madeOf (lineMap s) (lineTypeOf T) (above s ok T)
 
       twice : Made → Made → Bool
       twice p q = not (sameSource (p .0) (q .0)) && sameItem (p .1) (q .1)

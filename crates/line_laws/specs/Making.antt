@@ -11,12 +11,12 @@ use Rattle.lists.specs.Tests.{by, never, not-so, same-test, and-left, and-right
 use Rattle.lists.specs.Sorting.{sorted-imp, repeats-not, one-key, one-place}
 use Rattle.lists.specs.Lexicographic.{same-numbers}
 use Rattle.definitions.specs.Records.{Name, Dom, Mark, TypeInfo, Extension, Sheet, Item, synthesized}
-use Rattle.definitions.specs.Orders.{sameName, bytesBefore}
+use Rattle.definitions.specs.Comparisons.{sameName, bytesBefore}
 use Rattle.definitions.specs.Checks.{resourceBytes, selfBytes, badWords, namesTwice, keysTwice, wordsTwice, annotationsTwice, somethingTwice}
-use Rattle.definitions.specs.Map.{Declaration, numberOf, typeMapOf, declarationOf, mapOf}
+use Rattle.definitions.specs.Map.{LineType, numberOf, typeMapOf, lineTypeOf, lineMapOf}
 use Rattle.definitions.specs.Making.{declared, classNames, extensionParents, marksOf, allVirtual, createSyntheticResource}
 use Rattle.definitions.specs.Lines.{Dotted, end, and, ExtensionParents, record′, no-record, Marks, AllVirtual, Makes}
-use Rattle.laws.specs.Orders.{same-name, name-same, look-up-is}
+use Rattle.laws.specs.Comparisons.{same-name, name-same, look-up-is}
 use Rattle.laws.specs.Self.{words-distinct}
 use Rattle.lists.specs.Members.{filter-none, filter-one}
 use Rattle.line_laws.specs.Statements.{Readable, lineMap, AllDeclared}
@@ -33,7 +33,7 @@ has-resource ws e =
 
 module _ (s : Sheet) (ok : Readable s) where
   pub resource-at : At resourceBytes (lineMap s .resource) (s .words)
-  unfolding mapOf typeMapOf numberOf
+  unfolding lineMapOf typeMapOf numberOf
   resource-at =
       let r = place-at (sameList eqb resourceBytes) (s .words) (has-resource (s .words) (ok .words)) in
       subst (λ x. At x (numberOf resourceBytes (s .words)) (s .words)) (sym (same-numbers resourceBytes (r .0) (r .2))) (r .1)
@@ -65,7 +65,7 @@ module _ (s : Sheet) (ok : Readable s) where
   keyed-in {T} {r} e p q = and-both (name-same p) (eq-eqb (e .word) r q)
 
   added-is : (T : Name) (r : ℕ) {e : Extension} → In e (s .extensions) → e .name ≡ T → e .word ≡ r → extensionParents (lineMap s) T r ≡ e .parents
-  unfolding extensionParents mapOf typeMapOf
+  unfolding extensionParents lineMapOf typeMapOf
   added-is T r {e} i p q =
       let one : filter (keyed T r) (s .extensions) ≡ e ∷ [] =
       filter-one (keyed T r) e (s .extensions)
@@ -75,7 +75,7 @@ module _ (s : Sheet) (ok : Readable s) where
       rw one (append-nil (e .parents))
 
   no-added : (T : Name) (r : ℕ) → ((e : Extension) → In e (s .extensions) → e .name ≡ T → e .word ≡ r → ⊥) → extensionParents (lineMap s) T r ≡ []
-  unfolding extensionParents mapOf typeMapOf
+  unfolding extensionParents lineMapOf typeMapOf
   no-added T r h =
       rw (filter-none (keyed T r) (s .extensions) (λ e i. not-so (λ t. let k = keyed-of e t in h e i (k .0) (k .1))))
 
@@ -102,7 +102,7 @@ module _ (s : Sheet) (ok : Readable s) where
   -- ---- marks and virtual
 
   marks-one : {D : TypeInfo} {c : Name} (cs : List Name) → In D (s .types) → D .name ≡ c → marksOf (lineMap s) (c ∷ cs) ≡ D .marks ++ marksOf (lineMap s) cs
-  unfolding marksOf declarationOf
+  unfolding marksOf lineTypeOf
   marks-one {D} cs i e = rw (declared-one s ok i e, append-nil (D .marks))
 
   pub marks-of : {cs : List Name} {ms : List Mark} → Marks s cs ms → AllDeclared s cs × (ms ≡ marksOf (lineMap s) cs)
@@ -119,35 +119,35 @@ module _ (s : Sheet) (ok : Readable s) where
       let d = h c (List·Memᴰ·head refl) in
       and (d .0) (d .1) (d .2) (marks-in cs (λ x i. h x (List·Memᴰ·tail i))) (marks-one cs (d .1) (d .2))
 
-  virtual-one : (D : TypeInfo) {c : Name} → In D (s .types) → D .name ≡ c → all (λ (X : Declaration). X .virtual) (declared (lineMap s) c) ≡ true → D .virtual ≡ true
-  unfolding declarationOf
+  virtual-one : (D : TypeInfo) {c : Name} → In D (s .types) → D .name ≡ c → all (λ (X : LineType). X .virtual) (declared (lineMap s) c) ≡ true → D .virtual ≡ true
+  unfolding lineTypeOf
   virtual-one D i e h = and-left (D .virtual) true (rw (declared-one s ok i e) at h)
 
-  virtual-each : (c : Name) → ((D : TypeInfo) → In D (s .types) → D .name ≡ c → D .virtual ≡ true) → all (λ (X : Declaration). X .virtual) (declared (lineMap s) c) ≡ true
-  unfolding declarationOf
+  virtual-each : (c : Name) → ((D : TypeInfo) → In D (s .types) → D .name ≡ c → D .virtual ≡ true) → all (λ (X : LineType). X .virtual) (declared (lineMap s) c) ≡ true
+  unfolding lineTypeOf
   virtual-each c h =
-      all-of (λ (X : Declaration). X .virtual) (declared (lineMap s) c) (λ X i.
-      let x = look-up-is (λ (D : Declaration). D .name) (lineMap s .types) c X .0 i in
+      all-of (λ (X : LineType). X .virtual) (declared (lineMap s) c) (λ X i.
+      let x = look-up-is (λ (D : LineType). D .name) (lineMap s .types) c X .0 i in
       let t = type-of s (x .0) in
-      subst (λ (D : Declaration). D .virtual ≡ true) (t .2) (h (t .0) (t .1) (ap (λ (D : Declaration). D .name) (t .2) ∙ x .1)))
+      subst (λ (D : LineType). D .virtual ≡ true) (t .2) (h (t .0) (t .1) (ap (λ (D : LineType). D .name) (t .2) ∙ x .1)))
 
   -- 'Virtual: T and all its classes are.'
   pub virtual-is : (T : TypeInfo) (cs : List Name) → ((T .virtual && allVirtual (lineMap s) cs) ≡ true) ↔ AllVirtual s T cs
   unfolding allVirtual
   virtual-is T cs =
-      let each : Name → Bool = λ c. all (λ (X : Declaration). X .virtual) (declared (lineMap s) c) in (
+      let each : Name → Bool = λ c. all (λ (X : LineType). X .virtual) (declared (lineMap s) c) in (
         λ e. record {
           type = and-left (T .virtual) (all each cs) e;
-          each = λ c D i j n. virtual-one D j n (all-in each (and-right (T .virtual) (all each cs) e) i);
+          classes = λ c D i j n. virtual-one D j n (all-in each (and-right (T .virtual) (all each cs) e) i);
         },
-        λ h. and-both (h .type) (all-of each cs (λ c i. virtual-each c (λ D j n. h .each c D i j n))),
+        λ h. and-both (h .type) (all-of each cs (λ c i. virtual-each c (λ D j n. h .classes c D i j n))),
       )
 
   -- ---- a resource T.r
 
   pub makes-are : (T : TypeInfo) (r : ℕ) (classes firsts : List Name) (x : Item)
-      → Makes s T r classes firsts x ↔ (AllDeclared s classes × (x ≡ createSyntheticResource (lineMap s) (declarationOf T) r classes firsts))
-  unfolding createSyntheticResource declarationOf
+      → Makes s T r classes firsts x ↔ (AllDeclared s classes × (x ≡ createSyntheticResource (lineMap s) (lineTypeOf T) r classes firsts))
+  unfolding createSyntheticResource lineTypeOf
   makes-are T r classes firsts x =
       let added = extensionParents (lineMap s) (T .name) r in
       let virtual = T .virtual && allVirtual (lineMap s) classes in (

@@ -11,8 +11,8 @@ use Rattle.lists.specs.Lists.{In, At, Sorted, filter, each}
 use Rattle.lists.specs.Tests.{never, filter-of, each-of}
 use Rattle.lists.specs.Sorting.{Distinct, sorted-append, sorted-filter, sorted-imp, perm-sorted, sort-perm, set-sorted}
 use Rattle.definitions.specs.Records.{Name, Resource, makeList, associate, nestAssociate, alias, inherit, derive, noDerive, Annotation, TypeInfo, Sheet, Item, synthesized, extension}
-use Rattle.definitions.specs.Orders.{nameBefore, dotted}
-use Rattle.definitions.specs.Map.{Declaration, Map, declarationOf}
+use Rattle.definitions.specs.Comparisons.{nameBefore, dotted}
+use Rattle.definitions.specs.Map.{LineType, LineMap, lineTypeOf}
 use Rattle.definitions.specs.Making.{createSyntheticResource, extensionLine}
 use Rattle.definitions.specs.Items.{associateOf, owned, given, ofWord, associateWord, ancestors, ownResource, ownClasses, inheritedResource, wordsMade, itemsAt, itemsFor, itemsOf}
 use Rattle.definitions.specs.Lines.{OwnResource, Source, Making, ClassOf, Refused}
@@ -41,7 +41,7 @@ abbrev pub parentsIn : Item → List Name
 parentsIn (synthesized n r v ps ms) = ps
 parentsIn (extension n v t r) = []
 
-module _ (m : Map) (T : Declaration) where
+module _ (m : LineMap) (T : LineType) where
   pub own-word : (r : ℕ) (c : Name) → wordOf (ownResource m T r c) ≡ r
   unfolding ownResource createSyntheticResource
   own-word r c = refl
@@ -59,15 +59,15 @@ module _ (m : Map) (T : Declaration) where
   unfolding ownResource createSyntheticResource
   own-class r q c d e = head-eq-of-cons-eq (ap parentsIn e)
 
-  pub inherited-word : (As : List Declaration) (r : ℕ) → wordOf (inheritedResource m T As r) ≡ r
+  pub inherited-word : (As : List LineType) (r : ℕ) → wordOf (inheritedResource m T As r) ≡ r
   unfolding inheritedResource createSyntheticResource
   inherited-word As r = refl
 
-  inherited-type : (As : List Declaration) (r : ℕ) → typeOf (inheritedResource m T As r) ≡ T .name
+  inherited-type : (As : List LineType) (r : ℕ) → typeOf (inheritedResource m T As r) ≡ T .name
   unfolding inheritedResource createSyntheticResource
   inherited-type As r = refl
 
-  pub inherited-made : (As : List Declaration) (r : ℕ) → isMade (inheritedResource m T As r) ≡ true
+  pub inherited-made : (As : List LineType) (r : ℕ) → isMade (inheritedResource m T As r) ≡ true
   unfolding inheritedResource createSyntheticResource
   inherited-made As r = refl
 
@@ -84,7 +84,7 @@ module _ (m : Map) (T : Declaration) where
   line-not r = refl
 
   -- what stands at T and r has that type and word
-  pub at-key : (As : List Declaration) (r : ℕ) {x : Item} → In x (itemsAt m T As r) → (typeOf x ≡ T .name) × (wordOf x ≡ r)
+  pub at-key : (As : List LineType) (r : ℕ) {x : Item} → In x (itemsAt m T As r) → (typeOf x ≡ T .name) × (wordOf x ≡ r)
   unfolding itemsAt
   at-key As r {x} h =
       ⊎-elim
@@ -99,7 +99,7 @@ module _ (m : Map) (T : Declaration) where
       (List·Memᴰ·append-cases (map (inheritedResource m T As) (filter (associateWord As) (r ∷ []))) j))
       (List·Memᴰ·append-cases (map (ownResource m T r) (ownClasses T r)) h)
 
-  pub for-type : (As : List Declaration) {x : Item} → In x (itemsFor m T As) → typeOf x ≡ T .name
+  pub for-type : (As : List LineType) {x : Item} → In x (itemsFor m T As) → typeOf x ≡ T .name
   unfolding itemsFor
   for-type As p = let y = each-of (itemsAt m T As) (wordsMade T As) p in at-key As (y .0) (y .2) .0
 
@@ -122,7 +122,7 @@ abbrev pub SameResource : Resource → Resource → Type 0
 SameResource u w = (u .word ≡ w .word) × (u .dom ≡ w .dom)
 
 module _ (s : Sheet) (ok : Readable s) (T : TypeInfo) (d : DeclaredFor s T) where
-  own-making : {i j : ℕ} {u : Resource} → OwnResource T i j u → {x : Item} → x ≡ ownResource (lineMap s) (declarationOf T) (u .word) (dotted (u .dom) (u .word))
+  own-making : {i j : ℕ} {u : Resource} → OwnResource T i j u → {x : Item} → x ≡ ownResource (lineMap s) (lineTypeOf T) (u .word) (dotted (u .dom) (u .word))
       → Making s T (Source.own i j) x
   own-making {i} {j} {u} o e = Making.own i j refl (own-making-in s ok T u o (d (dotted (u .dom) (u .word)) (ClassOf.own i j u o refl)) e)
 
@@ -130,8 +130,8 @@ module _ (s : Sheet) (ok : Readable s) (T : TypeInfo) (d : DeclaredFor s T) wher
     -- resources at two places are unlike
     apart-at : {i j k l : ℕ} {u w : Resource} → OwnResource T i j u → OwnResource T k l w → (Source.own i j ≡ Source.own k l → ⊥) → SameResource u w → ⊥
     apart-at {i} {j} {k} {l} {u} {w} o p h e =
-        n (Source.own i j) (Source.own k l) (ownResource (lineMap s) (declarationOf T) (u .word) (dotted (u .dom) (u .word))) h (own-making o refl)
-        (own-making p (ap₂ (λ r d. ownResource (lineMap s) (declarationOf T) r (dotted d r)) (e .0) (e .1)))
+        n (Source.own i j) (Source.own k l) (ownResource (lineMap s) (lineTypeOf T) (u .word) (dotted (u .dom) (u .word))) h (own-making o refl)
+        (own-making p (ap₂ (λ r d. ownResource (lineMap s) (lineTypeOf T) r (dotted d r)) (e .0) (e .1)))
 
     within : {i : ℕ} (a : Annotation) → At a i (T .annotations) → Sorted (λ u w. SameResource u w → ⊥) (associateOf a)
     within makeList p = tt
@@ -145,8 +145,8 @@ module _ (s : Sheet) (ok : Readable s) (T : TypeInfo) (d : DeclaredFor s T) wher
     within (derive t) p = tt
     within noDerive p = tt
 
-    pub owned-apart : Sorted (λ u w. SameResource u w → ⊥) (owned (declarationOf T))
-    unfolding owned declarationOf
+    pub owned-apart : Sorted (λ u w. SameResource u w → ⊥) (owned (lineTypeOf T))
+    unfolding owned lineTypeOf
     owned-apart =
         sorted-each (λ u w. SameResource u w → ⊥) associateOf (T .annotations)
         (λ a i. within a (in-at i .1))
@@ -155,10 +155,10 @@ module _ (s : Sheet) (ok : Readable s) (T : TypeInfo) (d : DeclaredFor s T) wher
         let y = own-at b q iw in
         apart-at (x .1) (y .1) (λ e. let f : i ≡ k = ap firstPlace e in omega arith)))
 
-    classes-once : (r : ℕ) → Distinct (ownClasses (declarationOf T) r)
+    classes-once : (r : ℕ) → Distinct (ownClasses (lineTypeOf T) r)
     unfolding ownClasses
     classes-once r =
-        let us = owned (declarationOf T) in
+        let us = owned (lineTypeOf T) in
         let f : Resource → Name = λ u. dotted (u .dom) r in
         perm-sorted (λ a b. a ≡ b → ⊥) (λ a b h e. h (sym e)) (sort-perm nameBefore (map f (ofWord r us)))
         (sorted-map (λ a b. a ≡ b → ⊥) f (ofWord r us)
@@ -166,7 +166,7 @@ module _ (s : Sheet) (ok : Readable s) (T : TypeInfo) (d : DeclaredFor s T) wher
         (λ u w i j h e. h (word-is r us u .0 i .1 ∙ sym (word-is r us w .0 j .1), append-cancel-right (u .dom) (w .dom) (r ∷ []) e))
         (sorted-filter (λ u w. SameResource u w → ⊥) (λ (u : Resource). eqb (u .word) r) us owned-apart)))
 
-    at-once : (r : ℕ) → Distinct (itemsAt (lineMap s) (declarationOf T) (above s ok T) r)
+    at-once : (r : ℕ) → Distinct (itemsAt (lineMap s) (lineTypeOf T) (above s ok T) r)
     unfolding itemsAt
     at-once r =
         sorted-append (λ a b. a ≡ b → ⊥) owns (aboves ++ (extensionLine D r ∷ []))
@@ -192,13 +192,13 @@ module _ (s : Sheet) (ok : Readable s) (T : TypeInfo) (d : DeclaredFor s T) wher
         (λ k. never (own-made m D r (a .0)) (ap isMade (a .2 ∙ e ∙ List·Memᴰ·eq-of-singleton k) ∙ line-not m D r))
         (List·Memᴰ·append-cases aboves j))
       where
-        m : Map
+        m : LineMap
         m = lineMap s
 
-        D : Declaration
-        D = declarationOf T
+        D : LineType
+        D = lineTypeOf T
 
-        As : List Declaration
+        As : List LineType
         As = above s ok T
 
         owns : List Item
@@ -214,17 +214,17 @@ module _ (s : Sheet) (ok : Readable s) (T : TypeInfo) (d : DeclaredFor s T) wher
         is-r i = List·Memᴰ·eq-of-singleton (filter-of (associateWord As) (r ∷ []) i .0)
 
     -- the items of T, each once
-    pub for-once : Distinct (itemsFor (lineMap s) (declarationOf T) (above s ok T))
+    pub for-once : Distinct (itemsFor (lineMap s) (lineTypeOf T) (above s ok T))
     unfolding itemsFor wordsMade
     for-once =
         let m = lineMap s in
         let As = above s ok T in
-        let W = wordsMade (declarationOf T) As in
-        distinct-each (itemsAt m (declarationOf T) As) W
+        let W = wordsMade (lineTypeOf T) As in
+        distinct-each (itemsAt m (lineTypeOf T) As) W
         (sorted-imp W (λ a b _ _ l e. let h = ltb-true a b l in omega arith)
-        (set-sorted number-strict (map (λ (u : Resource). u .word) (owned (declarationOf T) ++ each given As))))
+        (set-sorted number-strict (map (λ (u : Resource). u .word) (owned (lineTypeOf T) ++ each given As))))
         (λ r _. at-once r)
-        (λ r q x _ _ i j. sym (at-key m (declarationOf T) As r i .1) ∙ at-key m (declarationOf T) As q j .1)
+        (λ r q x _ _ i j. sym (at-key m (lineTypeOf T) As r i .1) ∙ at-key m (lineTypeOf T) As q j .1)
 
 -- ---- the theorem
 
@@ -237,11 +237,11 @@ items-once s ok a =
     subst (λ D. Distinct (f D)) (t .2) (for-once s ok (t .0) (accepted-declared s ok a (t .0) (t .1)) (λ p q x h u w. a (t .0) (t .1) (Refused.identical p q x h u w))))
     (λ X Y x i j p q. one-declaration s ok i j (sym (name-of X p) ∙ name-of Y q))
   where
-    m : Map
+    m : LineMap
     m = lineMap s
 
-    f : Declaration → List Item
+    f : LineType → List Item
     f D = itemsFor m D (ancestors m D)
 
-    name-of : (D : Declaration) {x : Item} → In x (f D) → typeOf x ≡ D .name
+    name-of : (D : LineType) {x : Item} → In x (f D) → typeOf x ≡ D .name
     name-of D p = for-type m D (ancestors m D) p

@@ -8,8 +8,8 @@ use borrow.Author.Tests.{not-true}
 use Rattle.lists.specs.Lists.{In, any, null, repeats}
 use Rattle.lists.specs.Tests.{by, never, not-so, and-left, or-cases, or-left, or-right, any-in, any-of, any-not, any-none, all-not, null-in}
 use Rattle.definitions.specs.Records.{Name, Variant, domain, resource, other, TypeInfo, Sheet}
-use Rattle.definitions.specs.Orders.{dotted}
-use Rattle.definitions.specs.Map.{Declaration, declarationOf}
+use Rattle.definitions.specs.Comparisons.{dotted}
+use Rattle.definitions.specs.Map.{LineType, lineTypeOf}
 use Rattle.definitions.specs.Making.{declared, isResourceVariant, isResource, sameItem}
 use Rattle.definitions.specs.Items.{ancestors, wordsMade, itemsFor}
 use Rattle.definitions.specs.Lines.{HasMaking, ClassOf, Refused}
@@ -29,7 +29,7 @@ variant-is other e = never e refl
 
 module _ (s : Sheet) (ok : Readable s) (T : TypeInfo) where
   abbrev classes : List Name
-  classes = classesOf (declarationOf T) (above s ok T)
+  classes = classesOf (lineTypeOf T) (above s ok T)
 
   -- 'a class is undeclared'
   pub undeclared-is : (any (λ c. null (declared (lineMap s) c)) classes ≡ true) ↔ ((c : Name) × ClassOf s T c × ((D : TypeInfo) → In D (s .types) → D .name ≡ c → ⊥))
@@ -45,7 +45,7 @@ module _ (s : Sheet) (ok : Readable s) (T : TypeInfo) where
   all-declared e c h = declared-some s ok c (any-not (λ c. null (declared (lineMap s) c)) e (classes-are s ok T c .1 h))
 
   resource-is : {D : TypeInfo} {c : Name} → In D (s .types) → D .name ≡ c → isResource (lineMap s) c ≡ (isResourceVariant (D .variant) && true)
-  unfolding declarationOf
+  unfolding lineTypeOf
   resource-is i e = rw (declared-one s ok i e)
 
   -- 'or no resource'; an undeclared class is no ground of this kind
@@ -53,7 +53,7 @@ module _ (s : Sheet) (ok : Readable s) (T : TypeInfo) where
       ↔ ((c : Name) × (D : TypeInfo) × ClassOf s T c × In D (s .types) × (D .name ≡ c) × (D .variant ≡ Variant.resource → ⊥))
   no-resource-is =
       let f : Name → Bool = λ c. not (isResource (lineMap s) c) in
-      let v : Declaration → Bool = λ D. isResourceVariant (D .variant) in (
+      let v : LineType → Bool = λ D. isResourceVariant (D .variant) in (
         λ e.
             let x = any-of f classes e in
             let c = x .0 in
@@ -67,12 +67,12 @@ module _ (s : Sheet) (ok : Readable s) (T : TypeInfo) where
       )
 
   -- 'T.r is a declared type'
-  pub declared-is : (any (λ r. not (null (declared (lineMap s) (dotted (T .name) r)))) (wordsMade (declarationOf T) (above s ok T)) ≡ true)
+  pub declared-is : (any (λ r. not (null (declared (lineMap s) (dotted (T .name) r)))) (wordsMade (lineTypeOf T) (above s ok T)) ≡ true)
       ↔ ((r : ℕ) × (D : TypeInfo) × HasMaking s T r × In D (s .types) × (D .name ≡ T .name ++ (r ∷ [])))
   declared-is =
       let f : ℕ → Bool = λ r. not (null (declared (lineMap s) (dotted (T .name) r))) in (
         λ e.
-            let x = any-of f (wordsMade (declarationOf T) (above s ok T)) e in
+            let x = any-of f (wordsMade (lineTypeOf T) (above s ok T)) e in
             let d = declared-some s ok (dotted (T .name) (x .0)) (not-true (null (declared (lineMap s) (dotted (T .name) (x .0)))) (x .2)) in
             (x .0, d .0, made-is s ok T (x .0) .0 (x .1), d .1, d .2),
         λ h. any-in f (made-is s ok T (h .0) .1 (h .2)) (rw (declared-one s ok (h .3) (h .4))),
@@ -88,10 +88,10 @@ module _ (s : Sheet) (ok : Readable s) (T : TypeInfo) where
   wrong = any (λ c. not (isResource (lineMap s) c)) (classes s ok T)
 
   abbrev taken : Bool
-  taken = any (λ r. not (null (declared (lineMap s) (dotted (T .name) r)))) (wordsMade (declarationOf T) (above s ok T))
+  taken = any (λ r. not (null (declared (lineMap s) (dotted (T .name) r)))) (wordsMade (lineTypeOf T) (above s ok T))
 
   abbrev twice : Bool
-  twice = repeats sameItem (itemsFor (lineMap s) (declarationOf T) (above s ok T))
+  twice = repeats sameItem (itemsFor (lineMap s) (lineTypeOf T) (above s ok T))
 
   tested : (lost || (wrong || (taken || twice))) ≡ true → Refused s T
   tested e =
@@ -106,7 +106,7 @@ module _ (s : Sheet) (ok : Readable s) (T : TypeInfo) where
       (λ t.
       ⊎-elim
       (λ h. Refused.identical (h .0) (h .1) (h .2) (h .3) (h .4) (h .5))
-      (λ n. never t (once-tested (itemsFor (lineMap s) (declarationOf T) (above s ok T)) (for-once s ok T (all-declared s ok T p) n)))
+      (λ n. never t (once-tested (itemsFor (lineMap s) (lineTypeOf T) (above s ok T)) (for-once s ok T (all-declared s ok T p) n)))
       (identical-or-not s ok T (all-declared s ok T p)))
       (or-cases taken twice q))
       (or-cases wrong (taken || twice) (rw p at e)))
@@ -117,16 +117,16 @@ module _ (s : Sheet) (ok : Readable s) (T : TypeInfo) where
   refused (Refused.declared r D h i e) = or-right lost (or-right wrong (or-left twice (declared-is s ok T .1 (r, D, h, i, e))))
   refused (Refused.identical a b x n h g) =
       or-right lost (or-right wrong (or-right taken
-      (by twice (λ t. t) (λ t. absurd (none-identical s ok T (tested-once (itemsFor (lineMap s) (declarationOf T) (above s ok T)) t) a b x n h g)))))
+      (by twice (λ t. t) (λ t. absurd (none-identical s ok T (tested-once (itemsFor (lineMap s) (lineTypeOf T) (above s ok T)) t) a b x n h g)))))
 
 pub refused-is-tested : RefusedIsTested
-unfolding isRefused declarationOf
+unfolding isRefused lineTypeOf
 refused-is-tested s ok T = (tested s ok T, refused s ok T)
 
 pub accepted-is-tested : AcceptedIsTested
 unfolding anyRefused
 accepted-is-tested s ok =
-    let f : Declaration → Bool = λ D. isRefused (lineMap s) D (ancestors (lineMap s) D) in (
+    let f : LineType → Bool = λ D. isRefused (lineMap s) D (ancestors (lineMap s) D) in (
       λ e T i h. never (refused-is-tested s ok T .1 h) (any-not f e (type-in s i)),
       λ a.
           any-none f (lineMap s .types) (λ X i.

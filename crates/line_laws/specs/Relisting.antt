@@ -5,7 +5,7 @@ use Rattle.lists.specs.Lists.{In}
 use Rattle.definitions.specs.Records.{Sheet}
 use Rattle.definitions.specs.Items.{itemsOf}
 use Rattle.definitions.specs.Relisted.{Relisted}
-use Rattle.laws.specs.Orders.{names-once}
+use Rattle.laws.specs.Comparisons.{names-once}
 use Rattle.laws.specs.Relisting.{relisted-map}
 use Rattle.line_laws.specs.Statements.{Readable, lineMap, anyRefused, RelistedItems, RelistedAccepted, RelistedLines}
 use Rattle.line_laws.specs.Lines.{items-are-lines}

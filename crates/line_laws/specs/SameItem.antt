@@ -9,9 +9,9 @@ use Rattle.lists.specs.Tests.{never, not-so, and-left, and-right, and-both, any
 use Rattle.lists.specs.Lexicographic.{same-self, same-true}
 use Rattle.lists.specs.Sorting.{Distinct}
 use Rattle.definitions.specs.Records.{Name, Mark, makelistMark, deriveMark, Item, synthesized, extension}
-use Rattle.definitions.specs.Orders.{sameName}
+use Rattle.definitions.specs.Comparisons.{sameName}
 use Rattle.definitions.specs.Making.{sameMark, sameItem}
-use Rattle.laws.specs.Orders.{same-name, name-same}
+use Rattle.laws.specs.Comparisons.{same-name, name-same}
 
 bool-true : (a b : Bool) → Bool·beq a b ≡ true → a ≡ b
 bool-true true true e = refl

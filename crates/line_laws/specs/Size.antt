@@ -14,7 +14,7 @@ use Rattle.definitions.specs.Order.{ready, pass, passes, lastPass, organizeType
 use Rattle.definitions.specs.Items.{itemsOf}
 use Rattle.definitions.specs.Packing.{countedBits, wordIfFlagBits, nameBits, parentBits, markBits, itemBits, orderBits, scheduleBits}
 use Rattle.definitions.specs.Answer.{scheduleOf}
-use Rattle.laws.specs.Orders.{types-perm}
+use Rattle.laws.specs.Comparisons.{types-perm}
 use Rattle.line_laws.specs.Within.{ItemWithin}
 use Rattle.lists.specs.Members.{each-short}
 use Rattle.bits.specs.NumberLaws.{length-toBits}

@@ -8,11 +8,11 @@ use lib.ListN.{length}
 use Rattle.lists.specs.Lists.{In, any, null, each, repeats, setOf}
 use Rattle.lists.specs.Sorting.{Distinct}
 use Rattle.definitions.specs.Records.{Name, Resource, TypeInfo, Sheet, Item}
-use Rattle.definitions.specs.Orders.{domBefore, dotted}
+use Rattle.definitions.specs.Comparisons.{domBefore, dotted}
 use Rattle.definitions.specs.Parse.{done}
 use Rattle.definitions.specs.Reading.{sheet}
 use Rattle.definitions.specs.Checks.{badWords, somethingTwice}
-use Rattle.definitions.specs.Map.{Map, Declaration, typeMapOf, declarationOf, mapOf}
+use Rattle.definitions.specs.Map.{LineMap, LineType, typeMapOf, lineTypeOf, lineMapOf}
 use Rattle.definitions.specs.Making.{declared, isResource, sameItem}
 use Rattle.definitions.specs.Items.{owned, given, parentsOf, ancestors, domsAbove, wordsMade, itemsFor, itemsOf}
 use Rattle.definitions.specs.Ancestry.{Ancestor}
@@ -28,8 +28,8 @@ pub record Readable (s : Sheet) : Type 0 where
   pub once : somethingTwice s ≡ false
 
 -- the map of a sheet, as the lines see it
-abbrev pub lineMap : Sheet → Map
-lineMap s = mapOf (typeMapOf s)
+abbrev pub lineMap : Sheet → LineMap
+lineMap s = lineMapOf (typeMapOf s)
 
 -- a type is declared under the name; under each name
 abbrev pub Declared : Sheet → Name → Type 0
@@ -42,27 +42,27 @@ AllDeclared s cs = (c : Name) → In c cs → Declared s c
 
 -- the computed ancestors are the declarations of 'a parent of T or a proper ancestor of one'
 abbrev pub AncestorsAre : Type 0
-AncestorsAre = (s : Sheet) → Readable s → (T : TypeInfo) (X : Declaration)
-    → In X (ancestors (lineMap s) (declarationOf T)) ↔ ((A : TypeInfo) × Ancestor s A T × (declarationOf A ≡ X))
+AncestorsAre = (s : Sheet) → Readable s → (T : TypeInfo) (X : LineType)
+    → In X (ancestors (lineMap s) (lineTypeOf T)) ↔ ((A : TypeInfo) × Ancestor s A T × (lineTypeOf A ≡ X))
 
 -- ---- parent by parent (Unroll.antt)
 
 -- an ancestor of T is a parent of T or an ancestor of one, in the computed lists
 abbrev pub AncestorsUnroll : Type 0
-AncestorsUnroll = (s : Sheet) → Readable s → (T : TypeInfo) (X : Declaration)
-    → In X (ancestors (lineMap s) (declarationOf T))
-    ↔ ((P : Declaration) × In P (parentsOf (lineMap s) (declarationOf T)) × ((X ≡ P) ⊎ In X (ancestors (lineMap s) P)))
+AncestorsUnroll = (s : Sheet) → Readable s → (T : TypeInfo) (X : LineType)
+    → In X (ancestors (lineMap s) (lineTypeOf T))
+    ↔ ((P : LineType) × In P (parentsOf (lineMap s) (lineTypeOf T)) × ((X ≡ P) ⊎ In X (ancestors (lineMap s) P)))
 
 -- so what is asked of the ancestors can be asked parent by parent
 abbrev pub TestsUnroll : Type 0
-TestsUnroll = (s : Sheet) → Readable s → (T : TypeInfo) (f : Declaration → Bool)
-    → any f (ancestors (lineMap s) (declarationOf T)) ≡ any (λ P. any f (P ∷ ancestors (lineMap s) P)) (parentsOf (lineMap s) (declarationOf T))
+TestsUnroll = (s : Sheet) → Readable s → (T : TypeInfo) (f : LineType → Bool)
+    → any f (ancestors (lineMap s) (lineTypeOf T)) ≡ any (λ P. any f (P ∷ ancestors (lineMap s) P)) (parentsOf (lineMap s) (lineTypeOf T))
 
 -- and the doms of an inherited word are those of the parents, united
 abbrev pub DomsUnroll : Type 0
 DomsUnroll = (s : Sheet) → Readable s → (T : TypeInfo) (r : ℕ)
-    → domsAbove (ancestors (lineMap s) (declarationOf T)) r
-    ≡ setOf domBefore (each (λ P. domsAbove (P ∷ ancestors (lineMap s) P) r) (parentsOf (lineMap s) (declarationOf T)))
+    → domsAbove (ancestors (lineMap s) (lineTypeOf T)) r
+    ≡ setOf domBefore (each (λ P. domsAbove (P ∷ ancestors (lineMap s) P) r) (parentsOf (lineMap s) (lineTypeOf T)))
 
 -- ---- the lines (Lines.antt)
 
@@ -97,11 +97,11 @@ ItemsOnce = (s : Sheet) → Readable s → Accepted s → Distinct (itemsOf (lin
 -- ---- refused types (Refused.antt)
 
 -- the classes of T's makings, As being its ancestors
-abbrev pub classesOf : Declaration → List Declaration → List Name
+abbrev pub classesOf : LineType → List LineType → List Name
 classesOf T As = map (λ (u : Resource). dotted (u .dom) (u .word)) (owned T ++ each given As)
 
 -- 'T is refused if a class is undeclared or no resource, T.r is a declared type, or two of its makings are identical', tested
-unfoldable pub isRefused : Map → Declaration → List Declaration → Bool
+unfoldable pub isRefused : LineMap → LineType → List LineType → Bool
 isRefused m T As =
     any (λ c. null (declared m c)) (classesOf T As)
     || (any (λ c. not (isResource m c)) (classesOf T As)
@@ -109,7 +109,7 @@ isRefused m T As =
     || repeats sameItem (itemsFor m T As)))
 
 abbrev pub RefusedIsTested : Type 0
-RefusedIsTested = (s : Sheet) → Readable s → (T : TypeInfo) → (isRefused (lineMap s) (declarationOf T) (ancestors (lineMap s) (declarationOf T)) ≡ true) ↔ Refused s T
+RefusedIsTested = (s : Sheet) → Readable s → (T : TypeInfo) → (isRefused (lineMap s) (lineTypeOf T) (ancestors (lineMap s) (lineTypeOf T)) ≡ true) ↔ Refused s T
 
 -- no two makings of T are identical
 abbrev pub NoneIdentical : Sheet → TypeInfo → Type 0
@@ -122,10 +122,10 @@ DeclaredFor s T = (c : Name) → ClassOf s T c → Declared s c
 -- where every class of T is declared, no two of its makings are identical exactly if none of its items stands twice
 abbrev pub IdenticalIsTwice : Type 0
 IdenticalIsTwice = (s : Sheet) → Readable s → (T : TypeInfo) → DeclaredFor s T
-    → NoneIdentical s T ↔ Distinct (itemsFor (lineMap s) (declarationOf T) (ancestors (lineMap s) (declarationOf T)))
+    → NoneIdentical s T ↔ Distinct (itemsFor (lineMap s) (lineTypeOf T) (ancestors (lineMap s) (lineTypeOf T)))
 
 -- whether a type of the map is refused
-unfoldable pub anyRefused : Map → Bool
+unfoldable pub anyRefused : LineMap → Bool
 anyRefused m = any (λ T. isRefused m T (ancestors m T)) (m .types)
 
 abbrev pub AcceptedIsTested : Type 0

@@ -5,7 +5,7 @@ use lib.ListN.{length}
 use Rattle.lists.specs.Lists.{In}
 use Rattle.definitions.specs.Records.{Name, Resource, Annotation, Mark, makelistMark, deriveMark, TypeInfo, Extension, Sheet, Item, synthesized, extension}
 use Rattle.definitions.specs.Checks.{resourcesOf}
-use Rattle.definitions.specs.Map.{typeMapOf, declarationOf, mapOf}
+use Rattle.definitions.specs.Map.{typeMapOf, lineTypeOf, lineMapOf}
 use Rattle.definitions.specs.Items.{ancestors, ownClasses, domsAbove, parentsAbove, wordsMade, itemsFor}
 
 -- a list of a to b words, each 'below W'
@@ -63,11 +63,11 @@ pub record Within (s : Sheet) : Type 0 where
 
 -- how much there is of one type T: words with a making, own classes of a word, doms of an inherited word, parents that pass it on, and items
 pub record CountsWithin (s : Sheet) (T : TypeInfo) : Type 0 where
-  pub words : length (wordsMade (declarationOf T) (ancestors (mapOf (typeMapOf s)) (declarationOf T))) ≤ 200
-  pub owns : (r : ℕ) → length (ownClasses (declarationOf T) r) ≤ 12
-  pub doms : (r : ℕ) → length (domsAbove (ancestors (mapOf (typeMapOf s)) (declarationOf T)) r) ≤ 201
-  pub parents : (r : ℕ) → length (parentsAbove (mapOf (typeMapOf s)) (declarationOf T) r) ≤ 8
-  pub items : length (itemsFor (mapOf (typeMapOf s)) (declarationOf T) (ancestors (mapOf (typeMapOf s)) (declarationOf T))) ≤ 12 * 15 + 200 + 200
+  pub words : length (wordsMade (lineTypeOf T) (ancestors (lineMapOf (typeMapOf s)) (lineTypeOf T))) ≤ 200
+  pub owns : (r : ℕ) → length (ownClasses (lineTypeOf T) r) ≤ 12
+  pub doms : (r : ℕ) → length (domsAbove (ancestors (lineMapOf (typeMapOf s)) (lineTypeOf T)) r) ≤ 201
+  pub parents : (r : ℕ) → length (parentsAbove (lineMapOf (typeMapOf s)) (lineTypeOf T) r) ≤ 8
+  pub items : length (itemsFor (lineMapOf (typeMapOf s)) (lineTypeOf T) (ancestors (lineMapOf (typeMapOf s)) (lineTypeOf T))) ≤ 12 * 15 + 200 + 200
 
 -- 'parents 5, each a word count 2 (1 to 3) and its words; marks 9': what the fields of an item hold
 abbrev pub ItemWithin : ℕ → Item → Type 0

@@ -6,7 +6,7 @@ use Prim.Native.Nat.{ℕ, _*_, _≤_, _<_}
 use lib.ListN.{length}
 use Rattle.lists.specs.Lists.{each}
 use Rattle.definitions.specs.Records.{Sheet, Item}
-use Rattle.definitions.specs.Map.{typeMapOf, mapOf, declarationOf}
+use Rattle.definitions.specs.Map.{typeMapOf, lineMapOf, lineTypeOf}
 use Rattle.definitions.specs.Items.{itemsOf}
 use Rattle.definitions.specs.Packing.{countedBits, itemBits, orderBits}
 use Rattle.bits.specs.Writing.{Wrote}
@@ -33,7 +33,7 @@ use Rattle.listing.specs.declared.Tried.{Tried}
 
 -- the items of a sheet's map
 abbrev pub allItems : Sheet → List Item
-allItems s = itemsOf (mapOf (typeMapOf s))
+allItems s = itemsOf (lineMapOf (typeMapOf s))
 
 -- the names as the code has them, and the items
 abbrev pub allBits : Sheet → Parents → Order → List Bool
@@ -43,7 +43,7 @@ allBits s p o = orderBits (orderNames (p .firsts) (p .seconds) (o .items) (o .co
 pub record Ground (s : Sheet) (ts : Types) (es : Extensions) (p : Parents) (t : Table) (own table passed rows : List ℕ) : Type 0 where
   pub held : HeldMap s ts es p
   pub lookups : TableOf (typeMapOf s) t
-  pub owns : (a : ℕ) → a < ts .count → OwnIn own a (declarationOf (typeInfoOf (itemAt ts a)))
+  pub owns : (a : ℕ) → a < ts .count → OwnIn own a (lineTypeOf (typeInfoOf (itemAt ts a)))
   pub gives : over.Table (typeMapOf s) (p .count) table
   pub passes : Passes p (typeMapOf s) (held .reads) passed
   pub above : Ancestors p rows

@@ -11,7 +11,7 @@ use Rattle.lists.specs.Tabulating.{taken, tabulate, each-start, each-next}
 use Rattle.lists.specs.Appending.{each-append, each-each}
 use Rattle.definitions.specs.Records.{Sheet, Item}
 use Rattle.definitions.specs.Records as records
-use Rattle.definitions.specs.Map.{Declaration, typeMapOf, declarationOf, mapOf}
+use Rattle.definitions.specs.Map.{LineType, typeMapOf, lineTypeOf, lineMapOf}
 use Rattle.definitions.specs.Items.{ancestors, itemsFor, itemsOf}
 use Rattle.definitions.specs.Packing.{itemBits}
 use Rattle.bits.specs.Writing.{Wrote}
@@ -50,13 +50,13 @@ each-tabulate F g f (suc n) =
     ∙ sym (each-append (λ i. F (g (f i))) (tabulate (λ (i : ℕ). i) n) (n ∷ []))
 
 pub types-all : (s : Sheet) (n : ℕ) → n ≡ length (typeMapOf s .types) → each (typeItems s) (tabulate (λ (a : ℕ). a) n) ≡ allItems s
-unfolding itemsOf mapOf
+unfolding itemsOf lineMapOf
 types-all s n e =
     let l = typeMapOf s .types in
-    let M = mapOf (typeMapOf s) in
-    let F : Declaration → List Item = λ T. itemsFor M T (ancestors M T) in
+    let M = lineMapOf (typeMapOf s) in
+    let F : LineType → List Item = λ T. itemsFor M T (ancestors M T) in
     let z : l ≡ tabulate (λ i. getD l i noType) n = sym (Seq.take-all n l (omega arith)) ∙ taken l noType n (omega arith) in
-    sym (ap (λ (k : List records.TypeInfo). each F (map declarationOf k)) z ∙ each-tabulate F declarationOf (λ i. getD l i noType) n)
+    sym (ap (λ (k : List records.TypeInfo). each F (map lineTypeOf k)) z ∙ each-tabulate F lineTypeOf (λ i. getD l i noType) n)
 
 -- ---- the type at a place
 
@@ -79,7 +79,7 @@ module _ (own : List ℕ) (p : Parents) (t : Table) (table passed rows : List �
       let k : a < ts .count = omega (arith, count-parents s ts es p (o .held)) in
       let d : Held s ts es p table (getD rows a 0) a = record { map = o .held; gives = o .gives; over = o .above .right a h } in
       scene-of s ts es p (w .count) (w .words) (w .doms) t table passed (getD rows a 0) a x e (record { held = d; passes = o .passes }) h
-      (subst (λ (T : records.TypeInfo). OwnedOf (declarationOf T) (w .count) (w .words) (w .doms)) (type-at s ts es p (o .held) a k) (g .of _ (o .owns a k))) (o .lookups)
+      (subst (λ (T : records.TypeInfo). OwnedOf (lineTypeOf T) (w .count) (w .words) (w .doms)) (type-at s ts es p (o .held) a k) (g .of _ (o .owns a k))) (o .lookups)
 
   ready-at : Grounded own p t table passed rows → (a : ℕ) → a < p .count → (w : Owned) → Owns a w → (x : Site) → At a w x
       → Ready (w .count) (w .words) (w .doms) table passed x
@@ -91,7 +91,7 @@ module _ (own : List ℕ) (p : Parents) (t : Table) (table passed rows : List �
       let k : a < ts .count = omega (arith, count-parents s ts es p (o .held)) in
       let d : Held s ts es p table (getD rows a 0) a = record { map = o .held; gives = o .gives; over = o .above .right a h } in
       ready-of s ts es p (w .count) (w .words) (w .doms) t table passed (getD rows a 0) a x e (record { held = d; passes = o .passes }) h
-      (subst (λ (T : records.TypeInfo). OwnedOf (declarationOf T) (w .count) (w .words) (w .doms)) (type-at s ts es p (o .held) a k) (q .of _ (o .owns a k)))
+      (subst (λ (T : records.TypeInfo). OwnedOf (lineTypeOf T) (w .count) (w .words) (w .doms)) (type-at s ts es p (o .held) a k) (q .of _ (o .owns a k)))
       (valid p (typeMapOf s) (o .held .reads)) (parents-below s ts es p (o .held) a h) (g .tableLong, g .tableSmall) (g .passedLong, g .passedSmall)
 
   pub staged-at : Grounded own p t table passed rows → (a : ℕ) → a < p .count → (w : Owned) → Owns a w → (x : Site) → At a w x

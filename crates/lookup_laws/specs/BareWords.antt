@@ -7,7 +7,7 @@ use Rattle.lists.specs.Lists.{null, filter, firstOf}
 use Rattle.lists.specs.Appending.{filter-alike, first-alike}
 use Rattle.definitions.specs.Records.{Name, AssociatedResource, Item}
 use Rattle.definitions.specs.Checks.{resourcesOf}
-use Rattle.definitions.specs.Map.{Declaration, Map}
+use Rattle.definitions.specs.Map.{LineType, LineMap}
 use Rattle.definitions.specs.Inherited.{InheritedAnnotation}
 use Rattle.definitions.specs.Making.{declared, classNames, isResource, createSyntheticResource}
 use Rattle.definitions.specs.Synthesis.{classRow, Interpreted, interpreted, behindRow, behindRows, Verdict, unknownClasses, ends, noResource, duplicate, makes, judge, firstParents, isDuplicate, withMaking, interpretWords, interpretAll}
@@ -15,22 +15,22 @@ use Rattle.lookup_laws.specs.Bare.{bare, bareMap}
 use Rattle.lookup_laws.specs.BareLaws.{bare-unknown, bare-resource, bare-created, bare-duplicate, bare-making}
 
 -- what a verdict comes to, where the words that are left come to `rest`
-unfoldable behind : Declaration → ℕ → Item → List Item → (Bool → List Item → Interpreted) → Verdict → Interpreted
+unfoldable behind : LineType → ℕ → Item → List Item → (Bool → List Item → Interpreted) → Verdict → Interpreted
 behind T r new is rest (unknownClasses xs) = interpreted (map (classRow 4 T r) xs) is
 behind T r new is rest ends = interpreted [] is
 behind T r new is rest (noResource c) = behindRow (classRow 5 T r c) (rest true is)
 behind T r new is rest duplicate = behindRow (classRow 6 T r []) (rest true is)
 behind T r new is rest makes = rest false (withMaking T r new is)
 
-unfoldable newOf : Map → Declaration → List Name → AssociatedResource → Item
+unfoldable newOf : LineMap → LineType → List Name → AssociatedResource → Item
 newOf m T Ps u = createSyntheticResource m T (u .word) (classNames (u .doms) (u .word)) (firstParents Ps (classNames (u .doms) (u .word)) (u .word))
 
-unfoldable verdict : Map → Declaration → List Name → AssociatedResource → Bool → List Item → Verdict
+unfoldable verdict : LineMap → LineType → List Name → AssociatedResource → Bool → List Item → Verdict
 verdict m T Ps u failed is =
     judge failed (filter (λ c. null (declared m c)) (classNames (u .doms) (u .word))) (firstOf (λ c. not (isResource m c)) (classNames (u .doms) (u .word)))
     (isDuplicate m T (u .word) (newOf m T Ps u) is)
 
-step : (m : Map) (T : Declaration) (Ps : List Name) (u : AssociatedResource) (us : List AssociatedResource) (failed : Bool) (is : List Item) →
+step : (m : LineMap) (T : LineType) (Ps : List Name) (u : AssociatedResource) (us : List AssociatedResource) (failed : Bool) (is : List Item) →
     interpretWords m T Ps (u ∷ us) failed is ≡ behind T (u .word) (newOf m T Ps u) is (interpretWords m T Ps us) (verdict m T Ps u failed is)
 unfolding interpretWords behind verdict newOf
 step m T Ps u us failed is = go (verdict m T Ps u failed is)
@@ -50,7 +50,7 @@ step m T Ps u us failed is = go (verdict m T Ps u failed is)
     go duplicate = refl
     go makes = refl
 
-module _ (M : Map) (T : Declaration) where
+module _ (M : LineMap) (T : LineType) where
   new-bare : (Ps : List Name) (u : AssociatedResource) → newOf (bareMap M) (bare T) Ps u ≡ newOf M T Ps u
   unfolding newOf
   new-bare Ps u = bare-created M T (u .word) _ _

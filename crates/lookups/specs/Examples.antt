@@ -11,7 +11,7 @@ use Rattle.lists.specs.Tests.{all-in}
 use Rattle.lists.specs.Tabulating.{tabulate}
 use Rattle.rows.specs.Rows.{single}
 use Rattle.definitions.specs.Records.{domain, resource, makelistMark, associate, Extension, TypeInfo}
-use Rattle.definitions.specs.Map.{TypeMap, declarationOf, mapOf}
+use Rattle.definitions.specs.Map.{TypeMap, lineTypeOf, lineMapOf}
 use Rattle.records.specs.Marks.{ofMarks}
 use Rattle.table.specs.Table.{declarationAt}
 use Rattle.table.specs.Examples.{example, example-read, example-sound, three}
@@ -34,12 +34,12 @@ abbrev pub exampleTypeMap : TypeMap
 exampleTypeMap = record { resource = 2; self = 3; types = exampleTypes; extensions = [] }
 
 pub example-of : TableOf exampleTypeMap example
-unfolding bareMap mapOf bare declarationOf declarationAt tabulate ofMarks
+unfolding bareMap lineMapOf bare lineTypeOf declarationAt tabulate ofMarks
 example-of = record {
   sound = example-sound;
   count = refl;
   map = example-read;
-  at = three (λ i. declarationAt example i ≡ bare (declarationOf (typeAt exampleTypeMap i))) refl refl refl;
+  at = three (λ i. declarationAt example i ≡ bare (lineTypeOf (typeAt exampleTypeMap i))) refl refl refl;
   names = three (λ i. Rattle.table.specs.Table.nameAt example i ≡ typeAt exampleTypeMap i .name) refl refl refl;
   keys = refl;
 }

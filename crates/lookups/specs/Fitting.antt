@@ -21,8 +21,8 @@ use Rattle.rows.specs.Lists.{below}
 use Rattle.annotations.specs.Reading.{domAt, domsOf}
 use Rattle.annotations.specs.Laws.{doms-single}
 use Rattle.definitions.specs.Records.{Name, Mark, Extension}
-use Rattle.definitions.specs.Orders.{sameName, lookUp, dotted}
-use Rattle.definitions.specs.Map.{TypeMap, Declaration, mapOf}
+use Rattle.definitions.specs.Comparisons.{sameName, lookUp, dotted}
+use Rattle.definitions.specs.Map.{TypeMap, LineType, lineMapOf}
 use Rattle.definitions.specs.Making.{declared, extensionParents, marksOf}
 use Rattle.fields.specs.FieldLaws.{length-ofNames}
 use Rattle.records.specs.MarkLaws.{length-ofMarks}
@@ -55,8 +55,8 @@ module _ (t : Table) where
   declared-places : (c : Name) → declared (tableMap t) c ≡ map (declarationAt t) (placesOf c)
   unfolding tableMap lookUp placesOf declarationAt
   declared-places c =
-      ap (filter (λ (D : Declaration). sameName (D .name) c)) (sym (map-tabulate (declarationAt t) (λ i. i) (t .count)))
-      ∙ filter-map (λ (D : Declaration). sameName (D .name) c) (declarationAt t) (upto (t .count))
+      ap (filter (λ (D : LineType). sameName (D .name) c)) (sym (map-tabulate (declarationAt t) (λ i. i) (t .count)))
+      ∙ filter-map (λ (D : LineType). sameName (D .name) c) (declarationAt t) (upto (t .count))
 
   -- the places of the classes
   abbrev classPlaces : Row → ℕ → List ℕ
@@ -65,12 +65,12 @@ module _ (t : Table) where
   marks-placed : (doms : Row) (r : ℕ) → marksOf (tableMap t) (classesOf doms r) ≡ each marksAt (classPlaces doms r)
   unfolding marksOf domsOf
   marks-placed doms r =
-      ap (each (λ c. each (λ (D : Declaration). D .marks) (declared (tableMap t) c))) (map-map (λ d. dotted d r) domAt (below (has doms) 201))
-      ∙ each-map (λ c. each (λ (D : Declaration). D .marks) (declared (tableMap t) c)) (λ k. dotted (domAt k) r) (below (has doms) 201)
+      ap (each (λ c. each (λ (D : LineType). D .marks) (declared (tableMap t) c))) (map-map (λ d. dotted d r) domAt (below (has doms) 201))
+      ∙ each-map (λ c. each (λ (D : LineType). D .marks) (declared (tableMap t) c)) (λ k. dotted (domAt k) r) (below (has doms) 201)
       ∙ each-same _ (λ k. each marksAt (placesOf (dotted (domAt k) r))) (below (has doms) 201)
       (λ k i.
-      ap (each (λ (D : Declaration). D .marks)) (declared-places (dotted (domAt k) r))
-      ∙ each-map (λ (D : Declaration). D .marks) (declarationAt t) (placesOf (dotted (domAt k) r)))
+      ap (each (λ (D : LineType). D .marks)) (declared-places (dotted (domAt k) r))
+      ∙ each-map (λ (D : LineType). D .marks) (declarationAt t) (placesOf (dotted (domAt k) r)))
       ∙ sym (each-each (λ k. placesOf (dotted (domAt k) r)) marksAt (below (has doms) 201))
 
   place-of : {c : Name} {i : ℕ} → In i (placesOf c) → (i < t .count) × (nameAt t i ≡ c)
@@ -127,7 +127,7 @@ added-few n r (e ∷ es) d h =
 
 module _ {m : TypeMap} {t : Table} (o : TableOf m t) where
   extensions-are : ofExtensions (t .extensions) ≡ m .extensions
-  unfolding tableMap bareMap mapOf
+  unfolding tableMap bareMap lineMapOf
   extensions-are = ap (λ (M : Rattle.definitions.specs.Map.Map). M .extensions) (o .map)
 
   few-parents : (e : Extension) → In e (ofExtensions (t .extensions)) → length (e .parents) ≤ 8

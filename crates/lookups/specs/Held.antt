@@ -6,7 +6,7 @@ use Rattle.lists.specs.Tests.{or-false-left, or-false-right}
 use Rattle.definitions.specs.Records.{Sheet}
 use Rattle.definitions.specs.Checks.{namesTwice, keysTwice, somethingTwice}
 use Rattle.definitions.specs.Map.{typeMapOf}
-use Rattle.laws.specs.Orders.{types-is}
+use Rattle.laws.specs.Comparisons.{types-is}
 use Rattle.types.specs.Types.{ofTypes}
 use Rattle.types.specs.Extensions.{ofExtensions}
 use Rattle.types.specs.declared.Types.{Types}

@@ -7,8 +7,8 @@ use lib.Dec.{eqb}
 use lib.ListN.{length, getD}
 use Rattle.lists.specs.Lists.{In, repeats}
 use Rattle.definitions.specs.Records.{TypeInfo, Extension}
-use Rattle.definitions.specs.Orders.{sameName}
-use Rattle.definitions.specs.Map.{TypeMap, Declaration, declarationOf}
+use Rattle.definitions.specs.Comparisons.{sameName}
+use Rattle.definitions.specs.Map.{TypeMap, LineType, lineTypeOf}
 use Rattle.types.specs.Types.{typeInfoOf, zeroType, ofTypes}
 use Rattle.types.specs.Extensions.{ofExtensions}
 use Rattle.types.specs.declared.Types.{Types}
@@ -29,8 +29,8 @@ pub record Listable (l : List TypeInfo) (es : List Extension) : Type 0 where
   pub keys : repeats (λ (e f : Extension). sameName (e .name) (f .name) && eqb (e .word) (f .word)) es ≡ false
 
 -- a type as the table has it
-abbrev pub entry : TypeInfo → Declaration
-entry T = bare (declarationOf T)
+abbrev pub entry : TypeInfo → LineType
+entry T = bare (lineTypeOf T)
 
 -- r is t with the type T at the place i
 pub record Entered (t : Table) (i : ℕ) (T : TypeInfo) (r : Table) : Type 0 where

@@ -8,7 +8,7 @@ use lib.Dec.{eqb}
 use lib.ListN.{length, getD, set}
 use lib.Seq
 use Rattle.lists.specs.Tests.{by}
-use Rattle.definitions.specs.Map.{declarationOf}
+use Rattle.definitions.specs.Map.{lineTypeOf}
 use Rattle.types.specs.Types.{typeInfoOf, zeroType}
 use Rattle.types.specs.declared.TypeInfo.{TypeInfo}
 use Rattle.types.specs.declared.Types.{Types}
@@ -35,7 +35,7 @@ stored t i x = record {
 
 pub entered : (t : Table) (i : ℕ) (x : TypeInfo) → i < length (t .firsts) → i < length (t .seconds) → i < length (t .variants) → i < length (t .virtuals)
     → i < length (t .traits) → i < length (t .marks) → Entered t i (typeInfoOf x) (stored t i x)
-unfolding declarationAt bare declarationOf typeInfoOf
+unfolding declarationAt bare lineTypeOf typeInfoOf
 entered t i x a b c d e f = record {
   resource = refl;
   count = refl;

@@ -11,7 +11,7 @@ use Rattle.rows.specs.declared.Row.{Row}
 use Rattle.rows.specs.Rows.{hasBit}
 use Rattle.rows.specs.Lists.{below, map-between}
 use Rattle.definitions.specs.Records.{Name, TypeInfo}
-use Rattle.definitions.specs.Orders.{dotted}
+use Rattle.definitions.specs.Comparisons.{dotted}
 use Rattle.definitions.specs.Map.{TypeMap}
 use Rattle.definitions.specs.Synthesis.{firstParents}
 use Rattle.dedup.specs.Reading.{namesAt}

@@ -15,8 +15,8 @@ use Rattle.lists.specs.Lexicographic.{numbers-same}
 use Rattle.lists.specs.Tabulating.{getD-tabulate, tabulate-in, map-tabulate, tabulate, places, tabulate-same}
 use Rattle.lists.specs.Places.{at-place, getD-in}
 use Rattle.definitions.specs.Records as records
-use Rattle.definitions.specs.Orders.{sameName}
-use Rattle.definitions.specs.Map.{Declaration, TypeMap, declarationOf, mapOf}
+use Rattle.definitions.specs.Comparisons.{sameName}
+use Rattle.definitions.specs.Map.{LineType, TypeMap, lineTypeOf, lineMapOf}
 use Rattle.fields.specs.FieldLaws.{length-ofNames}
 use Rattle.records.specs.Marks.{ofMarks}
 use Rattle.records.specs.MarkLaws.{length-ofMarks}
@@ -46,26 +46,26 @@ module _ (ts : Types) (es : Extensions) (w : ℕ) (o r : Table) (g : Listable (o
   unfolding ofTypes places
   type-there i h = ap (λ l. getD l i noType) (sym mt) ∙ getD-tabulate (λ k. typeInfoOf (getD (ts .items) k zeroType)) (ts .count) i noType h
 
-  read-at : (i : ℕ) → i < r .count → declarationAt r i ≡ bare (declarationOf (typeAt m i))
+  read-at : (i : ℕ) → i < r .count → declarationAt r i ≡ bare (lineTypeOf (typeAt m i))
   read-at i h =
       let l : i < ts .count = omega (arith, many) in
-      f .at i l ∙ ap (λ T. bare (declarationOf T)) (sym (type-there i l))
+      f .at i l ∙ ap (λ T. bare (lineTypeOf T)) (sym (type-there i l))
 
   read-name : (i : ℕ) → i < r .count → nameAt r i ≡ typeAt m i .name
-  unfolding declarationAt bare declarationOf
-  read-name i h = ap (λ (D : Declaration). D .name) (read-at i h)
+  unfolding declarationAt bare lineTypeOf
+  read-name i h = ap (λ (D : LineType). D .name) (read-at i h)
 
-  read-types : tabulate (declarationAt r) (r .count) ≡ map bare (map declarationOf (m .types))
+  read-types : tabulate (declarationAt r) (r .count) ≡ map bare (map lineTypeOf (m .types))
   unfolding ofTypes places
   read-types =
       ap (tabulate (declarationAt r)) many
-      ∙ tabulate-same (declarationAt r) (λ i. bare (declarationOf (typeInfoOf (getD (ts .items) i zeroType)))) (ts .count) (f .at)
-      ∙ sym (map-tabulate (λ T. bare (declarationOf T)) (λ i. typeInfoOf (getD (ts .items) i zeroType)) (ts .count))
-      ∙ sym (map-map bare declarationOf (ofTypes ts))
-      ∙ ap (λ l. map bare (map declarationOf l)) mt
+      ∙ tabulate-same (declarationAt r) (λ i. bare (lineTypeOf (typeInfoOf (getD (ts .items) i zeroType)))) (ts .count) (f .at)
+      ∙ sym (map-tabulate (λ T. bare (lineTypeOf T)) (λ i. typeInfoOf (getD (ts .items) i zeroType)) (ts .count))
+      ∙ sym (map-map bare lineTypeOf (ofTypes ts))
+      ∙ ap (λ l. map bare (map lineTypeOf l)) mt
 
-  read-map : tableMap r ≡ bareMap (mapOf m)
-  unfolding tableMap bareMap mapOf
+  read-map : tableMap r ≡ bareMap (lineMapOf m)
+  unfolding tableMap bareMap lineMapOf
   read-map =
       let a : r .resource ≡ m .resource = f .resource ∙ s ∙ mr in
       let b : ofExtensions (r .extensions) ≡ m .extensions = ap ofExtensions (f .extensions ∙ x) ∙ me in
@@ -79,9 +79,9 @@ module _ (ts : Types) (es : Extensions) (w : ℕ) (o r : Table) (g : Listable (o
       never q (at-sorted (λ (T U : records.TypeInfo). sameName (T .name) (U .name) ≡ false) d (p i (omega (arith, many, listed))) (p j (omega (arith, many, listed))) l)
 
   few-marks : (i : ℕ) → i < r .count → getD (r .marks) i zeroMarks .count ≤ 7
-  unfolding declarationAt bare declarationOf
+  unfolding declarationAt bare lineTypeOf
   few-marks i h =
-      let e : ofMarks (getD (r .marks) i zeroMarks) ≡ typeAt m i .marks = ap (λ (D : Declaration). D .marks) (read-at i h) in
+      let e : ofMarks (getD (r .marks) i zeroMarks) ≡ typeAt m i .marks = ap (λ (D : LineType). D .marks) (read-at i h) in
       let n : typeAt m i ≡ getD (ofTypes ts) i noType = ap (λ l. getD l i noType) (sym mt) in
       let b : length (typeAt m i .marks) ≤ 7 = rw n (g .marks (getD (ofTypes ts) i noType) (getD-in (ofTypes ts) noType i (omega (arith, many, length-ofTypes ts)))) in
       omega (arith, ap length e, length-ofMarks (getD (r .marks) i zeroMarks))

@@ -7,7 +7,7 @@ use lib.ListN.{getD, take}
 use Rattle.lists.specs.Lists.{keep}
 use Rattle.rows.specs.Rows.{single}
 use Rattle.definitions.specs.Records.{Item}
-use Rattle.definitions.specs.Map.{TypeMap, declarationOf, mapOf}
+use Rattle.definitions.specs.Map.{TypeMap, lineTypeOf, lineMapOf}
 use Rattle.definitions.specs.Making.{extensionLine}
 use Rattle.definitions.specs.Items.{ancestors, itemsAt}
 use Rattle.ordering.specs.Reading.{typeAt}
@@ -34,4 +34,4 @@ pub record MadeFits (t : Table) (T r : ℕ) (x : Made) : Type 0 where
 -- x is what the map m makes for its type at the place T and the word r
 pub record MadeAt (t : Table) (m : TypeMap) (T r : ℕ) (x : Made) : Type 0 where
   pub fits : MadeFits t T r x
-  pub items : itemsMade t T r x ≡ itemsAt (mapOf m) (declarationOf (typeAt m T)) (ancestors (mapOf m) (declarationOf (typeAt m T))) r
+  pub items : itemsMade t T r x ≡ itemsAt (lineMapOf m) (lineTypeOf (typeAt m T)) (ancestors (lineMapOf m) (lineTypeOf (typeAt m T))) r

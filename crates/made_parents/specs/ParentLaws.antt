@@ -16,7 +16,7 @@ use Rattle.rows.specs.Next.{First}
 use Rattle.rows.specs.NextLaws.{from-next, from-all}
 use Rattle.definitions.specs.Records.{Name}
 use Rattle.definitions.specs.Records as records
-use Rattle.definitions.specs.Orders.{sameName, dotted}
+use Rattle.definitions.specs.Comparisons.{sameName, dotted}
 use Rattle.fields.specs.Fields.{twoWords, nameOf, ofNames}
 use Rattle.types.specs.Extensions.{extensionOf, ofExtensions}
 use Rattle.types.specs.declared.Extension.{Extension}

@@ -9,7 +9,7 @@ ghost use Prim.Native.Nat.{_+_, _<_, _≤_};
 ghost use lib.Dec.{eqb};
 ghost use lib.ListN.{length};
 ghost use Rattle.definitions.specs.Making.{extensionParents};
-ghost use Rattle.definitions.specs.Orders.{sameName, dotted};
+ghost use Rattle.definitions.specs.Comparisons.{sameName, dotted};
 ghost use Rattle.fields.specs.Fields.{nameOf, ofNames};
 ghost use Rattle.making.specs.Making.{parentsOf};
 ghost use Rattle.types.specs.Extensions.{ofExtensions};

@@ -9,8 +9,8 @@ use Rattle.lists.specs.Lists.{In, any, filter}
 use Rattle.lists.specs.Tests.{by, any-of, filter-in}
 use Rattle.lists.specs.Appending.{map-map}
 use Rattle.definitions.specs.Records.{Name, Dom, Sheet, TypeInfo}
-use Rattle.definitions.specs.Orders.{dotted}
-use Rattle.definitions.specs.Map.{TypeMap, Declaration, typeMapOf, declarationOf, mapOf}
+use Rattle.definitions.specs.Comparisons.{dotted}
+use Rattle.definitions.specs.Map.{TypeMap, LineType, typeMapOf, lineTypeOf, lineMapOf}
 use Rattle.definitions.specs.Making.{classNames, createSyntheticResource}
 use Rattle.definitions.specs.Items.{hasWord, given, associateWord, parentsOf, ancestors, domsAbove, parentsAbove, ownResource, inheritedResource}
 use Rattle.line_laws.specs.Statements.{Readable}
@@ -52,16 +52,16 @@ same-below f (suc n) =
 -- ---- a making
 
 module _ (m : TypeMap) (tb : Table) (o : TableOf m tb) (t r : ℕ) (h : t < tb .count) where
-  abbrev D : Declaration
-  D = declarationOf (typeAt m t)
+  abbrev D : LineType
+  D = lineTypeOf (typeAt m t)
 
   -- ---- an own one
 
-  pub own-is : (k : ℕ) → k < 201 → created tb t r (single k) 0 ≡ ownResource (mapOf m) D r (dotted (domAt k) r)
+  pub own-is : (k : ℕ) → k < 201 → created tb t r (single k) 0 ≡ ownResource (lineMapOf m) D r (dotted (domAt k) r)
   unfolding ownResource
   own-is k l =
       created-is o t h r (single k) 0
-      ∙ ap₂ (λ (cs fs : List Name). createSyntheticResource (mapOf m) D r cs fs) (ap (λ (ds : List Dom). classNames ds r) (doms-single k l)) (own-firsts tb k r l)
+      ∙ ap₂ (λ (cs fs : List Name). createSyntheticResource (lineMapOf m) D r cs fs) (ap (λ (ds : List Dom). classNames ds r) (doms-single k l)) (own-firsts tb k r l)
 
   -- ---- the inherited one
 
@@ -74,20 +74,20 @@ module _ (m : TypeMap) (tb : Table) (o : TableOf m tb) (t r : ℕ) (h : t < tb .
       (λ k a b e. ap (λ (n : Name). dotted n r) (o .names k (omega arith)))
       ∙ ap (map (λ a. dotted (typeAt m a .name) r)) (sym (same-below (hasBit ps) (tb .count)))
 
-  module _ (doms : Row) (ps : ℕ) (As : List Declaration) (ds : domsAbove As r ≡ domsOf doms)
-      (qs : parentsAbove (mapOf m) D r ≡ map (λ a. dotted (typeAt m a .name) r) (ordering.below (hasBit ps) (tb .count)))
-      (some : length (parentsAbove (mapOf m) D r) ≡ 0 → ⊥) where
-    pub inherited-firsts : firstsOf tb doms ps r ≡ parentsAbove (mapOf m) D r
+  module _ (doms : Row) (ps : ℕ) (As : List LineType) (ds : domsAbove As r ≡ domsOf doms)
+      (qs : parentsAbove (lineMapOf m) D r ≡ map (λ a. dotted (typeAt m a .name) r) (ordering.below (hasBit ps) (tb .count)))
+      (some : length (parentsAbove (lineMapOf m) D r) ≡ 0 → ⊥) where
+    pub inherited-firsts : firstsOf tb doms ps r ≡ parentsAbove (lineMapOf m) D r
     unfolding firstsOf
     inherited-firsts =
-        let e : map (λ P. dotted P r) (namesIn tb ps) ≡ parentsAbove (mapOf m) D r = names-are ps ∙ sym qs in
+        let e : map (λ P. dotted P r) (namesIn tb ps) ≡ parentsAbove (lineMapOf m) D r = names-are ps ∙ sym qs in
         sym (firsts-inherited (namesIn tb ps) (classesOf doms r) r (λ z. some (ap length (sym e) ∙ z))) ∙ e
 
-    pub inherited-is : created tb t r doms ps ≡ inheritedResource (mapOf m) D As r
+    pub inherited-is : created tb t r doms ps ≡ inheritedResource (lineMapOf m) D As r
     unfolding inheritedResource
     inherited-is =
         created-is o t h r doms ps
-        ∙ ap₂ (λ (cs fs : List Name). createSyntheticResource (mapOf m) D r cs fs) (ap (λ (l : List Dom). classNames l r) (sym ds)) inherited-firsts
+        ∙ ap₂ (λ (cs fs : List Name). createSyntheticResource (lineMapOf m) D r cs fs) (ap (λ (l : List Dom). classNames l r) (sym ds)) inherited-firsts
 
 -- ---- an inherited word has a parent that passes it on
 
@@ -95,13 +95,13 @@ has-some : {A : Type 0} {x : A} (l : List A) → In x l → length l ≡ 0 → �
 has-some [] i e = List·Memᴰ·not-nil i
 has-some (y ∷ l) i e = absurd (omega arith)
 
-pub some-parent : (s : Sheet) → Readable s → (T : TypeInfo) (r : ℕ) → associateWord (ancestors (mapOf (typeMapOf s)) (declarationOf T)) r ≡ true
-    → length (parentsAbove (mapOf (typeMapOf s)) (declarationOf T) r) ≡ 0 → ⊥
+pub some-parent : (s : Sheet) → Readable s → (T : TypeInfo) (r : ℕ) → associateWord (ancestors (lineMapOf (typeMapOf s)) (lineTypeOf T)) r ≡ true
+    → length (parentsAbove (lineMapOf (typeMapOf s)) (lineTypeOf T) r) ≡ 0 → ⊥
 unfolding parentsAbove
 some-parent s ok T r e z =
-    let M = mapOf (typeMapOf s) in
-    let f : Declaration → Bool = λ A. hasWord (given A) r in
-    let g : Declaration → Bool = λ P. any f (P ∷ ancestors M P) in
-    let x = any-of g (parentsOf M (declarationOf T)) (sym (tests-unroll s ok T f) ∙ e) in
-    has-some (map (λ (P : Declaration). dotted (P .name) r) (filter g (parentsOf M (declarationOf T))))
-    (Memᴰ·map (λ (P : Declaration). dotted (P .name) r) (filter-in g (x .1) (x .2))) z
+    let M = lineMapOf (typeMapOf s) in
+    let f : LineType → Bool = λ A. hasWord (given A) r in
+    let g : LineType → Bool = λ P. any f (P ∷ ancestors M P) in
+    let x = any-of g (parentsOf M (lineTypeOf T)) (sym (tests-unroll s ok T f) ∙ e) in
+    has-some (map (λ (P : LineType). dotted (P .name) r) (filter g (parentsOf M (lineTypeOf T))))
+    (Memᴰ·map (λ (P : LineType). dotted (P .name) r) (filter-in g (x .1) (x .2))) z

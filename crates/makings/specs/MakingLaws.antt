@@ -9,8 +9,8 @@ use Rattle.lists.specs.Lists.{keep, filter}
 use Rattle.lists.specs.Tabulating.{tabulate, tabulate-more}
 use Rattle.lists.specs.Appending.{map-map}
 use Rattle.definitions.specs.Records.{Resource, Sheet, Item}
-use Rattle.definitions.specs.Orders.{dotted}
-use Rattle.definitions.specs.Map.{Map, typeMapOf, mapOf}
+use Rattle.definitions.specs.Comparisons.{dotted}
+use Rattle.definitions.specs.Map.{LineMap, typeMapOf, lineMapOf}
 use Rattle.definitions.specs.Items.{hasWord, associateWord, ownResource, ownClasses, domsAbove, parentsAbove, inheritedResource, itemsAt}
 use Rattle.line_laws.specs.Counts.{counts-are}
 use Rattle.types.specs.declared.Types.{Types}
@@ -73,7 +73,7 @@ module _ (s : Sheet) (ts : Types) (es : Extensions) (p : Parents) (table : List 
 
     -- 'Its first parents are P.r for each direct parent P that associates r, or has an ancestor that does, ascending by P, each once.'
     parents-here : (ps : ℕ) → Passing p passed t word ps
-        → parentsAbove (mapOf (typeMapOf s)) (declarationAt (typeMapOf s) t) word ≡ map (λ a. dotted (typeAt (typeMapOf s) a .name) word) (ordering.below (hasBit ps) (tb .count))
+        → parentsAbove (lineMapOf (typeMapOf s)) (declarationAt (typeMapOf s) t) word ≡ map (λ a. dotted (typeAt (typeMapOf s) a .name) word) (ordering.below (hasBit ps) (tb .count))
     parents-here ps g =
         parents-passing p (typeMapOf s) (h .map .reads) passed c t word ps l g
         ∙ ap (λ (n : ℕ). map (λ a. dotted (typeAt (typeMapOf s) a .name) word) (ordering.below (hasBit ps) n)) count-same
@@ -82,8 +82,8 @@ module _ (s : Sheet) (ts : Types) (es : Extensions) (p : Parents) (table : List 
         (as-asked : x .inherited ≡ associateWord (ancestorsAt s t) word)
         (doms : x .inherited ≡ true → United table (word + 1) row (p .count) (x .doms))
         (parents : x .inherited ≡ true → Passing p passed t word (x .parents)) where
-      abbrev M : Map
-      M = mapOf (typeMapOf s)
+      abbrev M : LineMap
+      M = lineMapOf (typeMapOf s)
 
       k : t < tb .count
       k = omega (arith, count-same)

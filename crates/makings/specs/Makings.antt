@@ -5,8 +5,8 @@ use mathlib.Core.Path.{_≡_}
 use Prim.Native.Nat.{ℕ, _+_, _≤_, _<_}
 use lib.ListN.{getD, take}
 use Rattle.definitions.specs.Records.{Sheet}
-use Rattle.definitions.specs.Orders.{dotted}
-use Rattle.definitions.specs.Map.{Declaration, typeMapOf, mapOf}
+use Rattle.definitions.specs.Comparisons.{dotted}
+use Rattle.definitions.specs.Map.{LineType, typeMapOf, lineMapOf}
 use Rattle.definitions.specs.Items.{associateWord, hasWord, ancestors, owned, ownClasses, wordsMade}
 use Rattle.types.specs.declared.Types.{Types}
 use Rattle.types.specs.declared.Extensions.{Extensions}
@@ -27,11 +27,11 @@ use Rattle.made.specs.Made.{MadeAt}
 use Rattle.made.specs.declared.Made.{Made}
 
 -- the proper ancestors of the type at a place
-abbrev pub ancestorsAt : Sheet → ℕ → List Declaration
-ancestorsAt s t = ancestors (mapOf (typeMapOf s)) (declarationAt (typeMapOf s) t)
+abbrev pub ancestorsAt : Sheet → ℕ → List LineType
+ancestorsAt s t = ancestors (lineMapOf (typeMapOf s)) (declarationAt (typeMapOf s) t)
 
 -- the own classes of a word by their doms, 0 for none and d + 1 for the word d, in the order of the class names
-pub record OwnDoms (D : Declaration) (word count : ℕ) (own : List ℕ) : Type 0 where
+pub record OwnDoms (D : LineType) (word count : ℕ) (own : List ℕ) : Type 0 where
   pub few : count ≤ 12
   pub small : (i : ℕ) → i < count → getD own i 0 < 201
   pub classes : map (λ k. dotted (domAt k) word) (take count own) ≡ ownClasses D word

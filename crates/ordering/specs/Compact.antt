@@ -9,7 +9,7 @@ use lib.ListN.{length, getD, take, replicate, length-append, length-map, length-
 use lib.Seq.{getD-take, getD-append-add, length-take-le, ext-getD}
 use Rattle.lists.specs.Lists.{all, repeats, each}
 use Rattle.definitions.specs.Records.{Name, TypeInfo}
-use Rattle.definitions.specs.Orders.{sameName}
+use Rattle.definitions.specs.Comparisons.{sameName}
 use Rattle.definitions.specs.Map.{TypeMap}
 use Rattle.ordering.specs.Lists.{getD-any, tab, tab-length, tab-at}
 use Rattle.ordering.specs.Reading.{Parent, parentAt, howMany, listed, noType, typeAt, placeIn, firstWord, secondWord, parentIn, isName, Reads}

@@ -13,7 +13,7 @@ use Rattle.lists.specs.Tests.{by, never, same-test, and-left, and-right, or-fal
 use Rattle.lists.specs.Appending.{any-map, all-map, map-append, map-map, null-map, any-append}
 use Rattle.lists.specs.Lexicographic.{same-numbers}
 use Rattle.definitions.specs.Records.{Name, TypeInfo}
-use Rattle.definitions.specs.Orders.{sameName, elemName, lookUp}
+use Rattle.definitions.specs.Comparisons.{sameName, elemName, lookUp}
 use Rattle.definitions.specs.Map.{TypeMap}
 use Rattle.definitions.specs.Order.{isSelf, ready, pass, passes, lastPass, inheritsSelf, hasOrder, organizeTypeMap}
 use Rattle.definitions.specs.OrderRows.{typeNamed}

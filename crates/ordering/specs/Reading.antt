@@ -7,7 +7,7 @@ use lib.Dec.{eqb, ltb}
 use lib.ListN.{length, getD, take}
 use Rattle.lists.specs.Lists.{all, repeats, placeOf}
 use Rattle.definitions.specs.Records.{Name, domain, TypeInfo}
-use Rattle.definitions.specs.Orders.{sameName}
+use Rattle.definitions.specs.Comparisons.{sameName}
 use Rattle.definitions.specs.Map.{TypeMap}
 use Rattle.definitions.specs.Packing.{nameBytes}
 use Rattle.ordering.specs.Lists.{tab, tab-length}

@@ -13,8 +13,8 @@ use Rattle.lists.specs.Members.{filter-short}
 use Rattle.lists.specs.Tabulating.{tabulate, places, length-tabulate}
 use Rattle.definitions.specs.Records.{Resource}
 use Rattle.definitions.specs.Records as records
-use Rattle.definitions.specs.Orders.{nameBefore}
-use Rattle.definitions.specs.Map.{declarationOf}
+use Rattle.definitions.specs.Comparisons.{nameBefore}
+use Rattle.definitions.specs.Map.{lineTypeOf}
 use Rattle.definitions.specs.Items.{owned, ofWord, ownClasses}
 use Rattle.line_laws.specs.Within.{WordsWithin, ResourceWithin, AnnotationWithin, TypeWithin}
 use Rattle.fields.specs.Fields.{ofNames}
@@ -115,8 +115,8 @@ theWords = 0 ∷ 199 ∷ 0 ∷ 2 ∷ 0 ∷ 3 ∷ replicate 174 0
 abbrev theDoms : List ℕ
 theDoms = 200 ∷ 0 ∷ 0 ∷ 0 ∷ 200 ∷ 0 ∷ replicate 174 0
 
-sample-resources : ownedTo theWords theDoms 6 ≡ owned (declarationOf (typeInfoOf sample))
-unfolding owned declarationOf typeInfoOf ofAnnotations places tabulate annotationOf annotationAs ofNames
+sample-resources : ownedTo theWords theDoms 6 ≡ owned (lineTypeOf (typeInfoOf sample))
+unfolding owned lineTypeOf typeInfoOf ofAnnotations places tabulate annotationOf annotationAs ofNames
 sample-resources = refl
 
 drop-most : {A : Type 0} (l : List A) (i : ℕ) → length (drop i l) ≤ length l
@@ -125,7 +125,7 @@ drop-most [] (suc i) = omega arith
 drop-most (x ∷ l) zero = omega arith
 drop-most (x ∷ l) (suc i) = omega (arith, drop-most l i)
 
-pub sample-owned : OwnedOf (declarationOf (typeInfoOf sample)) 6 theWords theDoms
+pub sample-owned : OwnedOf (lineTypeOf (typeInfoOf sample)) 6 theWords theDoms
 sample-owned =
     record {
       sound = record {

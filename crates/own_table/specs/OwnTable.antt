@@ -3,7 +3,7 @@ use mathlib.Core.List.{List}
 use mathlib.Core.Path.{_≡_}
 use Prim.Native.Nat.{ℕ, _+_, _*_, _≤_, _<_}
 use lib.ListN.{length, getD}
-use Rattle.definitions.specs.Map.{Declaration}
+use Rattle.definitions.specs.Map.{LineType}
 use Rattle.own_classes.specs.OwnClasses.{OwnedOf}
 use Rattle.own_classes.specs.declared.Owned.{Owned}
 
@@ -19,7 +19,7 @@ pub record Takes (b : List ℕ) (at n : ℕ) (r : List ℕ) : Type 0 where
   pub same : (i : ℕ) → i < n → getD r i 0 ≡ getD b (at + i) 0
 
 -- the own resources of D stand at the place a
-pub record OwnIn (own : List ℕ) (a : ℕ) (D : Declaration) : Type 0 where
+pub record OwnIn (own : List ℕ) (a : ℕ) (D : LineType) : Type 0 where
   pub words : List ℕ
   pub doms : List ℕ
   pub owned : OwnedOf D (getD own (361 * a) 0) words doms
@@ -27,11 +27,11 @@ pub record OwnIn (own : List ℕ) (a : ℕ) (D : Declaration) : Type 0 where
   pub domsThere : (i : ℕ) → i < getD own (361 * a) 0 → getD own (361 * a + 181 + i) 0 ≡ getD doms i 0
 
 -- they are put there, and those of other types stay
-pub record PutsOwn (own : List ℕ) (a : ℕ) (D : Declaration) (own′ : List ℕ) : Type 0 where
+pub record PutsOwn (own : List ℕ) (a : ℕ) (D : LineType) (own′ : List ℕ) : Type 0 where
   pub long : length own′ ≡ length own
   pub here : OwnIn own′ a D
   pub before : (j : ℕ) → j < 361 * a → getD own′ j 0 ≡ getD own j 0
 
 -- and are found there
 pub record TakesOwn (own : List ℕ) (a : ℕ) (r : Owned) : Type 0 where
-  pub of : (D : Declaration) → OwnIn own a D → OwnedOf D (r .count) (r .words) (r .doms)
+  pub of : (D : LineType) → OwnIn own a D → OwnedOf D (r .count) (r .words) (r .doms)

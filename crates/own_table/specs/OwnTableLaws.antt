@@ -10,7 +10,7 @@ use lib.Seq.{getD-set-same, getD-set-other}
 use borrow.Author.Tests.{eqb-true, eqb-false}
 use Rattle.lists.specs.Lists.{In, filter}
 use Rattle.lists.specs.Tests.{by}
-use Rattle.definitions.specs.Map.{Declaration}
+use Rattle.definitions.specs.Map.{LineType}
 use Rattle.lists.specs.Tabulating.{tabulate-same, tabulate-of}
 use Rattle.naming.specs.Naming.{numbers}
 use Rattle.annotations.specs.Reading.{domAt}
@@ -60,7 +60,7 @@ drop-of zero l h = h
 drop-of (suc i) [] h = h
 drop-of (suc i) (y ∷ l) h = List·Memᴰ·tail (drop-of i l h)
 
-pub owned-same : (D : Declaration) (n : ℕ) (words doms words′ doms′ : List ℕ) → ((i : ℕ) → i < n → getD words′ i 0 ≡ getD words i 0)
+pub owned-same : (D : LineType) (n : ℕ) (words doms words′ doms′ : List ℕ) → ((i : ℕ) → i < n → getD words′ i 0 ≡ getD words i 0)
     → ((i : ℕ) → i < n → getD doms′ i 0 ≡ getD doms i 0) → OwnedOf D n words doms → OwnedOf D n words′ doms′
 owned-same D n words doms words′ doms′ u v o =
     record {
@@ -83,7 +83,7 @@ owned-same D n words doms words′ doms′ u v o =
 -- ---- the table
 
 -- the count and both arrays are put
-pub puts-own : (own : List ℕ) (a : ℕ) (D : Declaration) (o : Owned) → OwnedOf D (o .count) (o .words) (o .doms) → (at : ℕ) → at ≡ 361 * a → at + 361 ≤ length own
+pub puts-own : (own : List ℕ) (a : ℕ) (D : LineType) (o : Owned) → OwnedOf D (o .count) (o .words) (o .doms) → (at : ℕ) → at ≡ 361 * a → at + 361 ≤ length own
     → (b c : List ℕ) → Puts (set own at (o .count)) (at + 1) (o .count) (o .words) b → Puts b (at + 181) (o .count) (o .doms) c → PutsOwn own a D c
 puts-own own a D o d at e l b c p q =
     let n = o .count in
@@ -105,7 +105,7 @@ puts-own own a D o d at e l b c p q =
     }
 
 -- those of an earlier type stay
-pub own-stays : (own own′ : List ℕ) (a b : ℕ) (D : Declaration) → b < a → ((j : ℕ) → j < 361 * a → getD own′ j 0 ≡ getD own j 0) → OwnIn own b D → OwnIn own′ b D
+pub own-stays : (own own′ : List ℕ) (a b : ℕ) (D : LineType) → b < a → ((j : ℕ) → j < 361 * a → getD own′ j 0 ≡ getD own j 0) → OwnIn own b D → OwnIn own′ b D
 own-stays own own′ a b D h s o =
     let k : getD own′ (361 * b) 0 ≡ getD own (361 * b) 0 = s (361 * b) (omega arith) in
     let m = o .owned .sound .most in

@@ -5,7 +5,7 @@ use types::TypeInfo;
 ghost use mathlib.Core.Path.{_≡_};
 ghost use Prim.Native.Nat.{_+_, _*_, _≤_, _<_};
 ghost use lib.ListN.{length, getD};
-ghost use Rattle.definitions.specs.Map.{declarationOf};
+ghost use Rattle.definitions.specs.Map.{lineTypeOf};
 ghost use Rattle.types.specs.Types.{typeInfoOf};
 ghost use Rattle.own_associates.specs.Owning.{AllFit};
 ghost use Rattle.own_table.specs.OwnTable.{Puts, Takes, PutsOwn, TakesOwn};
@@ -40,7 +40,7 @@ fn bytes_at(own: &[u8], at: usize, n: usize) -> [u8; 180]
 pub fn put_own(own: &mut [u8], a: usize, t: TypeInfo)
     requires { ⌜ AllFit t ⌝ }
     requires { ⌜ (361 * a + 361 ≤ length (now own)) × (length (now own) < 1000000) ⌝ }
-    ensures { λ _. ⌜ PutsOwn (now (own .entry)) a (declarationOf (typeInfoOf t)) (now (own .exit)) ⌝ }
+    ensures { λ _. ⌜ PutsOwn (now (own .entry)) a (lineTypeOf (typeInfoOf t)) (now (own .exit)) ⌝ }
 {
     let o = own_classes::owned_of(t);
     let n = o.count;

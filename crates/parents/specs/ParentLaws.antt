@@ -12,7 +12,7 @@ use Rattle.lists.specs.Lists.{placeOf}
 use Rattle.lists.specs.Tests.{by}
 use Rattle.lists.specs.Tabulating.{tabulate, places}
 use Rattle.definitions.specs.Records as records
-use Rattle.definitions.specs.Orders.{sameName}
+use Rattle.definitions.specs.Comparisons.{sameName}
 use Rattle.definitions.specs.Map.{TypeMap}
 use Rattle.fields.specs.Fields.{twoWords, ofNames}
 use Rattle.fields.specs.FieldLaws.{length-ofNames, same-words}

@@ -6,7 +6,7 @@ use Prim.Native.Nat.{ℕ, _≤_, _<_}
 use lib.ListN.{length, getD}
 use Rattle.lists.specs.Lists.{all, repeats}
 use Rattle.definitions.specs.Records.{TypeInfo}
-use Rattle.definitions.specs.Orders.{sameName}
+use Rattle.definitions.specs.Comparisons.{sameName}
 use Rattle.definitions.specs.Map.{TypeMap}
 use Rattle.fields.specs.Fields.{twoWords}
 use Rattle.ordering.specs.Reading.{noType, isName, Reads}

@@ -12,13 +12,13 @@ use Rattle.lists.specs.Members.{at-sorted, each-sorted, each-sorted-in, Between
 use Rattle.lists.specs.Places.{one-at}
 use Rattle.lists.specs.Strict.{which}
 use Rattle.definitions.specs.Records.{Name, Dom, Resource, Variant, associate, nestAssociate, TypeInfo, Sheet, Item}
-use Rattle.definitions.specs.Orders.{sameName, dotted}
-use Rattle.definitions.specs.Map.{typeMapOf, declarationOf}
+use Rattle.definitions.specs.Comparisons.{sameName, dotted}
+use Rattle.definitions.specs.Map.{typeMapOf, lineTypeOf}
 use Rattle.definitions.specs.Making.{isResourceVariant}
 use Rattle.definitions.specs.Items.{associateOf, owned, hasWord, associateWord, ancestors}
 use Rattle.definitions.specs.Ancestry.{Parent, Ancestor, direct, further}
 use Rattle.definitions.specs.Lines.{Gives, plainly, nested, Associates, OwnResource, HasMaking, Dotted, Passes, OwnMaking, InheritedMaking, Source, Making, ClassOf, Refused}
-use Rattle.laws.specs.Orders.{same-name, name-same, types-is}
+use Rattle.laws.specs.Comparisons.{same-name, name-same, types-is}
 use Rattle.laws.specs.Rounds.{ancestor-type}
 use Rattle.line_laws.specs.Within.{Within, ResourceWithin}
 use Rattle.line_laws.specs.Statements.{Readable, lineMap, Accepted, NoneIdentical}
@@ -35,9 +35,9 @@ use Rattle.plain.specs.Plain.{Once, Plain}
 -- ---- own resources by their places
 
 -- two own resources that are alike stand at one place
-one-source : (T : TypeInfo) → Once (owned (declarationOf T)) → {i j k l : ℕ} {u w : Resource} → OwnResource T i j u → OwnResource T k l w → SameResource u w
+one-source : (T : TypeInfo) → Once (owned (lineTypeOf T)) → {i j k l : ℕ} {u w : Resource} → OwnResource T i j u → OwnResource T k l w → SameResource u w
     → Source.own i j ≡ Source.own k l
-unfolding owned declarationOf
+unfolding owned lineTypeOf
 one-source T once {i} {j} {k} {l} {u} {w} o p e =
     let R : Resource → Resource → Type 0 = λ u w. SameResource u w → ⊥ in
     let back : SameResource w u = (sym (e .0), sym (e .1)) in
@@ -75,7 +75,7 @@ dom-back (x ∷ []) h = refl
 dom-back (x ∷ y ∷ d) h = absurd (omega arith)
 
 module _ (s : Sheet) (ok : Readable s) (in′ : Within s) (classes : List ℕ) (noted : Noted (typeMapOf s .types) classes)
-    (plain : (T : TypeInfo) → In T (s .types) → Plain classes T (associateWord (ancestors (lineMap s) (declarationOf T)))) where
+    (plain : (T : TypeInfo) → In T (s .types) → Plain classes T (associateWord (ancestors (lineMap s) (lineTypeOf T)))) where
   -- a resource type of the name is declared
   abbrev Stands : Name → Type 0
   Stands c = (D : TypeInfo) × In D (s .types) × (D .name ≡ c) × (D .variant ≡ Variant.resource)
@@ -106,11 +106,11 @@ module _ (s : Sheet) (ok : Readable s) (in′ : Within s) (classes : List ℕ) (
 
   module _ (T : TypeInfo) (t : In T (s .types)) where
     abbrev above : ℕ → Bool
-    above = associateWord (ancestors (lineMap s) (declarationOf T))
+    above = associateWord (ancestors (lineMap s) (lineTypeOf T))
 
-    made : (r : ℕ) → HasMaking s T r → (hasWord (owned (declarationOf T)) r || above r) ≡ true
+    made : (r : ℕ) → HasMaking s T r → (hasWord (owned (lineTypeOf T)) r || above r) ≡ true
     made r (HasMaking.own i j u h e) = or-left (above r) (has-word (owned-in h) e)
-    made r (HasMaking.inherited h) = or-right (hasWord (owned (declarationOf T)) r) (associated-above s ok T r .1 h)
+    made r (HasMaking.inherited h) = or-right (hasWord (owned (lineTypeOf T)) r) (associated-above s ok T r .1 h)
 
     -- T.r is not declared
     none-declared : (r : ℕ) (D : TypeInfo) → HasMaking s T r → In D (s .types) → D .name ≡ T .name ++ (r ∷ []) → ⊥
@@ -145,9 +145,9 @@ module _ (s : Sheet) (ok : Readable s) (in′ : Within s) (classes : List ℕ) (
         let u = h .from in
         let e : u .word ≡ r = ap wordOf (sym (h .makes .item) ∙ g .makes .item) in
         let P = passing (g .associated .above) (g .associated .associates) in
-        let f = first-of (g .isFirsts) (g .isParents .each (P .0 .name) .1 (P .0, P .1, P .2, refl)) in
+        let f = first-of (g .isFirsts) (g .isParents .exactly (P .0 .name) .1 (P .0, P .1, P .2, refl)) in
         let p = f .0 in
-        let a = g .isParents .each p .0 (f .1) in
+        let a = g .isParents .exactly p .0 (f .1) in
         let c : dotted (u .dom) r ≡ dotted p r =
         ap (dotted (u .dom)) (sym e)
         ∙ sym (h .isClass)

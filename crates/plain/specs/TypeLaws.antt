@@ -17,9 +17,9 @@ use Rattle.lists.specs.Tabulating.{tabulate, places, tabulate-more}
 use Rattle.definitions.specs.Records.{Name, Dom, Resource, makeList, associate, nestAssociate, alias, inherit, derive, noDerive, Sheet}
 use Rattle.definitions.specs.Records as records
 use Rattle.definitions.specs.Checks.{resourcesOf}
-use Rattle.definitions.specs.Map.{typeMapOf, declarationOf}
+use Rattle.definitions.specs.Map.{typeMapOf, lineTypeOf}
 use Rattle.definitions.specs.Items.{associateOf, owned, given, hasWord, associateWord, ancestors}
-use Rattle.laws.specs.Orders.{types-is}
+use Rattle.laws.specs.Comparisons.{types-is}
 use Rattle.line_laws.specs.Within.{TypeWithin}
 use Rattle.line_laws.specs.Statements.{lineMap, anyRefused}
 use Rattle.line_laws.specs.Refused.{accepted-is-tested}
@@ -145,8 +145,8 @@ one-word first second a e = (
 module _ (classes : List ℕ) (info : TypeInfo) (above parents : Row) (own : Own) (words : Row) (w : TypeWithin 200 (typeInfoOf info)) (ps : ParentWords (info .parents) parents)
     (p : PlainTo classes above parents (info .annotations .items) (info .annotations .count) own) (e : words ≡ either (own .words) above) where
   -- the dom of an own resource is a parent
-  no-parent : (u : Resource) → In u (owned (declarationOf (typeInfoOf info))) → has above (u .word) ≡ true → In (u .dom) (typeInfoOf info .parents) → ⊥
-  unfolding owned declarationOf typeInfoOf ofAnnotations places
+  no-parent : (u : Resource) → In u (owned (lineTypeOf (typeInfoOf info))) → has above (u .word) ≡ true → In (u .dom) (typeInfoOf info .parents) → ⊥
+  unfolding owned lineTypeOf typeInfoOf ofAnnotations places
   no-parent u i h j =
       let x = each-of associateOf (typeInfoOf info .annotations) i in
       let most = w .annotation (x .0) (x .1) .resource u (own-in (x .0) (x .2)) .dom .most in
@@ -159,7 +159,7 @@ module _ (classes : List ℕ) (info : TypeInfo) (above parents : Row) (own : Own
       by-dom (d ∷ c ∷ ds) q m l = absurd (omega (arith, ap length q))
 
   pub plain-all : (r : Bool) → Free classes (info .name .first) (info .name .second) words r → PlainType classes info above r
-  unfolding owned given declarationOf typeInfoOf ofAnnotations places
+  unfolding owned given lineTypeOf typeInfoOf ofAnnotations places
   plain-all r f =
       record {
         plain = λ t. record {
@@ -185,7 +185,7 @@ plain-alike classes T f g e p =
       declared = p .declared;
       once = p .once;
       apart = λ u i h. p .apart u i (e (u .word) ∙ h);
-      free = λ a r q h. p .free a r q (ap (λ (b : Bool). hasWord (owned (declarationOf T)) r || b) (e r) ∙ h);
+      free = λ a r q h. p .free a r q (ap (λ (b : Bool). hasWord (owned (lineTypeOf T)) r || b) (e r) ∙ h);
     }
 
 at-place : {A : Type 0} (d : A) {x : A} {i : ℕ} {l : List A} → At x i l → (i < length l) × (getD l i d ≡ x)
@@ -204,7 +204,7 @@ module _ (ts : Types) (classes table rows : List ℕ) where
   types-more n row r s u p t = record { plain = below-more n (s .plain) (row, u, p .plain t) }
 
   module _ (s : Sheet) (es : Extensions) (p : Parents) (g : Ground s ts es p classes table rows) (to : TypesTo (ts .count)) where
-    plain-at : (i : ℕ) → i < ts .count → Plain classes (typeAt (typeMapOf s) i) (associateWord (ancestors (lineMap s) (declarationOf (typeAt (typeMapOf s) i))))
+    plain-at : (i : ℕ) → i < ts .count → Plain classes (typeAt (typeMapOf s) i) (associateWord (ancestors (lineMap s) (lineTypeOf (typeAt (typeMapOf s) i))))
     plain-at i l =
         let h = g .held in
         let m = typeMapOf s in
@@ -212,15 +212,15 @@ module _ (ts : Types) (classes table rows : List ℕ) where
         let c : ts .count ≡ p .count = sym (count-parents s ts es p h) in
         let k : i < p .count = omega (arith, c) in
         let bits = inherited-are p m (h .reads) table (g .gives) i (getD rows i 0) (g .above .right i k) (x .0) (subst (λ (n : ℕ). United table 0 (getD rows i 0) n (x .0)) c (x .1)) in
-        plain-alike classes (typeAt m i) (has (x .0)) (associateWord (ancestors (lineMap s) (declarationOf (typeAt m i)))) bits
+        plain-alike classes (typeAt m i) (has (x .0)) (associateWord (ancestors (lineMap s) (lineTypeOf (typeAt m i)))) bits
         (subst (λ (T : records.TypeInfo). Plain classes T (has (x .0))) (type-at s ts es p h i l) (x .2))
 
-    plain-type : (T : records.TypeInfo) → In T (s .types) → Plain classes T (associateWord (ancestors (lineMap s) (declarationOf T)))
+    plain-type : (T : records.TypeInfo) → In T (s .types) → Plain classes T (associateWord (ancestors (lineMap s) (lineTypeOf T)))
     plain-type T t =
         let x = in-at (types-is s T .1 t) in
         let y = at-place noType (x .1) in
         let l : x .0 < ts .count = omega (arith, y .0, count-types s ts es p (g .held)) in
-        subst (λ (X : records.TypeInfo). Plain classes X (associateWord (ancestors (lineMap s) (declarationOf X)))) (y .1) (plain-at (x .0) l)
+        subst (λ (X : records.TypeInfo). Plain classes X (associateWord (ancestors (lineMap s) (lineTypeOf X)))) (y .1) (plain-at (x .0) l)
 
     none-refused : anyRefused (lineMap s) ≡ false
     none-refused =

@@ -10,7 +10,7 @@ use Rattle.lists.specs.Tests.{cons-elim}
 use Rattle.definitions.specs.Bits.{odd, toBits, bitsOf, num, packTo, pack}
 use Rattle.definitions.specs.Parse.{done, fieldOnto, allowed, repeatOnto, counted}
 use Rattle.definitions.specs.Records.{Resource, TypeInfo, Extension, makeList, associate, nestAssociate, alias, inherit, derive, noDerive, domain, resource, other, makelistMark, deriveMark, Sheet}
-use Rattle.definitions.specs.Orders.{bytesBefore}
+use Rattle.definitions.specs.Comparisons.{bytesBefore}
 use Rattle.definitions.specs.Reading.{isWordByte, word, wordField, wordIfFlag, name, associated, associatedList, kinds, annotation, mark, variant, typeInfo, extension, sheet}
 use Rattle.definitions.specs.Checks.{resourceBytes, selfBytes, badWords, namesTwice, keysTwice, wordsTwice, sameAnnotation, annotationsTwice, somethingTwice}
 use Rattle.definitions.specs.Legal.{lower, LegalWord, Legal}

@@ -9,7 +9,7 @@ use lib.Dec.{eqb}
 use lib.ListN.{take}
 use Rattle.lists.specs.Lists.{At, here, later, any, repeats}
 use Rattle.lists.specs.Tests.{by, or-false-left, or-false-right, any-not, at-in}
-use Rattle.definitions.specs.Answer.{Input, Refusal, refuse, accept, firstRefusal}
+use Rattle.definitions.specs.Answer.{Input, Refusal, reject, accept, firstRefusal}
 use Rattle.laws.specs.Alike.{first-passed}
 use Rattle.reading_laws.specs.Statements.{NoneHolds}
 
@@ -18,7 +18,7 @@ abbrev pub NoneNumbered : ℕ → List Refusal → Type 0
 NoneNumbered n l = any (λ (q : Refusal). eqb (q .number) n) l ≡ false
 
 pub first-holds : (i : Input) (r : Refusal) (l : List Refusal) → r .holds tt ≡ true → firstRefusal i (r ∷ l) .answer .number ≡ r .number
-unfolding firstRefusal refuse
+unfolding firstRefusal reject
 first-holds i r l e = ap (λ o. o .answer .number) (Rattle.laws.specs.Alike.first-holds i r l e)
 
 -- those that do not hold are passed

@@ -12,10 +12,10 @@ use Rattle.lists.specs.Sorting.{sorted-imp, repeats-not, ascends-sorted, sorted
 use Rattle.lists.specs.Lexicographic.{same-self, same-true, same-numbers, numbers-same}
 use Rattle.lists.specs.Strict.{number-strict}
 use Rattle.definitions.specs.Records.{Name, Resource, makeList, associate, nestAssociate, alias, inherit, derive, noDerive, Annotation, TypeInfo, Extension, Sheet}
-use Rattle.definitions.specs.Orders.{sameName, bytesBefore}
+use Rattle.definitions.specs.Comparisons.{sameName, bytesBefore}
 use Rattle.definitions.specs.Checks.{badFill, resourceBytes, selfBytes, badWords, namesTwice, keysTwice, wordsTwice, annotationsTwice, somethingTwice, resourcesOf, kindOf, contentOf, sameAnnotation}
 use Rattle.definitions.specs.Legal.{Every, wordsOf, SameWords, Equal, twoMakeList, twoAssociate, twoNestAssociate, twoAlias, twoInherit, twoDerive, twoNoDerive, GoodWords, NothingTwice}
-use Rattle.laws.specs.Orders.{bytes-strict}
+use Rattle.laws.specs.Comparisons.{bytes-strict}
 use Rattle.reading_laws.specs.Statements.{FillExactly, WordsExactly, TwiceExactly}
 
 -- ---- lists

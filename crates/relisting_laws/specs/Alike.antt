@@ -10,9 +10,9 @@ use Rattle.definitions.specs.Parse.{Parsed}
 use Rattle.definitions.specs.Map.{TypeMap, typeMapOf}
 use Rattle.definitions.specs.Order.{hasOrder}
 use Rattle.definitions.specs.Synthesis.{synthesis}
-use Rattle.definitions.specs.Answer.{Call, schedule, order, Input, sheetOf, synthesisRows, mapIn}
+use Rattle.definitions.specs.Answer.{Call, schedule, order, Input, sheetOf, synthesisRows, typeMapIn}
 use Rattle.definitions.specs.Relisted.{Holds, RelistedInputs}
-use Rattle.laws.specs.Orders.{names-once}
+use Rattle.laws.specs.Comparisons.{names-once}
 use Rattle.laws.specs.Relisting.{relisted-map, relisted-order}
 use Rattle.laws.specs.Alike.{alike, alike-bytes}
 use Rattle.line_laws.specs.Statements.{lineMap, anyRefused}
@@ -24,8 +24,8 @@ use Rattle.relisting_laws.specs.Statements.{AnswersAlike, ListingsEqual}
 ordered : {bytes : List ℕ} {s : Sheet} → Holds bytes s → hasOrder (typeMapOf s) ≡ true → Ordered s
 ordered h o = record { readable = record { words = h .words; once = h .once }; order = o }
 
-map-read : (i : Input) {s : Sheet} → Holds (i .sheet) s → mapIn i ≡ typeMapOf s
-unfolding mapIn
+map-read : (i : Input) {s : Sheet} → Holds (i .sheet) s → typeMapIn i ≡ typeMapOf s
+unfolding typeMapIn
 map-read i h = ap (λ (p : Parsed Sheet). typeMapOf (sheetOf p)) (h .read)
 
 -- no row of the one exactly if none of the other
@@ -41,7 +41,7 @@ calls-alike schedule m n e = e
 calls-alike order m n e = refl
 
 module _ (i j : Input) (h : RelistedInputs i j) where
-  rows : hasOrder (mapIn i) ≡ true → null (synthesisRows (i .call) (mapIn i)) ≡ null (synthesisRows (j .call) (mapIn j))
+  rows : hasOrder (typeMapIn i) ≡ true → null (synthesisRows (i .call) (typeMapIn i)) ≡ null (synthesisRows (j .call) (typeMapIn j))
   rows o =
       let a = map-read i (h .left) in
       let b = map-read j (h .right) in

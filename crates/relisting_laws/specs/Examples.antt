@@ -9,14 +9,14 @@ use lib.ListN.{take}
 use Rattle.lists.specs.Lists.{all}
 use Rattle.lists.specs.Tests.{all-in}
 use Rattle.definitions.specs.Records.{Name, associate, nestAssociate, Annotation, Variant, domain, resource, TypeInfo, Sheet}
-use Rattle.definitions.specs.Orders.{elemName}
+use Rattle.definitions.specs.Comparisons.{elemName}
 use Rattle.definitions.specs.Bits.{bitsOf}
 use Rattle.definitions.specs.Reading.{sheet}
 use Rattle.definitions.specs.Checks.{resourceBytes, selfBytes}
 use Rattle.definitions.specs.Answer.{Call, schedule, order, Input, Answer, standard, restOf, outcome}
 use Rattle.definitions.specs.Relisted.{SameButParents, end, and, Relisted, Holds, RelistedInputs, Alike}
 use Rattle.definitions.specs.Cases.{hex, lent, run}
-use Rattle.laws.specs.Orders.{elem-of}
+use Rattle.laws.specs.Comparisons.{elem-of}
 use Rattle.relisting_laws.specs.Alike.{answers-alike, listings-equal}
 
 -- ---- types and inputs

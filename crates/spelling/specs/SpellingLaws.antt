@@ -9,7 +9,7 @@ use lib.ListN.{getD, drop}
 use Rattle.lists.specs.Lists.{any, sameList, listBefore, ascends, placeOf}
 use Rattle.lists.specs.Tabulating.{getD-places}
 use Rattle.lists.specs.Places.{same-step, before-step, ascends-step, place-le, place-none}
-use Rattle.definitions.specs.Orders.{bytesBefore}
+use Rattle.definitions.specs.Comparisons.{bytesBefore}
 use Rattle.definitions.specs.Checks.{resourceBytes, selfBytes, badWords}
 use Rattle.definitions.specs.Map.{numberOf}
 use Rattle.words.specs.Words.{wordOf, zeroWord, ofWords}

@@ -7,7 +7,7 @@ ghost use Prim.Native.Nat.{_+_, _≤_, _<_};
 ghost use lib.Dec.{eqb, leb};
 ghost use lib.ListN.{getD};
 ghost use Rattle.lists.specs.Lists.{sameList, ascends, placeOf};
-ghost use Rattle.definitions.specs.Orders.{bytesBefore};
+ghost use Rattle.definitions.specs.Comparisons.{bytesBefore};
 ghost use Rattle.definitions.specs.Checks.{resourceBytes, selfBytes};
 ghost use Rattle.words.specs.Words.{wordOf, ofWords};
 ghost use Rattle.spelling.specs.Spelling.{Spells};

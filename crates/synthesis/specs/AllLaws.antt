@@ -11,7 +11,7 @@ use Rattle.lists.specs.Lists.{any}
 use Rattle.lists.specs.Tests.{by, never, or-elim}
 use Rattle.lists.specs.Appending.{any-append}
 use Rattle.emitting.specs.Emitting as emitting
-use Rattle.definitions.specs.Orders.{sameName}
+use Rattle.definitions.specs.Comparisons.{sameName}
 use Rattle.definitions.specs.Map.{TypeMap, typeMapOf}
 use Rattle.types.specs.declared.Types.{Types}
 use Rattle.rows.specs.RowLaws.{bit-none}

@@ -18,7 +18,7 @@ use Rattle.rows.specs.Lists.{between-none}
 use Rattle.definitions.specs.Records.{Resource, AssociatedResource, makeList, associate, nestAssociate, alias, inherit, derive, noDerive, TypeInfo}
 use Rattle.definitions.specs.Records as records
 use Rattle.definitions.specs.Checks.{resourcesOf}
-use Rattle.definitions.specs.Orders.{dotted}
+use Rattle.definitions.specs.Comparisons.{dotted}
 use Rattle.definitions.specs.Map.{TypeMap}
 use Rattle.definitions.specs.Annotations as definitions
 use Rattle.definitions.specs.Inherited.{ownAssociates}

@@ -11,7 +11,7 @@ use Rattle.lists.specs.Lists.{all, null}
 use Rattle.lists.specs.Tests.{by, or-false-left, or-false-right, eqb-flip}
 use Rattle.lists.specs.Lexicographic.{numbers-same}
 use Rattle.definitions.specs.Records.{Name, TypeInfo}
-use Rattle.definitions.specs.Orders.{sameName}
+use Rattle.definitions.specs.Comparisons.{sameName}
 use Rattle.definitions.specs.Map.{TypeMap}
 use Rattle.definitions.specs.Inherited.{InheritedAnnotation}
 use Rattle.definitions.specs.Synthesis.{listedParents, interpretType}

@@ -10,7 +10,7 @@ use Rattle.lists.specs.Tests.{by}
 use Rattle.lists.specs.Tabulating.{map-tabulate}
 use Rattle.lists.specs.Appending.{map-map}
 use Rattle.definitions.specs.Records.{Name, TypeInfo, Sheet}
-use Rattle.definitions.specs.Map.{TypeMap, Declaration, Map, declarationOf, mapOf, typeMapOf}
+use Rattle.definitions.specs.Map.{TypeMap, LineType, LineMap, lineTypeOf, lineMapOf, typeMapOf}
 use Rattle.definitions.specs.Inherited.{InheritedAnnotation, dedup}
 use Rattle.definitions.specs.Synthesis as definitions
 use Rattle.definitions.specs.Synthesis.{listedParents, interpretType, ownEntries, interpretAll}
@@ -102,19 +102,19 @@ module _ (p : Parents) (ts : Types) (st : List ℕ) (t : ℕ) (f : Flags) (after
 -- ---- a table is read as its map
 
 type-names : (m : TypeMap) (t : Table) → TableOf m t → typeNames t ≡ namesOf m
-unfolding typeNames tableMap bareMap mapOf bare declarationOf declarationAt
+unfolding typeNames tableMap bareMap lineMapOf bare lineTypeOf declarationAt
 type-names m t o =
-    sym (map-tabulate (λ (D : Declaration). D .name) (declarationAt t) (t .count))
-    ∙ ap (λ (M : Map). map (λ (D : Declaration). D .name) (M .types)) (o .map)
-    ∙ map-map (λ (D : Declaration). D .name) bare (map declarationOf (m .types))
-    ∙ map-map (λ (D : Declaration). bare D .name) declarationOf (m .types)
+    sym (map-tabulate (λ (D : LineType). D .name) (declarationAt t) (t .count))
+    ∙ ap (λ (M : LineMap). map (λ (D : LineType). D .name) (M .types)) (o .map)
+    ∙ map-map (λ (D : LineType). D .name) bare (map lineTypeOf (m .types))
+    ∙ map-map (λ (D : LineType). bare D .name) lineTypeOf (m .types)
 
 pub interpreted-type : (m : TypeMap) (t : Table) → TableOf m t → (T : ℕ) → T < t .count → (x : held.TypeInfo) (o : OwnAssociates) (h : Inherited) (got : List InheritedAnnotation)
     → OwnOf x o → typeInfoOf x ≡ typeAt m T → inheritedOf (namesOf m) h ≡ dedup got → interpretedAt t T o h ≡ interpretType m (typeAt m T) got
 unfolding interpretedAt interpretType
 interpreted-type m t z T l x o h got w e r =
     interpreted-is z T l _ []
-    ∙ ap₂ (λ (a b : List InheritedAnnotation). interpretAll (mapOf m) (declarationOf (typeAt m T)) (a ++ b) [])
+    ∙ ap₂ (λ (a b : List InheritedAnnotation). interpretAll (lineMapOf m) (lineTypeOf (typeAt m T)) (a ++ b) [])
     (own-entries x o w ∙ ap ownEntries e)
     (ap (λ (ns : List Name). inheritedOf ns h) (type-names m t z) ∙ r)
 

@@ -10,10 +10,10 @@ use lib.ListN.{length}
 use Rattle.lists.specs.Lists.{In, Sorted, setOf}
 use Rattle.lists.specs.Tests.{by, never, not-so, same-test, cons-elim, filter-all}
 use Rattle.definitions.specs.Records.{Name, Dom, AssociatedResource}
-use Rattle.definitions.specs.Orders.{nameBefore, domBefore}
-use Rattle.definitions.specs.Annotations.{hasWord, domsIn, united, shared, less}
+use Rattle.definitions.specs.Comparisons.{nameBefore, domBefore}
+use Rattle.definitions.specs.Annotations.{hasAssociatedWord, domsIn, united, shared, less}
 use Rattle.definitions.specs.Inherited.{InheritedAnnotation, toList, dedup}
-use Rattle.laws.specs.Orders.{name-strict, dom-strict}
+use Rattle.laws.specs.Comparisons.{name-strict, dom-strict}
 use Rattle.lists.specs.Members.{filter-none}
 use Rattle.lists.specs.Appending.{map-self, map-map, map-append}
 use Rattle.synthesis_laws.specs.Statements.{wordsGiven, MergedAgain}
@@ -24,22 +24,22 @@ use Rattle.synthesis_laws.specs.Dedup.{entryOf, entry-back, entry-ascend
 -- ---- of each entry a set of words has all or none
 
 abbrev Uniform : (ℕ → Bool) → Entry → Type 0
-Uniform p e = (r q : ℕ) → hasWord (e .uses) r ≡ true → hasWord (e .uses) q ≡ true → p r ≡ p q
+Uniform p e = (r q : ℕ) → hasAssociatedWord (e .uses) r ≡ true → hasAssociatedWord (e .uses) q ≡ true → p r ≡ p q
 
-uniform-part : (p : ℕ → Bool) (e x : Entry) → ((r : ℕ) → hasWord (x .uses) r ≡ true → hasWord (e .uses) r ≡ true) → Uniform p e → Uniform p x
+uniform-part : (p : ℕ → Bool) (e x : Entry) → ((r : ℕ) → hasAssociatedWord (x .uses) r ≡ true → hasAssociatedWord (e .uses) r ≡ true) → Uniform p e → Uniform p x
 uniform-part p e x h u r q v w = u r q (h r v) (h q w)
 
-uniform-true : (p : ℕ → Bool) (e : Entry) → ((r : ℕ) → hasWord (e .uses) r ≡ true → p r ≡ true) → Uniform p e
+uniform-true : (p : ℕ → Bool) (e : Entry) → ((r : ℕ) → hasAssociatedWord (e .uses) r ≡ true → p r ≡ true) → Uniform p e
 uniform-true p e h r q v w = h r v ∙ sym (h q w)
 
-uniform-false : (p : ℕ → Bool) (e : Entry) → ((r : ℕ) → hasWord (e .uses) r ≡ true → p r ≡ true → ⊥) → Uniform p e
+uniform-false : (p : ℕ → Bool) (e : Entry) → ((r : ℕ) → hasAssociatedWord (e .uses) r ≡ true → p r ≡ true → ⊥) → Uniform p e
 uniform-false p e h r q v w = not-so (h r v) ∙ sym (not-so (h q w))
 
 module _ (p : ℕ → Bool) where
-  rest-in : (e n : Entry) {x : Entry} → In x (toList (restOf e n)) → (r : ℕ) → hasWord (x .uses) r ≡ true → (hasWord (e .uses) r ≡ true) × (hasWord (n .uses) r ≡ false)
+  rest-in : (e n : Entry) {x : Entry} → In x (toList (restOf e n)) → (r : ℕ) → hasAssociatedWord (x .uses) r ≡ true → (hasAssociatedWord (e .uses) r ≡ true) × (hasAssociatedWord (n .uses) r ≡ false)
   rest-in e n {x} i r w = less-says e n r word .0 (unless-of (less (e .uses) (n .uses)) (e .parents) r word (record { entry = x; listed = i; says = w }))
 
-  common-in : (e n : Entry) {x : Entry} → In x (toList (commonOf e n)) → (r : ℕ) → hasWord (x .uses) r ≡ true → (hasWord (e .uses) r ≡ true) × (hasWord (n .uses) r ≡ true)
+  common-in : (e n : Entry) {x : Entry} → In x (toList (commonOf e n)) → (r : ℕ) → hasAssociatedWord (x .uses) r ≡ true → (hasAssociatedWord (e .uses) r ≡ true) × (hasAssociatedWord (n .uses) r ≡ true)
   common-in e n {x} i r w =
       let y = shared-says e n r word .0 (unless-of (shared (e .uses) (n .uses)) (setOf nameBefore (e .parents ++ n .parents)) r word (record { entry = x; listed = i; says = w })) in
       (y .1, y .2)
@@ -62,14 +62,14 @@ module _ (p : ℕ → Bool) where
       let a = less-says n e r word .0 (unless-of (less (n .uses) (e .uses)) (n .parents) r word h) in
       let b = c r t (record { entry = n; listed = List·Memᴰ·head refl; says = a .0 }) in
       cons-elim (b .listed)
-      (λ q. never (subst (λ (y : Entry). hasWord (y .uses) r ≡ true) q (b .says)) (a .1))
+      (λ q. never (subst (λ (y : Entry). hasAssociatedWord (y .uses) r ≡ true) q (b .says)) (a .1))
       (λ m. record { entry = b .entry; listed = m; says = b .says })) x k)
       (List·Memᴰ·append-cases (toList (commonOf e n)) j))
       (List·Memᴰ·append-cases (toList (restOf e n)) i)
 
   -- the newcomer's own words
   one-new : (l : List Entry) (o : Option Entry) → Sorted NoWordShared l → ((r : ℕ) → SaysIn (toList o) r word → p r ≡ true)
-      → ((x : Entry) → In x l → (r : ℕ) → hasWord (x .uses) r ≡ true → p r ≡ true → SaysIn (toList o) r word) → (x : Entry) → In x (mergeOne l o) → Uniform p x
+      → ((x : Entry) → In x l → (r : ℕ) → hasAssociatedWord (x .uses) r ≡ true → p r ≡ true → SaysIn (toList o) r word) → (x : Entry) → In x (mergeOne l o) → Uniform p x
   unfolding mergeOne
   one-new [] none s a b x i = absurd (List·Memᴰ·not-nil i)
   one-new [] (some n) s a b x i = uniform-true p x (λ r w. a r (record { entry = x; listed = i; says = w }))
@@ -91,8 +91,8 @@ module _ (p : ℕ → Bool) where
       (List·Memᴰ·append-cases (toList (commonOf e n)) j))
       (List·Memᴰ·append-cases (toList (restOf e n)) i)
     where
-      has : (r : ℕ) → SaysIn (n ∷ []) r word → hasWord (n .uses) r ≡ true
-      has r h = cons-elim (h .listed) (λ q. subst (λ (y : Entry). hasWord (y .uses) r ≡ true) q (h .says)) (λ m. absurd (List·Memᴰ·not-nil m))
+      has : (r : ℕ) → SaysIn (n ∷ []) r word → hasAssociatedWord (n .uses) r ≡ true
+      has r h = cons-elim (h .listed) (λ q. subst (λ (y : Entry). hasAssociatedWord (y .uses) r ≡ true) q (h .says)) (λ m. absurd (List·Memᴰ·not-nil m))
 
   onto-old : (out l : List Entry) → ((e : Entry) → In e out → Uniform p e) → ((r : ℕ) → p r ≡ true → SaysIn out r word) → (x : Entry) → In x (mergeOnto out l) → Uniform p x
   unfolding mergeOnto
@@ -100,16 +100,16 @@ module _ (p : ℕ → Bool) where
   onto-old out (n ∷ l) u c x i =
       onto-old (mergeOne out (some n)) l (one-old out (some n) u (λ r t h. c r t)) (λ r t. one-in out (some n) r word (inl (c r t))) x i
 
-onto-uniform : (out l : List Entry) → Sorted NoWordShared out → {n : Entry} → In n l → (x : Entry) → In x (mergeOnto out l) → Uniform (hasWord (n .uses)) x
+onto-uniform : (out l : List Entry) → Sorted NoWordShared out → {n : Entry} → In n l → (x : Entry) → In x (mergeOnto out l) → Uniform (hasAssociatedWord (n .uses)) x
 unfolding mergeOnto
 onto-uniform out [] s j x i = absurd (List·Memᴰ·not-nil j)
 onto-uniform out (h ∷ l) s {n} j x i =
     cons-elim j
     (λ q.
-    subst (λ (y : Entry). Uniform (hasWord (y .uses)) x) (sym q)
-    (onto-old (hasWord (h .uses)) (mergeOne out (some h)) l
-    (one-new (hasWord (h .uses)) out (some h) s
-    (λ r y. cons-elim (y .listed) (λ q. subst (λ (y : Entry). hasWord (y .uses) r ≡ true) q (y .says)) (λ m. absurd (List·Memᴰ·not-nil m)))
+    subst (λ (y : Entry). Uniform (hasAssociatedWord (y .uses)) x) (sym q)
+    (onto-old (hasAssociatedWord (h .uses)) (mergeOne out (some h)) l
+    (one-new (hasAssociatedWord (h .uses)) out (some h) s
+    (λ r y. cons-elim (y .listed) (λ q. subst (λ (y : Entry). hasAssociatedWord (y .uses) r ≡ true) q (y .says)) (λ m. absurd (List·Memᴰ·not-nil m)))
     (λ y m r w t. record { entry = h; listed = List·Memᴰ·head refl; says = t }))
     (λ r t. one-in out (some h) r word (inr (record { entry = h; listed = List·Memᴰ·head refl; says = t }))) x i))
     (λ k. onto-uniform (mergeOne out (some h)) l (one-apart out (some h) s) k x i)
@@ -118,27 +118,27 @@ onto-uniform out (h ∷ l) s {n} j x i =
 
 -- it has all or none of an entry's words, and what it says of them is said there
 record Absorbed (n e : Entry) : Type 0 where
-  uniform : Uniform (hasWord (n .uses)) e
-  richer : (r : ℕ) → hasWord (e .uses) r ≡ true → (d : Dom) → GivesDom (n .uses) r d → GivesDom (e .uses) r d
-  parents : (r : ℕ) → hasWord (e .uses) r ≡ true → hasWord (n .uses) r ≡ true → (P : Name) → In P (n .parents) → In P (e .parents)
+  uniform : Uniform (hasAssociatedWord (n .uses)) e
+  richer : (r : ℕ) → hasAssociatedWord (e .uses) r ≡ true → (d : Dom) → GivesDom (n .uses) r d → GivesDom (e .uses) r d
+  parents : (r : ℕ) → hasAssociatedWord (e .uses) r ≡ true → hasAssociatedWord (n .uses) r ≡ true → (P : Name) → In P (n .parents) → In P (e .parents)
 
 -- none of its words
-rest-whole : (e n : Entry) → ((r : ℕ) → hasWord (e .uses) r ≡ true → hasWord (n .uses) r ≡ false) → less (e .uses) (n .uses) ≡ e .uses
+rest-whole : (e n : Entry) → ((r : ℕ) → hasAssociatedWord (e .uses) r ≡ true → hasAssociatedWord (n .uses) r ≡ false) → less (e .uses) (n .uses) ≡ e .uses
 unfolding less
-rest-whole e n h = filter-all (λ (u : AssociatedResource). not (hasWord (n .uses) (u .word))) (e .uses) (λ u i. ap not (h (u .word) (has-in i refl)))
+rest-whole e n h = filter-all (λ (u : AssociatedResource). not (hasAssociatedWord (n .uses) (u .word))) (e .uses) (λ u i. ap not (h (u .word) (has-in i refl)))
 
-common-none : (e n : Entry) → ((r : ℕ) → hasWord (e .uses) r ≡ true → hasWord (n .uses) r ≡ false) → shared (e .uses) (n .uses) ≡ []
+common-none : (e n : Entry) → ((r : ℕ) → hasAssociatedWord (e .uses) r ≡ true → hasAssociatedWord (n .uses) r ≡ false) → shared (e .uses) (n .uses) ≡ []
 unfolding shared
-common-none e n h = ap (map (united (n .uses))) (filter-none (λ (u : AssociatedResource). hasWord (n .uses) (u .word)) (e .uses) (λ u i. h (u .word) (has-in i refl)))
+common-none e n h = ap (map (united (n .uses))) (filter-none (λ (u : AssociatedResource). hasAssociatedWord (n .uses) (u .word)) (e .uses) (λ u i. h (u .word) (has-in i refl)))
 
 -- all of them
-rest-none : (e n : Entry) → ((r : ℕ) → hasWord (e .uses) r ≡ true → hasWord (n .uses) r ≡ true) → less (e .uses) (n .uses) ≡ []
+rest-none : (e n : Entry) → ((r : ℕ) → hasAssociatedWord (e .uses) r ≡ true → hasAssociatedWord (n .uses) r ≡ true) → less (e .uses) (n .uses) ≡ []
 unfolding less
-rest-none e n h = filter-none (λ (u : AssociatedResource). not (hasWord (n .uses) (u .word))) (e .uses) (λ u i. ap not (h (u .word) (has-in i refl)))
+rest-none e n h = filter-none (λ (u : AssociatedResource). not (hasAssociatedWord (n .uses) (u .word))) (e .uses) (λ u i. ap not (h (u .word) (has-in i refl)))
 
 united-self : (e n : Entry) → Ascending e → Absorbed n e → (u : AssociatedResource) → In u (e .uses) → united (n .uses) u ≡ u
 united-self e n a b u i =
-    let w : hasWord (e .uses) (u .word) ≡ true = has-in i refl in
+    let w : hasAssociatedWord (e .uses) (u .word) ≡ true = has-in i refl in
     let q : u .doms ≡ setOf domBefore (u .doms ++ domsIn (n .uses) (u .word)) =
     ascending-is dom-strict (u .doms) (u .doms ++ domsIn (n .uses) (u .word)) (a .doms u i)
     (λ d. (
@@ -150,13 +150,13 @@ united-self e n a b u i =
     )) in
     λ k. record { word = u .word; doms = sym q k }
 
-common-whole : (e n : Entry) → Ascending e → Absorbed n e → ((r : ℕ) → hasWord (e .uses) r ≡ true → hasWord (n .uses) r ≡ true) → shared (e .uses) (n .uses) ≡ e .uses
+common-whole : (e n : Entry) → Ascending e → Absorbed n e → ((r : ℕ) → hasAssociatedWord (e .uses) r ≡ true → hasAssociatedWord (n .uses) r ≡ true) → shared (e .uses) (n .uses) ≡ e .uses
 unfolding shared
 common-whole e n a b h =
-    ap (map (united (n .uses))) (filter-all (λ (u : AssociatedResource). hasWord (n .uses) (u .word)) (e .uses) (λ u i. h (u .word) (has-in i refl)))
+    ap (map (united (n .uses))) (filter-all (λ (u : AssociatedResource). hasAssociatedWord (n .uses) (u .word)) (e .uses) (λ u i. h (u .word) (has-in i refl)))
     ∙ map-self (united (n .uses)) (e .uses) (united-self e n a b)
 
-parents-whole : (e n : Entry) → Ascending e → Absorbed n e → (r : ℕ) → hasWord (e .uses) r ≡ true → hasWord (n .uses) r ≡ true
+parents-whole : (e n : Entry) → Ascending e → Absorbed n e → (r : ℕ) → hasAssociatedWord (e .uses) r ≡ true → hasAssociatedWord (n .uses) r ≡ true
     → setOf nameBefore (e .parents ++ n .parents) ≡ e .parents
 parents-whole e n a b r v w =
     sym (ascending-is name-strict (e .parents) (e .parents ++ n .parents) (a .parents)
@@ -170,21 +170,21 @@ unless-some (u ∷ us) ps i = refl
 head-same : (e n : Entry) → Ascending e → Full e → Absorbed n e → (t : List Entry) → toList (restOf e n) ++ (toList (commonOf e n) ++ t) ≡ e ∷ t
 head-same e n a f b t =
     let r = f .0 .word in
-    let v : hasWord (e .uses) r ≡ true = has-in (f .1) refl in
-    by (hasWord (n .uses) r)
+    let v : hasAssociatedWord (e .uses) r ≡ true = has-in (f .1) refl in
+    by (hasAssociatedWord (n .uses) r)
     (λ w.
-    let h : (q : ℕ) → hasWord (e .uses) q ≡ true → hasWord (n .uses) q ≡ true = λ q x. b .uniform q r x v ∙ w in
+    let h : (q : ℕ) → hasAssociatedWord (e .uses) q ≡ true → hasAssociatedWord (n .uses) q ≡ true = λ q x. b .uniform q r x v ∙ w in
     ap₂ (λ x y. x ++ (y ++ t)) (ap (λ us. toList (unlessNone us (e .parents))) (rest-none e n h))
     (ap₂ (λ us ps. toList (unlessNone us ps)) (common-whole e n a b h) (parents-whole e n a b r v w) ∙ unless-some (e .uses) (e .parents) (f .1)))
     (λ w.
-    let h : (q : ℕ) → hasWord (e .uses) q ≡ true → hasWord (n .uses) q ≡ false = λ q x. b .uniform q r x v ∙ w in
+    let h : (q : ℕ) → hasAssociatedWord (e .uses) q ≡ true → hasAssociatedWord (n .uses) q ≡ false = λ q x. b .uniform q r x v ∙ w in
     ap₂ (λ x y. x ++ (y ++ t)) (ap (λ us. toList (unlessNone us (e .parents))) (rest-whole e n h) ∙ unless-some (e .uses) (e .parents) (f .1))
     (ap (λ us. toList (unlessNone us (setOf nameBefore (e .parents ++ n .parents)))) (common-none e n h)))
 
 -- without the words of e the same holds of the other entries
-absorbed-rest : (e n x : Entry) → ((r : ℕ) → hasWord (e .uses) r ≡ true → hasWord (x .uses) r ≡ true → ⊥) → Absorbed n x → Absorbed (entry (less (n .uses) (e .uses)) (n .parents)) x
+absorbed-rest : (e n x : Entry) → ((r : ℕ) → hasAssociatedWord (e .uses) r ≡ true → hasAssociatedWord (x .uses) r ≡ true → ⊥) → Absorbed n x → Absorbed (entry (less (n .uses) (e .uses)) (n .parents)) x
 absorbed-rest e n x s b =
-    let same : (r : ℕ) → hasWord (x .uses) r ≡ true → hasWord (less (n .uses) (e .uses)) r ≡ hasWord (n .uses) r =
+    let same : (r : ℕ) → hasAssociatedWord (x .uses) r ≡ true → hasAssociatedWord (less (n .uses) (e .uses)) r ≡ hasAssociatedWord (n .uses) r =
     λ r w. same-test (λ t. less-word (n .uses) (e .uses) r .0 t .0) (λ t. less-word (n .uses) (e .uses) r .1 (t, not-so (λ v. s r v w))) in
     record {
       uniform = λ r q v w. same r v ∙ b .uniform r q v w ∙ sym (same q w);
@@ -197,7 +197,7 @@ record Absorbs (l : List Entry) (n : Entry) : Type 0 where
   apart : Sorted NoWordShared l
   ascending : AllAscending l
   full : AllFull l
-  covered : (r : ℕ) → hasWord (n .uses) r ≡ true → SaysIn l r word
+  covered : (r : ℕ) → hasAssociatedWord (n .uses) r ≡ true → SaysIn l r word
   absorbed : (e : Entry) → In e l → Absorbed n e
 
 absorbs-rest : (e : Entry) (l : List Entry) (n : Entry) → Absorbs (e ∷ l) n → Absorbs l (entry (less (n .uses) (e .uses)) (n .parents))
@@ -209,7 +209,7 @@ absorbs-rest e l n h = record {
       let y = less-word (n .uses) (e .uses) r .0 w in
       let c = h .covered r (y .0) in
       cons-elim (c .listed)
-      (λ q. never (subst (λ (x : Entry). hasWord (x .uses) r ≡ true) q (c .says)) (y .1))
+      (λ q. never (subst (λ (x : Entry). hasAssociatedWord (x .uses) r ≡ true) q (c .says)) (y .1))
       (λ i. record { entry = c .entry; listed = i; says = c .says });
   absorbed = λ x i. absorbed-rest e n x (λ r v w. h .apart .0 x i r v w) (h .absorbed x (List·Memᴰ·tail i));
 }
@@ -250,7 +250,7 @@ module _ (l : List Entry) (a : AllAscending l) (r₀ : ℕ) (w₀ : SaysIn l r�
       let x = merged-says l r₀ word .1 w₀ in
       ⊎-elim (λ f. f) (λ h. only (merged l) h (x .entry) (x .listed) (x .says)) (onto-alone [] l (inr (omega arith)))
     where
-      only : (k : List Entry) → length k ≤ 1 → (e : Entry) → In e k → hasWord (e .uses) r₀ ≡ true → AllFull k
+      only : (k : List Entry) → length k ≤ 1 → (e : Entry) → In e k → hasAssociatedWord (e .uses) r₀ ≡ true → AllFull k
       only [] h e i w = absurd (List·Memᴰ·not-nil i)
       only (x ∷ []) h e i w =
           λ y j.

@@ -11,7 +11,7 @@ use Rattle.lists.specs.Lists.{null}
 use Rattle.lists.specs.Tests.{by, never, not-so}
 use Rattle.definitions.specs.Records.{AssociatedResource, makeList, associate, nestAssociate, alias, inherit, derive, noDerive, AnnotationInfo}
 use Rattle.definitions.specs.Checks.{kindOf}
-use Rattle.definitions.specs.Annotations.{hasWord, shared, less, someIf, overlapOf, sameAlias, intersection, difference}
+use Rattle.definitions.specs.Annotations.{hasAssociatedWord, shared, less, someIf, overlapOf, sameAlias, intersection, difference}
 use Rattle.synthesis_laws.specs.Statements.{resourcesIn, ThreeSets, Parted, byWord, equal, apart, EachPairParts}
 use Rattle.synthesis_laws.specs.Entries.{gives-word, doms-is, less-word, shared-word, less-dom, shared-dom}
 
@@ -25,8 +25,8 @@ three-sets us vs = record {
   words = λ r. (
     λ c.
         ⊎-elim
-        (λ p. by (hasWord vs r) (λ q. inr (inl (shared-word us vs r .1 (p, q)))) (λ q. inl (less-word us vs r .1 (p, q))))
-        (λ q. by (hasWord us r) (λ p. inr (inl (shared-word us vs r .1 (p, q)))) (λ p. inr (inr (less-word vs us r .1 (q, p)))))
+        (λ p. by (hasAssociatedWord vs r) (λ q. inr (inl (shared-word us vs r .1 (p, q)))) (λ q. inl (less-word us vs r .1 (p, q))))
+        (λ q. by (hasAssociatedWord us r) (λ p. inr (inl (shared-word us vs r .1 (p, q)))) (λ p. inr (inr (less-word vs us r .1 (q, p)))))
         c,
     λ c.
         ⊎-elim (λ p. inl (less-word us vs r .0 p .0))
@@ -37,12 +37,12 @@ three-sets us vs = record {
         ⊎-elim
         (λ i.
         let g = doms-is us r d .0 i in
-        by (hasWord vs r)
+        by (hasAssociatedWord vs r)
         (λ q. inr (inl (doms-is (shared us vs) r d .1 (shared-dom us vs r d .1 (inl g, gives-word g, q)))))
         (λ q. inl (doms-is (less us vs) r d .1 (less-dom us vs r d .1 (g, q)))))
         (λ i.
         let g = doms-is vs r d .0 i in
-        by (hasWord us r)
+        by (hasAssociatedWord us r)
         (λ p. inr (inl (doms-is (shared us vs) r d .1 (shared-dom us vs r d .1 (inr g, p, gives-word g)))))
         (λ p. inr (inr (doms-is (less vs us) r d .1 (less-dom vs us r d .1 (g, p))))))
         c,

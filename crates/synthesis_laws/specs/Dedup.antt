@@ -9,9 +9,9 @@ use lib.ListN.{length, length-map}
 use Rattle.lists.specs.Lists.{In, Sorted, filter, each, setOf}
 use Rattle.lists.specs.Sorting.{set-is, set-sorted}
 use Rattle.definitions.specs.Records.{AssociatedResource, associate}
-use Rattle.definitions.specs.Orders.{nameBefore, domBefore}
+use Rattle.definitions.specs.Comparisons.{nameBefore, domBefore}
 use Rattle.definitions.specs.Checks.{resourcesOf}
-use Rattle.definitions.specs.Annotations.{wordsOf, hasWord, domsIn}
+use Rattle.definitions.specs.Annotations.{wordListOf, hasAssociatedWord, domsIn}
 use Rattle.definitions.specs.Inherited.{InheritedAnnotation, dedup}
 use Rattle.synthesis_laws.specs.Statements.{IsAssociate, AllAssociates, wordsGiven, domsGiven, parentsGiven, Deduped, DedupMerges}
 use Rattle.lists.specs.Appending.{each-map, map-map, filter-map, map-self}
@@ -46,7 +46,7 @@ all-associates l a e i = let x = Memᴰ·of-map asInherited l i in subst IsAssoc
 -- ---- lists of them
 
 pub words-given : (l : List Entry) → wordsGiven (map asInherited l) ≡ wordsFrom l
-words-given l = ap (setOf ltb) (each-map (λ (e : InheritedAnnotation). wordsOf (e .annotation)) asInherited l)
+words-given l = ap (setOf ltb) (each-map (λ (e : InheritedAnnotation). wordListOf (e .annotation)) asInherited l)
 
 pub doms-given : (l : List Entry) (r : ℕ) → domsGiven (map asInherited l) r ≡ setOf domBefore (domsFrom l r)
 doms-given l r = ap (setOf domBefore) (each-map (λ (e : InheritedAnnotation). domsIn (resourcesOf (e .annotation)) r) asInherited l)
@@ -54,8 +54,8 @@ doms-given l r = ap (setOf domBefore) (each-map (λ (e : InheritedAnnotation). d
 parents-given : (l : List Entry) (r : ℕ) → parentsGiven (map asInherited l) r ≡ setOf nameBefore (parentsFrom l r)
 parents-given l r =
     ap (setOf nameBefore)
-    (ap (each (λ (e : InheritedAnnotation). e .parents)) (filter-map (λ (e : InheritedAnnotation). hasWord (resourcesOf (e .annotation)) r) asInherited l)
-    ∙ each-map (λ (e : InheritedAnnotation). e .parents) asInherited (filter (λ (e : Entry). hasWord (e .uses) r) l))
+    (ap (each (λ (e : InheritedAnnotation). e .parents)) (filter-map (λ (e : InheritedAnnotation). hasAssociatedWord (resourcesOf (e .annotation)) r) asInherited l)
+    ∙ each-map (λ (e : InheritedAnnotation). e .parents) asInherited (filter (λ (e : Entry). hasAssociatedWord (e .uses) r) l))
 
 words-same : (l : List Entry) → wordsFrom (merged l) ≡ wordsFrom l
 words-same l =
@@ -70,8 +70,8 @@ deduped : (l : List Entry) → AllAscending l → Deduped (map asInherited l) (m
 deduped l a = record {
   form = all-associates (merged l) (merged-ascending l a);
   apart =
-      sorted-map (λ (a b : Entry). (r : ℕ) → hasWord (a .uses) r ≡ true → hasWord (b .uses) r ≡ true → ⊥)
-      (λ a b. (r : ℕ) → hasWord (resourcesOf (a .annotation)) r ≡ true → hasWord (resourcesOf (b .annotation)) r ≡ true → ⊥) asInherited (merged l)
+      sorted-map (λ (a b : Entry). (r : ℕ) → hasAssociatedWord (a .uses) r ≡ true → hasAssociatedWord (b .uses) r ≡ true → ⊥)
+      (λ a b. (r : ℕ) → hasAssociatedWord (resourcesOf (a .annotation)) r ≡ true → hasAssociatedWord (resourcesOf (b .annotation)) r ≡ true → ⊥) asInherited (merged l)
       (λ x y i j h. h) (merged-apart l);
   words = words-given (merged l) ∙ words-same l ∙ sym (words-given l);
   doms = λ e i u j.
@@ -80,7 +80,7 @@ deduped l a = record {
   parents = λ e i r w.
       let x = Memᴰ·of-map asInherited (merged l) i in
       ap (λ (e : InheritedAnnotation). e .parents) (sym (x .2))
-      ∙ merged-parents l a (x .0) (x .1) r (subst (λ (e : InheritedAnnotation). hasWord (resourcesOf (e .annotation)) r ≡ true) (sym (x .2)) w)
+      ∙ merged-parents l a (x .0) (x .1) r (subst (λ (e : InheritedAnnotation). hasAssociatedWord (resourcesOf (e .annotation)) r ≡ true) (sym (x .2)) w)
       ∙ sym (parents-given l r);
   few = omega (arith, merged-few l, length-map (merged l) asInherited, ap length (words-given l));
 }

@@ -11,10 +11,10 @@ use Rattle.lists.specs.Lists.{In, Sorted, null, filter, setOf}
 use Rattle.lists.specs.Tests.{by, never, cons-elim, any-in, any-of, filter-in, filter-of, each-in, each-of}
 use Rattle.lists.specs.Sorting.{sorted-append, sorted-filter, set-is, set-sorted}
 use Rattle.definitions.specs.Records.{Name, Dom, AssociatedResource, associate}
-use Rattle.definitions.specs.Orders.{nameBefore, domBefore}
-use Rattle.definitions.specs.Annotations.{hasWord, domsIn, united, shared, less, someIf, overlapOf, intersection, difference}
+use Rattle.definitions.specs.Comparisons.{nameBefore, domBefore}
+use Rattle.definitions.specs.Annotations.{hasAssociatedWord, domsIn, united, shared, less, someIf, overlapOf, intersection, difference}
 use Rattle.definitions.specs.Inherited.{InheritedAnnotation, underParents, sharedEntry, restEntry, toList, dedupOne, dedupOnto, dedup}
-use Rattle.laws.specs.Orders.{name-strict, dom-strict}
+use Rattle.laws.specs.Comparisons.{name-strict, dom-strict}
 use Rattle.lists.specs.Appending.{map-append}
 use Rattle.lists.specs.Permutations.{sorted-map}
 
@@ -112,47 +112,47 @@ pub record GivesDom (us : List AssociatedResource) (r : ℕ) (d : Dom) : Type 0 
   pub has : In d (from .doms)
 
 abbrev pub Says : Entry → ℕ → Fact → Type 0
-Says e r word = hasWord (e .uses) r ≡ true
+Says e r word = hasAssociatedWord (e .uses) r ≡ true
 Says e r (dom d) = GivesDom (e .uses) r d
-Says e r (parent P) = (hasWord (e .uses) r ≡ true) × In P (e .parents)
+Says e r (parent P) = (hasAssociatedWord (e .uses) r ≡ true) × In P (e .parents)
 
-pub has-in : {us : List AssociatedResource} {u : AssociatedResource} {r : ℕ} → In u us → u .word ≡ r → hasWord us r ≡ true
+pub has-in : {us : List AssociatedResource} {u : AssociatedResource} {r : ℕ} → In u us → u .word ≡ r → hasAssociatedWord us r ≡ true
 has-in {us} {u} {r} i e = any-in (λ (u : AssociatedResource). eqb (u .word) r) i (eq-eqb (u .word) r e)
 
-pub has-of : (us : List AssociatedResource) (r : ℕ) → hasWord us r ≡ true → (u : AssociatedResource) × In u us × (u .word ≡ r)
+pub has-of : (us : List AssociatedResource) (r : ℕ) → hasAssociatedWord us r ≡ true → (u : AssociatedResource) × In u us × (u .word ≡ r)
 has-of us r e = let x = any-of (λ (u : AssociatedResource). eqb (u .word) r) us e in (x .0, x .1, eqb-true (x .0 .word) r (x .2))
 
-pub gives-word : {us : List AssociatedResource} {r : ℕ} {d : Dom} → GivesDom us r d → hasWord us r ≡ true
+pub gives-word : {us : List AssociatedResource} {r : ℕ} {d : Dom} → GivesDom us r d → hasAssociatedWord us r ≡ true
 gives-word g = has-in (g .listed) (g .of-word)
 
-pub says-word : (e : Entry) (r : ℕ) (f : Fact) → Says e r f → hasWord (e .uses) r ≡ true
+pub says-word : (e : Entry) (r : ℕ) (f : Fact) → Says e r f → hasAssociatedWord (e .uses) r ≡ true
 says-word e r word s = s
 says-word e r (dom d) s = gives-word s
 says-word e r (parent P) s = s .0
 
 -- ---- what is left, and what is shared
 
-less-in : {us : List AssociatedResource} (vs : List AssociatedResource) {u : AssociatedResource} → In u us → hasWord vs (u .word) ≡ false → In u (less us vs)
+less-in : {us : List AssociatedResource} (vs : List AssociatedResource) {u : AssociatedResource} → In u us → hasAssociatedWord vs (u .word) ≡ false → In u (less us vs)
 unfolding less
-less-in vs i e = filter-in (λ (u : AssociatedResource). not (hasWord vs (u .word))) i (ap not e)
+less-in vs i e = filter-in (λ (u : AssociatedResource). not (hasAssociatedWord vs (u .word))) i (ap not e)
 
-less-of : (us vs : List AssociatedResource) {u : AssociatedResource} → In u (less us vs) → In u us × (hasWord vs (u .word) ≡ false)
+less-of : (us vs : List AssociatedResource) {u : AssociatedResource} → In u (less us vs) → In u us × (hasAssociatedWord vs (u .word) ≡ false)
 unfolding less
 less-of us vs {u} i =
-    let x = filter-of (λ (u : AssociatedResource). not (hasWord vs (u .word))) us i in
-    (x .0, not-true (hasWord vs (u .word)) (x .1))
+    let x = filter-of (λ (u : AssociatedResource). not (hasAssociatedWord vs (u .word))) us i in
+    (x .0, not-true (hasAssociatedWord vs (u .word)) (x .1))
 
-shared-in : {us : List AssociatedResource} (vs : List AssociatedResource) {u : AssociatedResource} → In u us → hasWord vs (u .word) ≡ true
+shared-in : {us : List AssociatedResource} (vs : List AssociatedResource) {u : AssociatedResource} → In u us → hasAssociatedWord vs (u .word) ≡ true
     → In (united vs u) (shared us vs)
 unfolding shared
-shared-in vs i e = Memᴰ·map (united vs) (filter-in (λ (u : AssociatedResource). hasWord vs (u .word)) i e)
+shared-in vs i e = Memᴰ·map (united vs) (filter-in (λ (u : AssociatedResource). hasAssociatedWord vs (u .word)) i e)
 
 shared-of : (us vs : List AssociatedResource) {x : AssociatedResource} → In x (shared us vs)
-    → (u : AssociatedResource) × In u us × (hasWord vs (u .word) ≡ true) × (united vs u ≡ x)
+    → (u : AssociatedResource) × In u us × (hasAssociatedWord vs (u .word) ≡ true) × (united vs u ≡ x)
 unfolding shared
 shared-of us vs i =
-    let x = Memᴰ·of-map (united vs) (filter (λ (u : AssociatedResource). hasWord vs (u .word)) us) i in
-    let y = filter-of (λ (u : AssociatedResource). hasWord vs (u .word)) us (x .1) in
+    let x = Memᴰ·of-map (united vs) (filter (λ (u : AssociatedResource). hasAssociatedWord vs (u .word)) us) i in
+    let y = filter-of (λ (u : AssociatedResource). hasAssociatedWord vs (u .word)) us (x .1) in
     (x .0, y .0, y .1, x .2)
 
 -- the doms that a list gives a word
@@ -178,41 +178,41 @@ united-is vs u d = (
 )
 
 -- a word of the left that the right lacks
-pub less-word : (us vs : List AssociatedResource) (r : ℕ) → (hasWord (less us vs) r ≡ true) ↔ ((hasWord us r ≡ true) × (hasWord vs r ≡ false))
+pub less-word : (us vs : List AssociatedResource) (r : ℕ) → (hasAssociatedWord (less us vs) r ≡ true) ↔ ((hasAssociatedWord us r ≡ true) × (hasAssociatedWord vs r ≡ false))
 less-word us vs r = (
   λ e.
       let x = has-of (less us vs) r e in
       let y = less-of us vs (x .1) in
-      (has-in (y .0) (x .2), subst (λ w. hasWord vs w ≡ false) (x .2) (y .1)),
+      (has-in (y .0) (x .2), subst (λ w. hasAssociatedWord vs w ≡ false) (x .2) (y .1)),
   λ h.
       let x = has-of us r (h .0) in
-      has-in (less-in vs (x .1) (subst (λ w. hasWord vs w ≡ false) (sym (x .2)) (h .1))) (x .2),
+      has-in (less-in vs (x .1) (subst (λ w. hasAssociatedWord vs w ≡ false) (sym (x .2)) (h .1))) (x .2),
 )
 
-pub shared-word : (us vs : List AssociatedResource) (r : ℕ) → (hasWord (shared us vs) r ≡ true) ↔ ((hasWord us r ≡ true) × (hasWord vs r ≡ true))
+pub shared-word : (us vs : List AssociatedResource) (r : ℕ) → (hasAssociatedWord (shared us vs) r ≡ true) ↔ ((hasAssociatedWord us r ≡ true) × (hasAssociatedWord vs r ≡ true))
 shared-word us vs r = (
   λ e.
       let x = has-of (shared us vs) r e in
       let y = shared-of us vs (x .1) in
       let w : y .0 .word ≡ r = ap (λ (u : AssociatedResource). u .word) (y .3) ∙ x .2 in
-      (has-in (y .1) w, subst (λ w. hasWord vs w ≡ true) w (y .2)),
+      (has-in (y .1) w, subst (λ w. hasAssociatedWord vs w ≡ true) w (y .2)),
   λ h.
       let x = has-of us r (h .0) in
-      has-in (shared-in vs (x .1) (subst (λ w. hasWord vs w ≡ true) (sym (x .2)) (h .1))) (x .2),
+      has-in (shared-in vs (x .1) (subst (λ w. hasAssociatedWord vs w ≡ true) (sym (x .2)) (h .1))) (x .2),
 )
 
-pub less-dom : (us vs : List AssociatedResource) (r : ℕ) (d : Dom) → GivesDom (less us vs) r d ↔ (GivesDom us r d × (hasWord vs r ≡ false))
+pub less-dom : (us vs : List AssociatedResource) (r : ℕ) (d : Dom) → GivesDom (less us vs) r d ↔ (GivesDom us r d × (hasAssociatedWord vs r ≡ false))
 less-dom us vs r d = (
   λ g.
       let y = less-of us vs (g .listed) in
-      (record { from = g .from; listed = y .0; of-word = g .of-word; has = g .has }, subst (λ w. hasWord vs w ≡ false) (g .of-word) (y .1)),
+      (record { from = g .from; listed = y .0; of-word = g .of-word; has = g .has }, subst (λ w. hasAssociatedWord vs w ≡ false) (g .of-word) (y .1)),
   λ h.
       let g = h .0 in
-      record { from = g .from; listed = less-in vs (g .listed) (subst (λ w. hasWord vs w ≡ false) (sym (g .of-word)) (h .1)); of-word = g .of-word; has = g .has },
+      record { from = g .from; listed = less-in vs (g .listed) (subst (λ w. hasAssociatedWord vs w ≡ false) (sym (g .of-word)) (h .1)); of-word = g .of-word; has = g .has },
 )
 
 pub shared-dom : (us vs : List AssociatedResource) (r : ℕ) (d : Dom)
-    → GivesDom (shared us vs) r d ↔ ((GivesDom us r d ⊎ GivesDom vs r d) × (hasWord us r ≡ true) × (hasWord vs r ≡ true))
+    → GivesDom (shared us vs) r d ↔ ((GivesDom us r d ⊎ GivesDom vs r d) × (hasAssociatedWord us r ≡ true) × (hasAssociatedWord vs r ≡ true))
 shared-dom us vs r d = (
   λ g.
       let y = shared-of us vs (g .listed) in
@@ -222,14 +222,14 @@ shared-dom us vs r d = (
             (λ k. inr (subst (λ w. GivesDom vs w d) w k))
             (united-is vs (y .0) d .0 (subst (λ (u : AssociatedResource). In d (u .doms)) (sym (y .3)) (g .has))),
         has-in (y .1) w,
-        subst (λ w. hasWord vs w ≡ true) w (y .2),
+        subst (λ w. hasAssociatedWord vs w ≡ true) w (y .2),
       ),
   λ h.
       ⊎-elim
       (λ (g : GivesDom us r d).
       record {
         from = united vs (g .from);
-        listed = shared-in vs (g .listed) (subst (λ w. hasWord vs w ≡ true) (sym (g .of-word)) (h .2));
+        listed = shared-in vs (g .listed) (subst (λ w. hasAssociatedWord vs w ≡ true) (sym (g .of-word)) (h .2));
         of-word = g .of-word;
         has = united-is vs (g .from) d .1 (inl (g .has));
       })
@@ -237,7 +237,7 @@ shared-dom us vs r d = (
       let x = has-of us r (h .1) in
       record {
         from = united vs (x .0);
-        listed = shared-in vs (x .1) (subst (λ w. hasWord vs w ≡ true) (sym (x .2)) (h .2));
+        listed = shared-in vs (x .1) (subst (λ w. hasAssociatedWord vs w ≡ true) (sym (x .2)) (h .2));
         of-word = x .2;
         has = united-is vs (x .0) d .1 (inr (subst (λ w. GivesDom vs w d) (sym (x .2)) g));
       })
@@ -245,7 +245,7 @@ shared-dom us vs r d = (
 )
 
 -- the same of an entry
-pub less-says : (e n : Entry) (r : ℕ) (f : Fact) → Says (entry (less (e .uses) (n .uses)) (e .parents)) r f ↔ (Says e r f × (hasWord (n .uses) r ≡ false))
+pub less-says : (e n : Entry) (r : ℕ) (f : Fact) → Says (entry (less (e .uses) (n .uses)) (e .parents)) r f ↔ (Says e r f × (hasAssociatedWord (n .uses) r ≡ false))
 less-says e n r word = less-word (e .uses) (n .uses) r
 less-says e n r (dom d) = less-dom (e .uses) (n .uses) r d
 less-says e n r (parent P) =
@@ -254,7 +254,7 @@ less-says e n r (parent P) =
 
 pub shared-says : (e n : Entry) (r : ℕ) (f : Fact)
     → Says (entry (shared (e .uses) (n .uses)) (setOf nameBefore (e .parents ++ n .parents))) r f
-    ↔ ((Says e r f ⊎ Says n r f) × (hasWord (e .uses) r ≡ true) × (hasWord (n .uses) r ≡ true))
+    ↔ ((Says e r f ⊎ Says n r f) × (hasAssociatedWord (e .uses) r ≡ true) × (hasAssociatedWord (n .uses) r ≡ true))
 shared-says e n r word = let x = shared-word (e .uses) (n .uses) r in (λ h. let y = x .0 h in (inl (y .0), y .0, y .1), λ h. x .1 (h .1, h .2))
 shared-says e n r (dom d) = shared-dom (e .uses) (n .uses) r d
 shared-says e n r (parent P) =
@@ -313,13 +313,13 @@ one-in (e ∷ l) (some n) r f c =
     cons-elim (s .listed)
     (λ q.
     let t : Says e r f = subst (λ (x : Entry). Says x r f) q (s .says) in
-    by (hasWord (n .uses) r)
+    by (hasAssociatedWord (n .uses) r)
     (λ w. both (inl t) (says-word e r f t) w)
     (λ w. rest t w))
     (λ i. later (one-in l (restOf n e) r f (inl (record { entry = s .entry; listed = i; says = s .says })))))
     (λ (s : SaysIn (n ∷ []) r f).
     let t : Says n r f = subst (λ (x : Entry). Says x r f) (List·Memᴰ·eq-of-singleton (s .listed)) (s .says) in
-    by (hasWord (e .uses) r)
+    by (hasAssociatedWord (e .uses) r)
     (λ w. both (inr t) w (says-word n r f t))
     (λ w.
     later (one-in l (restOf n e) r f (inr (unless-in (less (n .uses) (e .uses)) (n .parents) r f (less-says n e r f .1 (t, w)))))))
@@ -328,12 +328,12 @@ one-in (e ∷ l) (some n) r f c =
     later : SaysIn (mergeOne l (restOf n e)) r f → SaysIn (toList (restOf e n) ++ (toList (commonOf e n) ++ mergeOne l (restOf n e))) r f
     later s = says-more (λ x i. Memᴰ·append-right (toList (restOf e n)) (Memᴰ·append-right (toList (commonOf e n)) i)) s
 
-    rest : Says e r f → hasWord (n .uses) r ≡ false → SaysIn (toList (restOf e n) ++ (toList (commonOf e n) ++ mergeOne l (restOf n e))) r f
+    rest : Says e r f → hasAssociatedWord (n .uses) r ≡ false → SaysIn (toList (restOf e n) ++ (toList (commonOf e n) ++ mergeOne l (restOf n e))) r f
     rest t w =
         says-more (λ x i. Memᴰ·append-left (toList (commonOf e n) ++ mergeOne l (restOf n e)) i)
         (unless-in (less (e .uses) (n .uses)) (e .parents) r f (less-says e n r f .1 (t, w)))
 
-    both : Says e r f ⊎ Says n r f → hasWord (e .uses) r ≡ true → hasWord (n .uses) r ≡ true
+    both : Says e r f ⊎ Says n r f → hasAssociatedWord (e .uses) r ≡ true → hasAssociatedWord (n .uses) r ≡ true
         → SaysIn (toList (restOf e n) ++ (toList (commonOf e n) ++ mergeOne l (restOf n e))) r f
     both t v w =
         says-more (λ x i. Memᴰ·append-right (toList (restOf e n)) (Memᴰ·append-left (mergeOne l (restOf n e)) i))
@@ -370,7 +370,7 @@ one-of (e ∷ l) (some n) r f s =
 -- ---- no two entries share a word
 
 abbrev pub NoWordShared : Entry → Entry → Type 0
-NoWordShared a b = (r : ℕ) → hasWord (a .uses) r ≡ true → hasWord (b .uses) r ≡ true → ⊥
+NoWordShared a b = (r : ℕ) → hasAssociatedWord (a .uses) r ≡ true → hasAssociatedWord (b .uses) r ≡ true → ⊥
 
 pub alone : (o : Option Entry) → Sorted NoWordShared (toList o)
 alone none = tt
@@ -391,10 +391,10 @@ one-apart (e ∷ l) (some n) s =
     (λ k. later r (rest i r p .0) k q)
     (List·Memᴰ·append-cases (toList (commonOf e n)) j))
   where
-    rest : {x : Entry} → In x (toList (restOf e n)) → (r : ℕ) → hasWord (x .uses) r ≡ true → (hasWord (e .uses) r ≡ true) × (hasWord (n .uses) r ≡ false)
+    rest : {x : Entry} → In x (toList (restOf e n)) → (r : ℕ) → hasAssociatedWord (x .uses) r ≡ true → (hasAssociatedWord (e .uses) r ≡ true) × (hasAssociatedWord (n .uses) r ≡ false)
     rest {x} i r p = less-says e n r word .0 (unless-of (less (e .uses) (n .uses)) (e .parents) r word (record { entry = x; listed = i; says = p }))
 
-    common : {x : Entry} → In x (toList (commonOf e n)) → (r : ℕ) → hasWord (x .uses) r ≡ true → (hasWord (e .uses) r ≡ true) × (hasWord (n .uses) r ≡ true)
+    common : {x : Entry} → In x (toList (commonOf e n)) → (r : ℕ) → hasAssociatedWord (x .uses) r ≡ true → (hasAssociatedWord (e .uses) r ≡ true) × (hasAssociatedWord (n .uses) r ≡ true)
     common {x} i r p =
         let y =
         shared-says e n r word .0
@@ -402,7 +402,7 @@ one-apart (e ∷ l) (some n) s =
         (y .1, y .2)
 
     -- a word of the first is in no later entry
-    later : (r : ℕ) → hasWord (e .uses) r ≡ true → {y : Entry} → In y (mergeOne l (restOf n e)) → hasWord (y .uses) r ≡ true → ⊥
+    later : (r : ℕ) → hasAssociatedWord (e .uses) r ≡ true → {y : Entry} → In y (mergeOne l (restOf n e)) → hasAssociatedWord (y .uses) r ≡ true → ⊥
     later r w {y} j q =
         ⊎-elim
         (λ (h : SaysIn l r word). s .0 (h .entry) (h .listed) r w (h .says))
@@ -424,7 +424,7 @@ unless-is (u ∷ us) ps i = List·Memᴰ·eq-of-singleton i
 rest-ascending : (e n : Entry) → Ascending e → Ascending (entry (less (e .uses) (n .uses)) (e .parents))
 unfolding less
 rest-ascending e n a = record {
-  words = sorted-filter (λ (u v : AssociatedResource). ltb (u .word) (v .word) ≡ true) (λ (u : AssociatedResource). not (hasWord (n .uses) (u .word))) (e .uses) (a .words);
+  words = sorted-filter (λ (u v : AssociatedResource). ltb (u .word) (v .word) ≡ true) (λ (u : AssociatedResource). not (hasAssociatedWord (n .uses) (u .word))) (e .uses) (a .words);
   doms = λ u i. a .doms u (less-of (e .uses) (n .uses) i .0);
   parents = a .parents;
 }
@@ -434,8 +434,8 @@ unfolding shared
 common-ascending e n a = record {
   words =
       sorted-map (λ (u v : AssociatedResource). ltb (u .word) (v .word) ≡ true) (λ (u v : AssociatedResource). ltb (u .word) (v .word) ≡ true) (united (n .uses))
-      (filter (λ (u : AssociatedResource). hasWord (n .uses) (u .word)) (e .uses)) (λ u v i j p. p)
-      (sorted-filter (λ (u v : AssociatedResource). ltb (u .word) (v .word) ≡ true) (λ (u : AssociatedResource). hasWord (n .uses) (u .word)) (e .uses) (a .words));
+      (filter (λ (u : AssociatedResource). hasAssociatedWord (n .uses) (u .word)) (e .uses)) (λ u v i j p. p)
+      (sorted-filter (λ (u v : AssociatedResource). ltb (u .word) (v .word) ≡ true) (λ (u : AssociatedResource). hasAssociatedWord (n .uses) (u .word)) (e .uses) (a .words));
   doms = λ u i.
       let x = shared-of (e .uses) (n .uses) i in
       subst (λ (v : AssociatedResource). Sorted (λ c d. domBefore c d ≡ true) (v .doms)) (x .3) (set-sorted dom-strict (x .0 .doms ++ domsIn (n .uses) (x .0 .word)));

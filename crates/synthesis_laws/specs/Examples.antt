@@ -13,7 +13,7 @@ use Rattle.definitions.specs.Records.{Name, Dom, Resource, AssociatedResource, 
 use Rattle.definitions.specs.Bits.{bitsOf}
 use Rattle.definitions.specs.Parse.{done}
 use Rattle.definitions.specs.Reading.{sheet}
-use Rattle.definitions.specs.Orders.{nameBefore, domBefore}
+use Rattle.definitions.specs.Comparisons.{nameBefore, domBefore}
 use Rattle.definitions.specs.Checks.{resourceBytes, selfBytes}
 use Rattle.definitions.specs.Map.{typeMapOf}
 use Rattle.definitions.specs.Annotations.{intersection, difference}
@@ -23,7 +23,7 @@ use Rattle.definitions.specs.Items.{itemsOf}
 use Rattle.definitions.specs.Ancestry.{HasOrder}
 use Rattle.definitions.specs.Lines.{Refused}
 use Rattle.definitions.specs.Cases.{hex, run}
-use Rattle.laws.specs.Orders.{name-strict, dom-strict}
+use Rattle.laws.specs.Comparisons.{name-strict, dom-strict}
 use Rattle.laws.specs.Order.{order-exists}
 use Rattle.line_laws.specs.Statements.{lineMap, Accepted, isRefused, anyRefused}
 use Rattle.lists.specs.Members.{map-sorted}

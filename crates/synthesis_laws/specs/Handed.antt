@@ -12,17 +12,17 @@ use Rattle.lists.specs.Lists.{In, Sorted, any, null, repeats, filter, each, sor
 use Rattle.lists.specs.Tests.{by, never, and-left, and-right, or-false-left, or-false-right, null-in, any-not, filter-in, filter-of, each-in, each-of}
 use Rattle.lists.specs.Sorting.{one-key, sorted-imp, repeats-not, sort-is, sort-sorted}
 use Rattle.definitions.specs.Records.{Name, Dom, Resource, AssociatedResource, makeList, associate, nestAssociate, alias, inherit, derive, noDerive, Annotation, AnnotationInfo, TypeInfo, Sheet}
-use Rattle.definitions.specs.Orders.{domBefore}
+use Rattle.definitions.specs.Comparisons.{domBefore}
 use Rattle.definitions.specs.Checks.{kindOf, resourcesOf, namesTwice, keysTwice, wordsTwice, annotationsTwice, somethingTwice}
 use Rattle.definitions.specs.Map.{TypeMap, typeMapOf}
 use Rattle.definitions.specs.Order.{inheritsSelf, passes, lastPass, hasOrder}
 use Rattle.definitions.specs.OrderRows.{typeNamed}
-use Rattle.definitions.specs.Annotations.{associatedOf, associatedSet, infoOf, hasWord, annotationBefore}
+use Rattle.definitions.specs.Annotations.{associatedOf, associatedSet, infoOf, hasAssociatedWord, annotationBefore}
 use Rattle.definitions.specs.Inherited.{InheritedAnnotation, dedup, ownAssociates, asAssociate, under, handsOn}
 use Rattle.definitions.specs.Synthesis.{listedParents}
 use Rattle.definitions.specs.Ancestry.{Parent, Ancestor, direct, further}
 use Rattle.definitions.specs.Lines.{Gives, plainly, nested, Associates, GivenAbove, AssociatedAbove, DomsAbove, Passes, ParentsAbove}
-use Rattle.laws.specs.Orders.{look-up-is, types-is, types-apart, names-once}
+use Rattle.laws.specs.Comparisons.{look-up-is, types-is, types-apart, names-once}
 use Rattle.laws.specs.Passes.{Placed, placed-type, placed-or-waits, listed-placed}
 use Rattle.laws.specs.Rounds.{no-cycle}
 use Rattle.synthesis_laws.specs.Statements.{GivesAs}
@@ -426,7 +426,7 @@ module _ (s : Sheet) where
                 (λ k. z .0 (y .0 (x .0 k)), λ h. x .1 (y .1 (z .1 h)));
           }
 
-      pub left-parents : (T : TypeInfo) (e : Entry) → In e (merged (heard T)) → (r : ℕ) → hasWord (e .uses) r ≡ true → ParentsAbove s T r (e .parents)
+      pub left-parents : (T : TypeInfo) (e : Entry) → In e (merged (heard T)) → (r : ℕ) → hasAssociatedWord (e .uses) r ≡ true → ParentsAbove s T r (e .parents)
       left-parents T e i r w =
           let a = merged-ascending (heard T) (heard-ascending T) e i in
           record {

@@ -9,14 +9,14 @@ use Rattle.lists.specs.Lists.{In, each}
 use Rattle.lists.specs.Sorting.{set-is}
 use Rattle.definitions.specs.Records.{TypeInfo, Sheet}
 use Rattle.definitions.specs.Checks.{resourcesOf}
-use Rattle.definitions.specs.Map.{typeMapOf, declarationOf}
-use Rattle.definitions.specs.Annotations.{hasWord}
+use Rattle.definitions.specs.Map.{typeMapOf, lineTypeOf}
+use Rattle.definitions.specs.Annotations.{hasAssociatedWord}
 use Rattle.definitions.specs.Inherited.{InheritedAnnotation, dedup, ownAssociates, asAssociate, under, handsOn, handedOn}
 use Rattle.definitions.specs.OrderRows.{typeNamed}
 use Rattle.definitions.specs.Synthesis.{listedParents}
 use Rattle.definitions.specs.Items.{ancestors}
 use Rattle.definitions.specs.Lines.{ParentsAbove}
-use Rattle.laws.specs.Orders.{dom-strict}
+use Rattle.laws.specs.Comparisons.{dom-strict}
 use Rattle.line_laws.specs.Statements.{lineMap}
 use Rattle.synthesis_laws.specs.Statements.{Ordered, HandsOn, EachHandsOn, HandedStep, Inherits, EachInherits}
 use Rattle.lists.specs.Appending.{each-each, each-same}
@@ -64,14 +64,14 @@ inherits s o T =
       parents = λ e i r w.
           let x = Memᴰ·of-map asInherited l i in
           subst (λ (e : InheritedAnnotation). ParentsAbove s T r (e .parents)) (x .2)
-          (left-parents s once (o .order) T (x .0) (x .1) r (subst (λ (e : InheritedAnnotation). hasWord (resourcesOf (e .annotation)) r ≡ true) (sym (x .2)) w));
+          (left-parents s once (o .order) T (x .0) (x .1) r (subst (λ (e : InheritedAnnotation). hasAssociatedWord (resourcesOf (e .annotation)) r ≡ true) (sym (x .2)) w));
       makes = λ e i u j.
           let x = Memᴰ·of-map asInherited l i in
           let k = subst (λ (e : InheritedAnnotation). In u (resourcesOf (e .annotation))) (sym (x .2)) j in
-          let As = ancestors (lineMap s) (declarationOf T) in
-          ap (λ ps. made (lineMap s) (declarationOf T) (jobOf ps u)) (ap (λ (e : InheritedAnnotation). e .parents) (sym (x .2)))
-          ∙ ap (made (lineMap s) (declarationOf T)) (job-is s (o .readable) (o .order) T (x .0) (x .1) u k)
-          ∙ sym (inherited-made (lineMap s) (declarationOf T) As (u .word));
+          let As = ancestors (lineMap s) (lineTypeOf T) in
+          ap (λ ps. made (lineMap s) (lineTypeOf T) (jobOf ps u)) (ap (λ (e : InheritedAnnotation). e .parents) (sym (x .2)))
+          ∙ ap (made (lineMap s) (lineTypeOf T)) (job-is s (o .readable) (o .order) T (x .0) (x .1) u k)
+          ∙ sym (inherited-made (lineMap s) (lineTypeOf T) As (u .word));
     }
 
 pub each-inherits : EachInherits

@@ -9,9 +9,9 @@ use Rattle.lists.specs.Lists.{In, any, null, keep, filter, each, firstOf}
 use Rattle.lists.specs.Tests.{by, never, not-so, or-false-left, or-false-right, cons-elim, any-in, any-of, filter-in, first-none, first-not}
 use Rattle.lists.specs.Sorting.{Distinct, sorted-append}
 use Rattle.definitions.specs.Records.{Name, AssociatedResource, Item, synthesized, extension}
-use Rattle.definitions.specs.Orders.{dotted}
+use Rattle.definitions.specs.Comparisons.{dotted}
 use Rattle.definitions.specs.Checks.{resourcesOf}
-use Rattle.definitions.specs.Map.{Declaration, Map}
+use Rattle.definitions.specs.Map.{LineType, LineMap}
 use Rattle.definitions.specs.Making.{declared, classNames, isResource, createSyntheticResource, extensionLine, sameItem}
 use Rattle.definitions.specs.Inherited.{InheritedAnnotation}
 use Rattle.definitions.specs.Synthesis.{Interpreted, interpreted, behindRow, Verdict, unknownClasses, ends, noResource, duplicate, makes, judge, classRow, firstParents, isDuplicate, withMaking, interpretWords, interpretAll}
@@ -40,7 +40,7 @@ abbrev isMade : Item → Bool
 isMade (synthesized n r v ps ms) = true
 isMade (extension n v t r) = false
 
-module _ (m : Map) (T : Declaration) where
+module _ (m : LineMap) (T : LineType) where
   abbrev pub made : Job → Item
   made j = createSyntheticResource m T (j .word) (j .classes) (j .firsts)
 

@@ -13,9 +13,9 @@ use Rattle.lists.specs.Tests.{any-in, any-of, filter-in, filter-of, each-in, ea
 use Rattle.lists.specs.Strict.{asymmetric, number-strict}
 use Rattle.lists.specs.Sorting.{Distinct, sorted-imp, sorted-filter, sorted-unique, sort-perm, set-is, set-sorted}
 use Rattle.definitions.specs.Records.{Name, Dom, Resource, AssociatedResource, makeList, associate, nestAssociate, alias, inherit, derive, noDerive, Annotation, AnnotationInfo, TypeInfo, Sheet, Item}
-use Rattle.definitions.specs.Orders.{nameBefore, domBefore, dotted}
+use Rattle.definitions.specs.Comparisons.{nameBefore, domBefore, dotted}
 use Rattle.definitions.specs.Checks.{kindOf, resourcesOf}
-use Rattle.definitions.specs.Map.{typeMapOf, Declaration, Map, declarationOf}
+use Rattle.definitions.specs.Map.{typeMapOf, LineType, LineMap, lineTypeOf}
 use Rattle.definitions.specs.Order.{hasOrder}
 use Rattle.definitions.specs.Annotations.{associatedOf, associatedSet, infoOf, annotationBefore}
 use Rattle.definitions.specs.Annotations
@@ -24,7 +24,7 @@ use Rattle.definitions.specs.Making.{classNames, extensionLine}
 use Rattle.definitions.specs.Synthesis.{firstParents, ownEntries, listedParents}
 use Rattle.definitions.specs.Items.{associateOf, owned, given, ofWord, hasWord, associateWord, ancestors, ownResource, ownClasses, domsAbove, parentsAbove, inheritedResource, wordsMade, itemsAt, itemsFor}
 use Rattle.definitions.specs.Lines.{AssociatedAbove, DomsAbove, ParentsAbove}
-use Rattle.laws.specs.Orders.{name-strict, dom-strict}
+use Rattle.laws.specs.Comparisons.{name-strict, dom-strict}
 use Rattle.line_laws.specs.Statements.{Readable, lineMap}
 use Rattle.line_laws.specs.Associating.{word-is, has-word, associated-above, doms-are, namesPassing, parents-above-is, parents-above-are}
 use Rattle.lists.specs.Appending.{each-append, map-append, map-each, each-map, each-same, map-same, map-map, each-filter, each-one}
@@ -40,21 +40,21 @@ use Rattle.synthesis_laws.specs.Visited.{whole}
 abbrev pub ownJob : Resource → Job
 ownJob u = record { word = u .word; classes = dotted (u .dom) (u .word) ∷ []; firsts = dotted (u .dom) (u .word) ∷ [] }
 
-abbrev pub inheritedJob : Map → Declaration → List Declaration → ℕ → Job
+abbrev pub inheritedJob : LineMap → LineType → List LineType → ℕ → Job
 inheritedJob m T As r = record { word = r; classes = classNames (domsAbove As r) r; firsts = parentsAbove m T r }
 
 -- the words associated above, ascending
-abbrev pub wordsAbove : Declaration → List Declaration → List ℕ
+abbrev pub wordsAbove : LineType → List LineType → List ℕ
 wordsAbove T As = filter (associateWord As) (wordsMade T As)
 
-abbrev pub jobsFor : Map → Declaration → List Declaration → List Job
+abbrev pub jobsFor : LineMap → LineType → List LineType → List Job
 jobsFor m T As = map ownJob (owned T) ++ map (inheritedJob m T As) (wordsAbove T As)
 
-own-made : (m : Map) (T : Declaration) (u : Resource) → ownResource m T (u .word) (dotted (u .dom) (u .word)) ≡ made m T (ownJob u)
+own-made : (m : LineMap) (T : LineType) (u : Resource) → ownResource m T (u .word) (dotted (u .dom) (u .word)) ≡ made m T (ownJob u)
 unfolding ownResource
 own-made m T u = refl
 
-pub inherited-made : (m : Map) (T : Declaration) (As : List Declaration) (r : ℕ) → inheritedResource m T As r ≡ made m T (inheritedJob m T As r)
+pub inherited-made : (m : LineMap) (T : LineType) (As : List LineType) (r : ℕ) → inheritedResource m T As r ≡ made m T (inheritedJob m T As r)
 unfolding inheritedResource
 inherited-made m T As r = refl
 
@@ -85,8 +85,8 @@ plain-jobs (inherit ns ∷ l) = plain-jobs l
 plain-jobs (derive t ∷ l) = plain-jobs l
 plain-jobs (noDerive ∷ l) = plain-jobs l
 
-own-jobs : (T : TypeInfo) → List·Permᴰ (jobsOf (ownEntries T)) (map ownJob (owned (declarationOf T)))
-unfolding ownEntries ownAssociates owned declarationOf
+own-jobs : (T : TypeInfo) → List·Permᴰ (jobsOf (ownEntries T)) (map ownJob (owned (lineTypeOf T)))
+unfolding ownEntries ownAssociates owned lineTypeOf
 own-jobs T =
     let l = filter isAssociate (map infoOf (T .annotations)) in
     List·Permᴰ·trans (perm-same (each-map jobsIn (λ (a : AnnotationInfo). record { annotation = a; parents = [] }) (filter isPlain (sort annotationBefore l))))
@@ -102,42 +102,42 @@ first-parents (P ∷ Ps) cs r i = refl
 doms-one : {s : Sheet} {T : TypeInfo} {r : ℕ} (ds es : List Dom) → DomsAbove s T r ds → DomsAbove s T r es → ds ≡ es
 doms-one ds es p q =
     sorted-unique (λ d e. domBefore d e ≡ true) (asymmetric dom-strict) ds es (p .sorted) (q .sorted)
-    (λ d i. q .each d .1 (p .each d .0 i)) (λ d i. p .each d .1 (q .each d .0 i))
+    (λ d i. q .exactly d .1 (p .exactly d .0 i)) (λ d i. p .exactly d .1 (q .exactly d .0 i))
 
 parents-one : {s : Sheet} {T : TypeInfo} {r : ℕ} (ps qs : List Name) → ParentsAbove s T r ps → ParentsAbove s T r qs → ps ≡ qs
 parents-one ps qs p q =
     sorted-unique (λ P Q. nameBefore P Q ≡ true) (asymmetric name-strict) ps qs (p .sorted) (q .sorted)
-    (λ P i. q .each P .1 (p .each P .0 i)) (λ P i. p .each P .1 (q .each P .0 i))
+    (λ P i. q .exactly P .1 (p .exactly P .0 i)) (λ P i. p .exactly P .1 (q .exactly P .0 i))
 
-pub words-distinct : (T : Declaration) (As : List Declaration) → Distinct (wordsMade T As)
+pub words-distinct : (T : LineType) (As : List LineType) → Distinct (wordsMade T As)
 unfolding wordsMade
 words-distinct T As =
     let l = map (λ (u : Resource). u .word) (owned T ++ each given As) in
     sorted-imp (setOf ltb l) (λ r q i j h e. apart-of number-strict h e) (set-sorted number-strict l)
 
 -- a word with a making
-pub made-in : (T : Declaration) (As : List Declaration) {u : Resource} → In u (owned T ++ each given As) → In (u .word) (wordsMade T As)
+pub made-in : (T : LineType) (As : List LineType) {u : Resource} → In u (owned T ++ each given As) → In (u .word) (wordsMade T As)
 unfolding wordsMade
 made-in T As {u} i =
     set-is number-strict (map (λ (u : Resource). u .word) (owned T ++ each given As)) (u .word) .1 (Memᴰ·map (λ (u : Resource). u .word) i)
 
-pub made-of : (T : Declaration) (As : List Declaration) {r : ℕ} → In r (wordsMade T As) → (u : Resource) × In u (owned T ++ each given As) × (u .word ≡ r)
+pub made-of : (T : LineType) (As : List LineType) {r : ℕ} → In r (wordsMade T As) → (u : Resource) × In u (owned T ++ each given As) × (u .word ≡ r)
 unfolding wordsMade
 made-of T As {r} i =
     Memᴰ·of-map (λ (u : Resource). u .word) (owned T ++ each given As)
     (set-is number-strict (map (λ (u : Resource). u .word) (owned T ++ each given As)) r .0 i)
 
 -- a word that an ancestor gives
-pub above-word : (As : List Declaration) {u : Resource} → In u (each given As) → associateWord As (u .word) ≡ true
+pub above-word : (As : List LineType) {u : Resource} → In u (each given As) → associateWord As (u .word) ≡ true
 above-word As {u} i = let x = each-of given As i in any-in (λ A. hasWord (given A) (u .word)) (x .1) (has-word (x .2) refl)
 
-pub word-above : (As : List Declaration) (r : ℕ) → associateWord As r ≡ true → (u : Resource) × In u (each given As) × (u .word ≡ r)
+pub word-above : (As : List LineType) (r : ℕ) → associateWord As r ≡ true → (u : Resource) × In u (each given As) × (u .word ≡ r)
 word-above As r e =
     let x = any-of (λ A. hasWord (given A) r) As e in
     let y = any-of (λ (u : Resource). eqb (u .word) r) (given (x .0)) (x .2) in
     (y .0, each-in given (x .1) (y .1), eqb-true (y .0 .word) r (y .2))
 
-pub words-above-is : (T : Declaration) (As : List Declaration) (r : ℕ) → In r (wordsAbove T As) ↔ (associateWord As r ≡ true)
+pub words-above-is : (T : LineType) (As : List LineType) (r : ℕ) → In r (wordsAbove T As) ↔ (associateWord As r ≡ true)
 words-above-is T As r = (
   λ i. filter-of (associateWord As) (wordsMade T As) i .1,
   λ e.
@@ -146,8 +146,8 @@ words-above-is T As r = (
 )
 
 module _ (s : Sheet) (ok : Readable s) (order : hasOrder (typeMapOf s) ≡ true) (T : TypeInfo) where
-  abbrev As : List Declaration
-  As = ancestors (lineMap s) (declarationOf T)
+  abbrev As : List LineType
+  As = ancestors (lineMap s) (lineTypeOf T)
 
   -- the entries that T inherits
   abbrev pub left : List Entry
@@ -156,19 +156,19 @@ module _ (s : Sheet) (ok : Readable s) (order : hasOrder (typeMapOf s) ≡ true)
   ascending : (e : Entry) → In e left → Ascending e
   ascending = merged-ascending (heard s (ok .once) order T) (heard-ascending s (ok .once) order T)
 
-  pub job-is : (e : Entry) → In e left → (u : AssociatedResource) → In u (e .uses) → jobOf (e .parents) u ≡ inheritedJob (lineMap s) (declarationOf T) As (u .word)
+  pub job-is : (e : Entry) → In e left → (u : AssociatedResource) → In u (e .uses) → jobOf (e .parents) u ≡ inheritedJob (lineMap s) (lineTypeOf T) As (u .word)
   job-is e i u j =
       let r = u .word in
       let w : Annotations.hasWord (e .uses) r ≡ true = has-in j refl in
       let ds : u .doms ≡ domsAbove As r = doms-one (u .doms) (domsAbove As r) (left-doms s (ok .once) order T e i u j) (doms-are s ok T r) in
       let p = left-parents s (ok .once) order T e i r w in
-      let ps : e .parents ≡ namesPassing (lineMap s) (declarationOf T) r =
-      parents-one (e .parents) (namesPassing (lineMap s) (declarationOf T) r) p (parents-above-are s ok T r) in
+      let ps : e .parents ≡ namesPassing (lineMap s) (lineTypeOf T) r =
+      parents-one (e .parents) (namesPassing (lineMap s) (lineTypeOf T) r) p (parents-above-are s ok T r) in
       let a : AssociatedAbove s T r = left-word s (ok .once) order T r .0 (record { entry = e; listed = i; says = w }) in
       let P = above-cases s r none a in
-      let fs : firstParents (e .parents) (classNames (u .doms) r) r ≡ parentsAbove (lineMap s) (declarationOf T) r =
-      first-parents (e .parents) (classNames (u .doms) r) r (p .each (P .0 .name) .1 (P .0, P .1, P .2, refl))
-      ∙ ap (λ l. classNames l r) ps ∙ sym (parents-above-is (lineMap s) (declarationOf T) r) in
+      let fs : firstParents (e .parents) (classNames (u .doms) r) r ≡ parentsAbove (lineMap s) (lineTypeOf T) r =
+      first-parents (e .parents) (classNames (u .doms) r) r (p .exactly (P .0 .name) .1 (P .0, P .1, P .2, refl))
+      ∙ ap (λ l. classNames l r) ps ∙ sym (parents-above-is (lineMap s) (lineTypeOf T) r) in
       λ k. record { word = u .word; classes = classNames (ds k) r; firsts = fs k }
 
   -- the words that T inherits
@@ -213,9 +213,9 @@ module _ (s : Sheet) (ok : Readable s) (order : hasOrder (typeMapOf s) ≡ true)
       ∙ sym (map-each asInherited (handsOf k m) (listedParents m T)))
       ∙ dedup-is (heard s (ok .once) order T)
 
-  inherited-jobs : List·Permᴰ (jobsOf (dedup (whole (typeMapOf s) T))) (map (inheritedJob (lineMap s) (declarationOf T) As) (wordsAbove (declarationOf T) As))
+  inherited-jobs : List·Permᴰ (jobsOf (dedup (whole (typeMapOf s) T))) (map (inheritedJob (lineMap s) (lineTypeOf T) As) (wordsAbove (lineTypeOf T) As))
   inherited-jobs =
-      let inh : ℕ → Job = inheritedJob (lineMap s) (declarationOf T) As in
+      let inh : ℕ → Job = inheritedJob (lineMap s) (lineTypeOf T) As in
       List·Permᴰ·trans
       (perm-same
       (ap jobsOf whole-is ∙ each-map jobsIn asInherited left
@@ -225,21 +225,21 @@ module _ (s : Sheet) (ok : Readable s) (order : hasOrder (typeMapOf s) ≡ true)
       ∙ sym (map-map inh (λ (u : AssociatedResource). u .word) (e .uses)))
       ∙ sym (map-each inh (λ (e : Entry). map (λ (u : AssociatedResource). u .word) (e .uses)) left)))
       (perm-map inh
-      (distinct-perm words (wordsAbove (declarationOf T) As) words-once
-      (sorted-filter (λ r q. r ≡ q → ⊥) (associateWord As) (wordsMade (declarationOf T) As) (words-distinct (declarationOf T) As))
+      (distinct-perm words (wordsAbove (lineTypeOf T) As) words-once
+      (sorted-filter (λ r q. r ≡ q → ⊥) (associateWord As) (wordsMade (lineTypeOf T) As) (words-distinct (lineTypeOf T) As))
       (λ r.
       let x = words-are r in
-      let y = words-above-is (declarationOf T) As r in
+      let y = words-above-is (lineTypeOf T) As r in
       (λ i. y .1 (x .0 i), λ i. x .1 (y .0 i)))))
 
   -- all of them
-  pub jobs-perm : List·Permᴰ (jobsOf (ownEntries T ++ dedup (whole (typeMapOf s) T))) (jobsFor (lineMap s) (declarationOf T) As)
+  pub jobs-perm : List·Permᴰ (jobsOf (ownEntries T ++ dedup (whole (typeMapOf s) T))) (jobsFor (lineMap s) (lineTypeOf T) As)
   jobs-perm =
       List·Permᴰ·trans (perm-same (each-append jobsIn (ownEntries T) (dedup (whole (typeMapOf s) T)))) (perm-append (own-jobs T) inherited-jobs)
 
 -- ---- the items of a type
 
-module _ (m : Map) (T : Declaration) (As : List Declaration) where
+module _ (m : LineMap) (T : LineType) (As : List LineType) where
   own-at : (r : ℕ) → List·Permᴰ (map (ownResource m T r) (ownClasses T r)) (map (λ u. made m T (ownJob u)) (ofWord r (owned T)))
   unfolding ownClasses
   own-at r =

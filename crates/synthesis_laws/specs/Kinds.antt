@@ -9,7 +9,7 @@ use lib.Dec.{eqb}
 use Rattle.lists.specs.Lists.{null, filter, setOf}
 use Rattle.lists.specs.Tests.{by, never}
 use Rattle.definitions.specs.Records.{Name, AssociatedResource, makeList, associate, nestAssociate, alias, inherit, derive, noDerive, AnnotationInfo}
-use Rattle.definitions.specs.Orders.{nameBefore}
+use Rattle.definitions.specs.Comparisons.{nameBefore}
 use Rattle.definitions.specs.Checks.{kindOf, resourcesOf}
 use Rattle.definitions.specs.Annotations.{Overlap, nothing, whole, byWord, overlapOf, sameAlias, someIf, withResources, shared, less, intersectionBy, intersection, differenceBy, difference}
 use Rattle.definitions.specs.Inherited.{InheritedAnnotation, underParents, sharedEntry, restEntry, toList, dedupOne, dedupOnto}

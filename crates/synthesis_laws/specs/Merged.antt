@@ -14,10 +14,10 @@ use Rattle.lists.specs.Strict.{Strict, asymmetric, number-strict}
 use Rattle.lists.specs.Sorting.{Distinct, sorted-imp, sorted-unique, one-key, set-is, set-sorted}
 use Rattle.lists.specs.Counting.{pigeonhole}
 use Rattle.definitions.specs.Records.{Name, Dom, AssociatedResource}
-use Rattle.definitions.specs.Orders.{nameBefore, domBefore}
-use Rattle.definitions.specs.Annotations.{hasWord, domsIn, shared, less}
+use Rattle.definitions.specs.Comparisons.{nameBefore, domBefore}
+use Rattle.definitions.specs.Annotations.{hasAssociatedWord, domsIn, shared, less}
 use Rattle.definitions.specs.Inherited.{toList}
-use Rattle.laws.specs.Orders.{name-strict, dom-strict}
+use Rattle.laws.specs.Comparisons.{name-strict, dom-strict}
 use Rattle.lists.specs.Permutations.{apart-of}
 use Rattle.synthesis_laws.specs.Entries.{Entry, entry, unlessNone, restOf, commonOf, mergeOne, mergeOnto, merged, dom, parent, Fact, word, GivesDom, Says, has-in, has-of, says-word, doms-is, SaysIn, says-more, says-append, says-none, one-in, one-of, NoWordShared, one-apart, Ascending, AllAscending, one-ascending}
 
@@ -68,18 +68,18 @@ pub merged-ascending : (l : List Entry) → AllAscending l → AllAscending (mer
 merged-ascending l a = onto-ascending [] l (λ e i. absurd (List·Memᴰ·not-nil i)) a
 
 -- of two entries with a word there is one
-one-entry : (l : List Entry) → Sorted NoWordShared l → {a b : Entry} (r : ℕ) → In a l → In b l → hasWord (a .uses) r ≡ true → hasWord (b .uses) r ≡ true → a ≡ b
+one-entry : (l : List Entry) → Sorted NoWordShared l → {a b : Entry} (r : ℕ) → In a l → In b l → hasAssociatedWord (a .uses) r ≡ true → hasAssociatedWord (b .uses) r ≡ true → a ≡ b
 one-entry [] s r i j p q = absurd (List·Memᴰ·not-nil i)
 one-entry (x ∷ l) s {a} {b} r i j p q =
     cons-elim i
-    (λ e. cons-elim j (λ f. e ∙ sym f) (λ k. absurd (s .0 b k r (subst (λ (c : Entry). hasWord (c .uses) r ≡ true) e p) q)))
-    (λ h. cons-elim j (λ f. absurd (s .0 a h r (subst (λ (c : Entry). hasWord (c .uses) r ≡ true) f q) p)) (λ k. one-entry l (s .1) r h k p q))
+    (λ e. cons-elim j (λ f. e ∙ sym f) (λ k. absurd (s .0 b k r (subst (λ (c : Entry). hasAssociatedWord (c .uses) r ≡ true) e p) q)))
+    (λ h. cons-elim j (λ f. absurd (s .0 a h r (subst (λ (c : Entry). hasAssociatedWord (c .uses) r ≡ true) f q) p)) (λ k. one-entry l (s .1) r h k p q))
 
 -- so the entry with a word says all that any entry says of it
-entry-says : (l : List Entry) → Sorted NoWordShared l → {a : Entry} (r : ℕ) (f : Fact) → In a l → hasWord (a .uses) r ≡ true → SaysIn l r f → Says a r f
+entry-says : (l : List Entry) → Sorted NoWordShared l → {a : Entry} (r : ℕ) (f : Fact) → In a l → hasAssociatedWord (a .uses) r ≡ true → SaysIn l r f → Says a r f
 entry-says l s {a} r f i w h = subst (λ (c : Entry). Says c r f) (one-entry l s r (h .listed) i (says-word (h .entry) r f (h .says)) w) (h .says)
 
-pub merged-entry : (l : List Entry) {a : Entry} (r : ℕ) (f : Fact) → In a (merged l) → hasWord (a .uses) r ≡ true → Says a r f ↔ SaysIn l r f
+pub merged-entry : (l : List Entry) {a : Entry} (r : ℕ) (f : Fact) → In a (merged l) → hasAssociatedWord (a .uses) r ≡ true → Says a r f ↔ SaysIn l r f
 merged-entry l {a} r f i w = (
   λ s. merged-says l r f .0 (record { entry = a; listed = i; says = s }),
   λ s. entry-says (merged l) (merged-apart l) r f i w (merged-says l r f .1 s),
@@ -108,7 +108,7 @@ abbrev pub domsFrom : List Entry → ℕ → List Dom
 domsFrom l r = each (λ (e : Entry). domsIn (e .uses) r) l
 
 abbrev pub parentsFrom : List Entry → ℕ → List Name
-parentsFrom l r = each (λ (e : Entry). e .parents) (filter (λ (e : Entry). hasWord (e .uses) r) l)
+parentsFrom l r = each (λ (e : Entry). e .parents) (filter (λ (e : Entry). hasAssociatedWord (e .uses) r) l)
 
 pub doms-from : (l : List Entry) (r : ℕ) (d : Dom) → In d (domsFrom l r) ↔ SaysIn l r (dom d)
 doms-from l r d = (
@@ -121,10 +121,10 @@ doms-from l r d = (
 parents-from : (l : List Entry) (r : ℕ) (P : Name) → In P (parentsFrom l r) ↔ SaysIn l r (parent P)
 parents-from l r P = (
   λ i.
-      let x = each-of (λ (e : Entry). e .parents) (filter (λ (e : Entry). hasWord (e .uses) r) l) i in
-      let y = filter-of (λ (e : Entry). hasWord (e .uses) r) l (x .1) in
+      let x = each-of (λ (e : Entry). e .parents) (filter (λ (e : Entry). hasAssociatedWord (e .uses) r) l) i in
+      let y = filter-of (λ (e : Entry). hasAssociatedWord (e .uses) r) l (x .1) in
       record { entry = x .0; listed = y .0; says = (y .1, x .2) },
-  λ s. each-in (λ (e : Entry). e .parents) (filter-in (λ (e : Entry). hasWord (e .uses) r) (s .listed) (s .says .0)) (s .says .1),
+  λ s. each-in (λ (e : Entry). e .parents) (filter-in (λ (e : Entry). hasAssociatedWord (e .uses) r) (s .listed) (s .says .0)) (s .says .1),
 )
 
 -- the doms of a word in its entry are all doms that it was given, and the parents all that it came from
@@ -139,7 +139,7 @@ merged-doms l a e i u j =
     let z = doms-from l (u .word) d in
     (λ k. z .1 (y .0 (x .0 k)), λ k. x .1 (y .1 (z .0 k))))
 
-pub merged-parents : (l : List Entry) → AllAscending l → (e : Entry) → In e (merged l) → (r : ℕ) → hasWord (e .uses) r ≡ true
+pub merged-parents : (l : List Entry) → AllAscending l → (e : Entry) → In e (merged l) → (r : ℕ) → hasAssociatedWord (e .uses) r ≡ true
     → e .parents ≡ setOf nameBefore (parentsFrom l r)
 merged-parents l a e i r w =
     let b = merged-ascending l a e i in
@@ -229,13 +229,13 @@ firsts [] a s = ([], refl, tt, λ r i. absurd (List·Memᴰ·not-nil i))
 firsts (e ∷ l) a s =
     let x = firsts l (λ y i. a y (List·Memᴰ·tail i)) (s .1) in
     let u = a e (List·Memᴰ·head refl) in
-    let w : hasWord (e .uses) (u .0 .word) ≡ true = has-in (u .1) refl in (
+    let w : hasAssociatedWord (e .uses) (u .0 .word) ≡ true = has-in (u .1) refl in (
       u .0 .word ∷ x .0,
       ap suc (x .1),
-      (λ r i q. let y = x .3 r i in s .0 (y .entry) (y .listed) (u .0 .word) w (subst (λ z. hasWord (y .entry .uses) z ≡ true) (sym q) (y .says)), x .2),
+      (λ r i q. let y = x .3 r i in s .0 (y .entry) (y .listed) (u .0 .word) w (subst (λ z. hasAssociatedWord (y .entry .uses) z ≡ true) (sym q) (y .says)), x .2),
       λ r i.
           cons-elim i
-          (λ q. record { entry = e; listed = List·Memᴰ·head refl; says = subst (λ z. hasWord (e .uses) z ≡ true) (sym q) w })
+          (λ q. record { entry = e; listed = List·Memᴰ·head refl; says = subst (λ z. hasAssociatedWord (e .uses) z ≡ true) (sym q) w })
           (λ j. says-more (λ y k. List·Memᴰ·tail k) (x .3 r j)),
     )
 

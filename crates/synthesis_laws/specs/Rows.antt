@@ -9,15 +9,15 @@ use Rattle.lists.specs.Lists.{In, any, null, repeats, each}
 use Rattle.lists.specs.Tests.{or-false-left, or-false-right, any-not, any-none}
 use Rattle.lists.specs.Sorting.{Distinct, sorted-append, perm-in, perm-sorted, set-is}
 use Rattle.definitions.specs.Records.{Name, Dom, Resource, TypeInfo, Sheet, Item}
-use Rattle.definitions.specs.Orders.{dotted}
-use Rattle.definitions.specs.Map.{typeMapOf, Declaration, Map, declarationOf, mapOf}
+use Rattle.definitions.specs.Comparisons.{dotted}
+use Rattle.definitions.specs.Map.{typeMapOf, LineType, LineMap, lineTypeOf, lineMapOf}
 use Rattle.definitions.specs.Order.{hasOrder}
 use Rattle.definitions.specs.Inherited.{dedup}
 use Rattle.definitions.specs.Making.{declared, classNames, isResource, extensionLine, sameItem}
 use Rattle.definitions.specs.Synthesis.{ownEntries, interpretType, interpretAll, synthesis}
 use Rattle.definitions.specs.Items.{owned, given, ofWord, associateWord, ancestors, domsAbove, wordsMade, itemsFor, itemsOf}
 use Rattle.definitions.specs.Ancestry.{HasOrder}
-use Rattle.laws.specs.Orders.{dom-strict, types-is, names-once}
+use Rattle.laws.specs.Comparisons.{dom-strict, types-is, names-once}
 use Rattle.laws.specs.Order.{order-exists}
 use Rattle.line_laws.specs.Statements.{Readable, lineMap, classesOf, isRefused, anyRefused}
 use Rattle.lists.specs.Members.{distinct-map, sorted-left}
@@ -36,7 +36,7 @@ use Rattle.synthesis_laws.specs.Jobs.{ownJob, inheritedJob, wordsAbove, 
 
 -- ---- the classes and the words of the makings
 
-module _ (m : Map) (T : Declaration) (As : List Declaration) where
+module _ (m : LineMap) (T : LineType) (As : List LineType) where
   own-job : {u : Resource} → In u (owned T) → In (ownJob u) (jobsFor m T As)
   own-job i = Memᴰ·append-left (map (inheritedJob m T As) (wordsAbove T As)) (Memᴰ·map ownJob i)
 
@@ -188,19 +188,19 @@ module _ (m : Map) (T : Declaration) (As : List Declaration) where
 
 -- ---- one type
 
-among-perm : (m : Map) (T : Declaration) {js ks : List Job} {x : Item} → List·Permᴰ js ks → Among m T js x → Among m T ks x
+among-perm : (m : LineMap) (T : LineType) {js ks : List Job} {x : Item} → List·Permᴰ js ks → Among m T js x → Among m T ks x
 among-perm m T p (making j i e) = making j (perm-in p i) e
 among-perm m T p (lined j i e) = lined j (perm-in p i) e
 
 module _ (s : Sheet) (ok : Readable s) (order : hasOrder (typeMapOf s) ≡ true) where
-  abbrev above : TypeInfo → List Declaration
-  above T = ancestors (lineMap s) (declarationOf T)
+  abbrev above : TypeInfo → List LineType
+  above T = ancestors (lineMap s) (lineTypeOf T)
 
-  clean-is : (T : TypeInfo) → Clean (typeMapOf s) T ↔ (isRefused (lineMap s) (declarationOf T) (above T) ≡ false)
+  clean-is : (T : TypeInfo) → Clean (typeMapOf s) T ↔ (isRefused (lineMap s) (lineTypeOf T) (above T) ≡ false)
   unfolding interpretType
   clean-is T =
       let m = lineMap s in
-      let D = declarationOf T in
+      let D = lineTypeOf T in
       let p = jobs-perm s ok order T in
       let x = no-row m D (ownEntries T ++ dedup (whole (typeMapOf s) T)) in
       let y = refused-not m D (above T) in
@@ -210,11 +210,11 @@ module _ (s : Sheet) (ok : Readable s) (order : hasOrder (typeMapOf s) ≡ true)
       )
 
   -- its items are those from ancestors
-  clean-made : (T : TypeInfo) → Clean (typeMapOf s) T → List·Permᴰ (result (typeMapOf s) T .items) (itemsFor (lineMap s) (declarationOf T) (above T))
+  clean-made : (T : TypeInfo) → Clean (typeMapOf s) T → List·Permᴰ (result (typeMapOf s) T .items) (itemsFor (lineMap s) (lineTypeOf T) (above T))
   unfolding interpretType
   clean-made T c =
       let m = lineMap s in
-      let D = declarationOf T in
+      let D = lineTypeOf T in
       let l = ownEntries T ++ dedup (whole (typeMapOf s) T) in
       let p = jobs-perm s ok order T in
       distinct-perm (interpretAll m D l [] .items) (itemsFor m D (above T)) (no-row-once m D l c)
@@ -226,10 +226,10 @@ module _ (s : Sheet) (ok : Readable s) (order : hasOrder (typeMapOf s) ≡ true)
 
   -- ---- the map
 
-  tested-each : (anyRefused (lineMap s) ≡ false) ↔ ((T : TypeInfo) → In T (typeMapOf s .types) → isRefused (lineMap s) (declarationOf T) (above T) ≡ false)
+  tested-each : (anyRefused (lineMap s) ≡ false) ↔ ((T : TypeInfo) → In T (typeMapOf s .types) → isRefused (lineMap s) (lineTypeOf T) (above T) ≡ false)
   unfolding anyRefused
   tested-each =
-      let f : Declaration → Bool = λ D. isRefused (lineMap s) D (ancestors (lineMap s) D) in (
+      let f : LineType → Bool = λ D. isRefused (lineMap s) D (ancestors (lineMap s) D) in (
         λ e T i. any-not f e (type-in s (types-is s T .0 i)),
         λ h. any-none f (lineMap s .types) (λ D i. let x = type-of s i in subst (λ E. f E ≡ false) (x .2) (h (x .0) (types-is s (x .0) .1 (x .1)))),
       )
@@ -240,16 +240,16 @@ module _ (s : Sheet) (ok : Readable s) (order : hasOrder (typeMapOf s) ≡ true)
       let y = tested-each in
       (λ e. y .1 (λ T i. clean-is T .0 (x .0 e T i)), λ e. x .1 (λ T i. clean-is T .1 (y .0 e T i)))
 
-  items-all : itemsOf (lineMap s) ≡ each (λ T. itemsFor (lineMap s) (declarationOf T) (above T)) (typeMapOf s .types)
-  unfolding itemsOf mapOf
-  items-all = each-map (λ D. itemsFor (lineMap s) D (ancestors (lineMap s) D)) declarationOf (typeMapOf s .types)
+  items-all : itemsOf (lineMap s) ≡ each (λ T. itemsFor (lineMap s) (lineTypeOf T) (above T)) (typeMapOf s .types)
+  unfolding itemsOf lineMapOf
+  items-all = each-map (λ D. itemsFor (lineMap s) D (ancestors (lineMap s) D)) lineTypeOf (typeMapOf s .types)
 
   made-items : synthesis (typeMapOf s) .rows ≡ [] → List·Permᴰ (synthesis (typeMapOf s) .items) (itemsOf (lineMap s))
   made-items e =
       let c = no-rows-is s (ok .once) order .0 e in
       List·Permᴰ·trans (clean-items s (ok .once) order c)
       (List·Permᴰ·trans
-      (perm-each-in (λ T. result (typeMapOf s) T .items) (λ T. itemsFor (lineMap s) (declarationOf T) (above T)) (typeMapOf s .types) (λ T i. clean-made T (c T i)))
+      (perm-each-in (λ T. result (typeMapOf s) T .items) (λ T. itemsFor (lineMap s) (lineTypeOf T) (above T)) (typeMapOf s .types) (λ T i. clean-made T (c T i)))
       (perm-same (sym items-all)))
 
 -- ---- the statements

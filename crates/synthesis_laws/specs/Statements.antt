@@ -10,11 +10,11 @@ use lib.ListN.{length}
 use Rattle.lists.specs.Lists.{In, Sorted, filter, each, setOf}
 use Rattle.lists.specs.Sorting.{Distinct, Ascending}
 use Rattle.definitions.specs.Records.{Name, Dom, Resource, AssociatedResource, associate, nestAssociate, AnnotationInfo, TypeInfo, Sheet, Item}
-use Rattle.definitions.specs.Orders.{nameBefore, domBefore}
+use Rattle.definitions.specs.Comparisons.{nameBefore, domBefore}
 use Rattle.definitions.specs.Checks.{kindOf, resourcesOf}
-use Rattle.definitions.specs.Map.{TypeMap, typeMapOf, declarationOf}
+use Rattle.definitions.specs.Map.{TypeMap, typeMapOf, lineTypeOf}
 use Rattle.definitions.specs.Order.{hasOrder}
-use Rattle.definitions.specs.Annotations.{wordsOf, hasWord, domsIn, intersection, difference}
+use Rattle.definitions.specs.Annotations.{wordListOf, hasAssociatedWord, domsIn, intersection, difference}
 use Rattle.definitions.specs.Inherited.{InheritedAnnotation, dedup, ownAssociates, asAssociate, under, handedOn}
 use Rattle.definitions.specs.Making.{classNames, createSyntheticResource}
 use Rattle.definitions.specs.Synthesis.{firstParents, listedParents, synthesis}
@@ -32,10 +32,10 @@ resourcesIn (some a) = resourcesOf a
 
 -- 'all data falls into three sets': no word stands in two of them, and together they have every word and every dom of us and vs
 pub record ThreeSets (us vs left both right : List AssociatedResource) : Type 0 where
-  pub leftShared : (r : ℕ) → hasWord left r ≡ true → hasWord both r ≡ true → ⊥
-  pub leftRight : (r : ℕ) → hasWord left r ≡ true → hasWord right r ≡ true → ⊥
-  pub sharedRight : (r : ℕ) → hasWord both r ≡ true → hasWord right r ≡ true → ⊥
-  pub words : (r : ℕ) → ((hasWord us r ≡ true) ⊎ (hasWord vs r ≡ true)) ↔ ((hasWord left r ≡ true) ⊎ ((hasWord both r ≡ true) ⊎ (hasWord right r ≡ true)))
+  pub leftShared : (r : ℕ) → hasAssociatedWord left r ≡ true → hasAssociatedWord both r ≡ true → ⊥
+  pub leftRight : (r : ℕ) → hasAssociatedWord left r ≡ true → hasAssociatedWord right r ≡ true → ⊥
+  pub sharedRight : (r : ℕ) → hasAssociatedWord both r ≡ true → hasAssociatedWord right r ≡ true → ⊥
+  pub words : (r : ℕ) → ((hasAssociatedWord us r ≡ true) ⊎ (hasAssociatedWord vs r ≡ true)) ↔ ((hasAssociatedWord left r ≡ true) ⊎ ((hasAssociatedWord both r ≡ true) ⊎ (hasAssociatedWord right r ≡ true)))
   pub doms : (r : ℕ) (d : Dom) → (In d (domsIn us r) ⊎ In d (domsIn vs r)) ↔ (In d (domsIn left r) ⊎ (In d (domsIn both r) ⊎ In d (domsIn right r)))
 
 -- What becomes of two annotations. Two Associates, or two NestAssociates, part by word. Equal MakeLists, Aliases or NoDerives are shared whole. All else stays on
@@ -67,11 +67,11 @@ abbrev pub resourcesFor : InheritedAnnotation → List AssociatedResource
 resourcesFor e = resourcesOf (e .annotation)
 
 abbrev pub entryHas : InheritedAnnotation → ℕ → Bool
-entryHas e r = hasWord (resourcesFor e) r
+entryHas e r = hasAssociatedWord (resourcesFor e) r
 
 -- the words of entries, the doms that they give a word and the parents that they have it from: each ascending, each once
 abbrev pub wordsGiven : List InheritedAnnotation → List ℕ
-wordsGiven l = setOf ltb (each (λ (e : InheritedAnnotation). wordsOf (e .annotation)) l)
+wordsGiven l = setOf ltb (each (λ (e : InheritedAnnotation). wordListOf (e .annotation)) l)
 
 abbrev pub domsGiven : List InheritedAnnotation → ℕ → List Dom
 domsGiven l r = setOf domBefore (each (λ (e : InheritedAnnotation). domsIn (resourcesFor e) r) l)
@@ -146,8 +146,8 @@ pub record Inherits (s : Sheet) (T : TypeInfo) (k : List InheritedAnnotation) : 
   pub doms : (e : InheritedAnnotation) → In e k → (u : AssociatedResource) → In u (resourcesFor e) → DomsAbove s T (u .word) (u .doms)
   pub parents : (e : InheritedAnnotation) → In e k → (r : ℕ) → entryHas e r ≡ true → ParentsAbove s T r (e .parents)
   pub makes : (e : InheritedAnnotation) → In e k → (u : AssociatedResource) → In u (resourcesFor e)
-      → createSyntheticResource (lineMap s) (declarationOf T) (u .word) (classNames (u .doms) (u .word)) (firstParents (e .parents) (classNames (u .doms) (u .word)) (u .word))
-      ≡ inheritedResource (lineMap s) (declarationOf T) (ancestors (lineMap s) (declarationOf T)) (u .word)
+      → createSyntheticResource (lineMap s) (lineTypeOf T) (u .word) (classNames (u .doms) (u .word)) (firstParents (e .parents) (classNames (u .doms) (u .word)) (u .word))
+      ≡ inheritedResource (lineMap s) (lineTypeOf T) (ancestors (lineMap s) (lineTypeOf T)) (u .word)
 
 abbrev pub EachInherits : Type 0
 EachInherits = (s : Sheet) → Ordered s → (T : TypeInfo) → Inherits s T (inheritedBy (typeMapOf s) T)

@@ -9,14 +9,14 @@ use Rattle.lists.specs.Lists.{In, Sorted, null, each}
 use Rattle.lists.specs.Tests.{by, never, and-both, cons-elim}
 use Rattle.lists.specs.Sorting.{one-key, sorted-imp}
 use Rattle.definitions.specs.Records.{Name, TypeInfo, Sheet}
-use Rattle.definitions.specs.Orders.{elemName}
+use Rattle.definitions.specs.Comparisons.{elemName}
 use Rattle.definitions.specs.Map.{TypeMap, typeMapOf}
 use Rattle.definitions.specs.Checks.{somethingTwice}
 use Rattle.definitions.specs.Order.{hasOrder}
 use Rattle.definitions.specs.Inherited.{InheritedAnnotation, handedOn}
 use Rattle.definitions.specs.Synthesis.{Interpreted, interpretType, Visited, Called, Heard, onlyIf, hear, hearAll, listedParents, finish, visit, visitAll, synthesis}
 use Rattle.definitions.specs.Ancestry.{Parent, Ancestor, direct, further}
-use Rattle.laws.specs.Orders.{elem-in, elem-of, types-is, types-apart, names-once}
+use Rattle.laws.specs.Comparisons.{elem-in, elem-of, types-is, types-apart, names-once}
 use Rattle.laws.specs.Rounds.{ancestor-type}
 use Rattle.laws.specs.Visit.{heardBy, visit-seen, visit-new}
 use Rattle.lists.specs.Appending.{append-empty}

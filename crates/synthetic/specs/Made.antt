@@ -12,8 +12,8 @@ use Rattle.rows.specs.Lists.{between, below}
 use Rattle.annotations.specs.Reading.{domAt, domsOf}
 use Rattle.definitions.specs.Records.{Name, Item}
 use Rattle.definitions.specs.Records as records
-use Rattle.definitions.specs.Orders.{sameName, dotted}
-use Rattle.definitions.specs.Map.{Declaration}
+use Rattle.definitions.specs.Comparisons.{sameName, dotted}
+use Rattle.definitions.specs.Map.{LineType}
 use Rattle.definitions.specs.Making.{declared, classNames, extensionParents, marksOf, allVirtual, createSyntheticResource}
 use Rattle.definitions.specs.Synthesis.{firstParents}
 use Rattle.making.specs.Making as making
@@ -29,7 +29,7 @@ pub record ClassAt (firsts seconds : List ℕ) (count : ℕ) (doms : Row) (dom w
   pub absent : has doms dom ≡ false → r ≡ count
 
 -- the declared classes of n doms from k on, in turn
-unfoldable pub classTypes : Table → Row → ℕ → ℕ → ℕ → List Declaration
+unfoldable pub classTypes : Table → Row → ℕ → ℕ → ℕ → List LineType
 classTypes t doms word k n = each (declared (tableMap t)) (map (λ d. dotted (domAt d) word) (between (has doms) k n))
 
 -- the class names of a row of doms

@@ -19,8 +19,8 @@ use Rattle.rows.specs.RowLaws.{bit-none}
 use Rattle.annotations.specs.Reading.{domAt, domsOf}
 use Rattle.definitions.specs.Records.{Name}
 use Rattle.definitions.specs.Records as records
-use Rattle.definitions.specs.Orders.{sameName, dotted}
-use Rattle.definitions.specs.Map.{Declaration}
+use Rattle.definitions.specs.Comparisons.{sameName, dotted}
+use Rattle.definitions.specs.Map.{LineType}
 use Rattle.definitions.specs.Making.{declared, extensionParents, marksOf, allVirtual, createSyntheticResource}
 use Rattle.definitions.specs.Synthesis.{firstParents}
 use Rattle.fields.specs.Fields.{nameOf, ofNames}
@@ -70,34 +70,34 @@ unfolding classTypes domsOf
 classes-all t doms word = ap (each (declared (tableMap t))) (map-map (λ d. dotted d word) domAt (below (has doms) 201))
 
 pub marks-all : (t : Table) (doms : Row) (word : ℕ) →
-    marksOf (tableMap t) (classesOf doms word) ≡ each (λ (D : Declaration). D .marks) (classTypes t doms word 0 201)
+    marksOf (tableMap t) (classesOf doms word) ≡ each (λ (D : LineType). D .marks) (classTypes t doms word 0 201)
 unfolding marksOf
 marks-all t doms word =
-    sym (each-each (declared (tableMap t)) (λ (D : Declaration). D .marks) (classesOf doms word))
-    ∙ ap (each (λ (D : Declaration). D .marks)) (classes-all t doms word)
+    sym (each-each (declared (tableMap t)) (λ (D : LineType). D .marks) (classesOf doms word))
+    ∙ ap (each (λ (D : LineType). D .marks)) (classes-all t doms word)
 
 pub virtual-all : (t : Table) (doms : Row) (word : ℕ) →
-    allVirtual (tableMap t) (classesOf doms word) ≡ all (λ (D : Declaration). D .virtual) (classTypes t doms word 0 201)
+    allVirtual (tableMap t) (classesOf doms word) ≡ all (λ (D : LineType). D .virtual) (classTypes t doms word 0 201)
 unfolding allVirtual
 virtual-all t doms word =
-    sym (all-each (λ (D : Declaration). D .virtual) (declared (tableMap t)) (classesOf doms word))
-    ∙ ap (all (λ (D : Declaration). D .virtual)) (classes-all t doms word)
+    sym (all-each (λ (D : LineType). D .virtual) (declared (tableMap t)) (classesOf doms word))
+    ∙ ap (all (λ (D : LineType). D .virtual)) (classes-all t doms word)
 
 -- ---- a loop over the classes
 
 -- what was gathered before the dom k, and what is left
 pub record Stage (t : Table) (doms : Row) (word k : ℕ) (ms : List records.Mark) (v : Bool) : Type 0 where
-  pub marks : ms ++ each (λ (D : Declaration). D .marks) (classTypes t doms word k (201 - k)) ≡ each (λ (D : Declaration). D .marks) (classTypes t doms word 0 201)
-  pub flag : (v && all (λ (D : Declaration). D .virtual) (classTypes t doms word k (201 - k))) ≡ all (λ (D : Declaration). D .virtual) (classTypes t doms word 0 201)
+  pub marks : ms ++ each (λ (D : LineType). D .marks) (classTypes t doms word k (201 - k)) ≡ each (λ (D : LineType). D .marks) (classTypes t doms word 0 201)
+  pub flag : (v && all (λ (D : LineType). D .virtual) (classTypes t doms word k (201 - k))) ≡ all (λ (D : LineType). D .virtual) (classTypes t doms word 0 201)
 
 pub stage-start : (t : Table) (doms : Row) (word : ℕ) → Stage t doms word 0 [] true
 stage-start t doms word = record { marks = refl; flag = refl }
 
-marks-at : (t : Table) (r : ℕ) → r < t .count → each (λ (D : Declaration). D .marks) (typeAt t r) ≡ ofMarks (getD (t .marks) r zeroMarks)
+marks-at : (t : Table) (r : ℕ) → r < t .count → each (λ (D : LineType). D .marks) (typeAt t r) ≡ ofMarks (getD (t .marks) r zeroMarks)
 unfolding declarationAt
 marks-at t r h = rw (lt-ltb r (t .count) h) (append-nil _)
 
-virtual-at : (t : Table) (r : ℕ) → r < t .count → all (λ (D : Declaration). D .virtual) (typeAt t r) ≡ getD (t .virtuals) r false
+virtual-at : (t : Table) (r : ℕ) → r < t .count → all (λ (D : LineType). D .virtual) (typeAt t r) ≡ getD (t .virtuals) r false
 unfolding declarationAt
 virtual-at t r h = rw (lt-ltb r (t .count) h) (and-true _)
 
@@ -109,15 +109,15 @@ module _ (t : Table) (s : Sound t) (doms : Row) (word k r : ℕ) (h : k < 201) (
       record {
         marks =
             rw p (append-assoc ms _ _
-            ∙ ap (λ x. ms ++ (x ++ each (λ (D : Declaration). D .marks) (classTypes t doms word (k + 1) (201 - (k + 1))))) (sym (marks-at t r l))
-            ∙ ap (λ x. ms ++ x) (sym (each-append (λ (D : Declaration). D .marks) (typeAt t r) _))
-            ∙ ap (λ x. ms ++ each (λ (D : Declaration). D .marks) x) (sym e)
+            ∙ ap (λ x. ms ++ (x ++ each (λ (D : LineType). D .marks) (classTypes t doms word (k + 1) (201 - (k + 1))))) (sym (marks-at t r l))
+            ∙ ap (λ x. ms ++ x) (sym (each-append (λ (D : LineType). D .marks) (typeAt t r) _))
+            ∙ ap (λ x. ms ++ each (λ (D : LineType). D .marks) x) (sym e)
             ∙ g .marks);
         flag =
             rw q (and-assoc v _ _
-            ∙ ap (λ x. v && (x && all (λ (D : Declaration). D .virtual) (classTypes t doms word (k + 1) (201 - (k + 1))))) (sym (virtual-at t r l))
-            ∙ ap (λ x. v && x) (sym (all-append (λ (D : Declaration). D .virtual) (typeAt t r) _))
-            ∙ ap (λ x. v && all (λ (D : Declaration). D .virtual) x) (sym e)
+            ∙ ap (λ x. v && (x && all (λ (D : LineType). D .virtual) (classTypes t doms word (k + 1) (201 - (k + 1))))) (sym (virtual-at t r l))
+            ∙ ap (λ x. v && x) (sym (all-append (λ (D : LineType). D .virtual) (typeAt t r) _))
+            ∙ ap (λ x. v && all (λ (D : LineType). D .virtual) x) (sym e)
             ∙ g .flag);
       }
 
@@ -125,8 +125,8 @@ module _ (t : Table) (s : Sound t) (doms : Row) (word k r : ℕ) (h : k < 201) (
   stage-skipped l ms v g =
       let e : classTypes t doms word k (201 - k) ≡ classTypes t doms word (k + 1) (201 - (k + 1)) = class-types t s doms word k r h c ∙ rw (le-ltb r (t .count) l) in
       record {
-        marks = ap (λ x. ms ++ each (λ (D : Declaration). D .marks) x) (sym e) ∙ g .marks;
-        flag = ap (λ x. v && all (λ (D : Declaration). D .virtual) x) (sym e) ∙ g .flag;
+        marks = ap (λ x. ms ++ each (λ (D : LineType). D .marks) x) (sym e) ∙ g .marks;
+        flag = ap (λ x. v && all (λ (D : LineType). D .virtual) x) (sym e) ∙ g .flag;
       }
 
   -- the marks of the class find room
@@ -145,8 +145,8 @@ pub stage-end : (t : Table) (doms : Row) (word k : ℕ) (ms : List records.Mark)
     → (ms ≡ marksOf (tableMap t) (classesOf doms word)) × (v ≡ allVirtual (tableMap t) (classesOf doms word))
 stage-end t doms word k ms v h g =
     let e = class-types-end t doms word k h in
-    let m : ms ++ [] ≡ each (λ (D : Declaration). D .marks) (classTypes t doms word 0 201) = ap (λ x. ms ++ each (λ (D : Declaration). D .marks) x) (sym e) ∙ g .marks in
-    let f : (v && true) ≡ all (λ (D : Declaration). D .virtual) (classTypes t doms word 0 201) = ap (λ x. v && all (λ (D : Declaration). D .virtual) x) (sym e) ∙ g .flag in
+    let m : ms ++ [] ≡ each (λ (D : LineType). D .marks) (classTypes t doms word 0 201) = ap (λ x. ms ++ each (λ (D : LineType). D .marks) x) (sym e) ∙ g .marks in
+    let f : (v && true) ≡ all (λ (D : LineType). D .virtual) (classTypes t doms word 0 201) = ap (λ x. v && all (λ (D : LineType). D .virtual) x) (sym e) ∙ g .flag in
     (sym (append-nil ms) ∙ m ∙ sym (marks-all t doms word), sym (and-true v) ∙ f ∙ sym (virtual-all t doms word))
 
 -- ---- a loop over the numbers below n of which f holds

@@ -18,7 +18,7 @@ ghost use Rattle.definitions.specs.Making.{extensionParents, marksOf};
 ghost use Rattle.fields.specs.Fields.{nameOf, ofNames};
 ghost use Rattle.making.specs.Making as making;
 ghost use Rattle.making.specs.Making.{parentsOf, itemOf};
-ghost use Rattle.definitions.specs.Orders.{dotted};
+ghost use Rattle.definitions.specs.Comparisons.{dotted};
 ghost use Rattle.records.specs.Marks.{ofMarks};
 ghost use Rattle.types.specs.Extensions.{extensionOf, ofExtensions};
 ghost use Rattle.table.specs.Table.{tableMap, Sound, typeAt};

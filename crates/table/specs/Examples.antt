@@ -7,7 +7,7 @@ use native.Mathlib.Omega.{arith}
 use lib.ListN.{replicate}
 use Rattle.lists.specs.Tabulating.{tabulate, places}
 use Rattle.definitions.specs.Records.{domain, resource, makelistMark}
-use Rattle.definitions.specs.Map.{Map}
+use Rattle.definitions.specs.Map.{LineMap}
 use Rattle.records.specs.Marks.{ofMarks}
 use Rattle.types.specs.Extensions.{zeroExtension, ofExtensions}
 use Rattle.table.specs.Table.{zeroMarks, nameAt, declarationAt, tableMap, Sound}
@@ -27,7 +27,7 @@ example = record {
   extensions = record { count = 0; items = replicate 32 zeroExtension };
 }
 
-abbrev pub exampleMap : Map
+abbrev pub exampleMap : LineMap
 exampleMap = record {
   resource = 2;
   types =

@@ -7,7 +7,7 @@ use lib.Dec.{ltb}
 use lib.ListN.{getD}
 use Rattle.lists.specs.Tabulating.{tabulate}
 use Rattle.definitions.specs.Records.{Name}
-use Rattle.definitions.specs.Map.{Declaration, Map}
+use Rattle.definitions.specs.Map.{LineType, LineMap}
 use Rattle.fields.specs.Fields.{twoWords}
 use Rattle.records.specs.Marks.{ofMarks}
 use Rattle.records.specs.declared.Marks.{Marks}
@@ -23,7 +23,7 @@ abbrev pub nameAt : Table → ℕ → Name
 nameAt t i = twoWords (getD (t .firsts) i 0) (getD (t .seconds) i 0)
 
 -- The type at a place. What makes a resource looks neither at a type's parents nor at its annotations, and the table has none.
-unfoldable pub declarationAt : Table → ℕ → Declaration
+unfoldable pub declarationAt : Table → ℕ → LineType
 declarationAt t i = record {
   name = nameAt t i;
   variant = variantOf (getD (t .variants) i 0);
@@ -34,7 +34,7 @@ declarationAt t i = record {
   marks = ofMarks (getD (t .marks) i zeroMarks);
 }
 
-unfoldable pub tableMap : Table → Map
+unfoldable pub tableMap : Table → LineMap
 tableMap t = record { resource = t .resource; types = tabulate (declarationAt t) (t .count); extensions = ofExtensions (t .extensions) }
 
 -- what every table meets: it fits, no name stands twice, and no type and no extension has more than its array holds
@@ -52,5 +52,5 @@ pub record Finds (firsts seconds : List ℕ) (count : ℕ) (c : Name) (r : ℕ) 
   pub first : (k : ℕ) → k < r → twoWords (getD firsts k 0) (getD seconds k 0) ≡ c → ⊥
 
 -- the type at a place, or none where the place is the count
-abbrev pub typeAt : Table → ℕ → List Declaration
+abbrev pub typeAt : Table → ℕ → List LineType
 typeAt t p = cond (ltb p (t .count)) (declarationAt t p ∷ []) []

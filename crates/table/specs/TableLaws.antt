@@ -14,8 +14,8 @@ use Rattle.lists.specs.Appending.{filter-append}
 use Rattle.lists.specs.Tabulating.{tabulate, tabulate-of}
 use Rattle.lists.specs.Members.{filter-none}
 use Rattle.definitions.specs.Records.{Name}
-use Rattle.definitions.specs.Orders.{sameName, lookUp, dotted}
-use Rattle.definitions.specs.Map.{Declaration}
+use Rattle.definitions.specs.Comparisons.{sameName, lookUp, dotted}
+use Rattle.definitions.specs.Map.{LineType}
 use Rattle.definitions.specs.Making.{declared}
 use Rattle.annotations.specs.Reading.{domAt}
 use Rattle.fields.specs.Fields.{twoWords}
@@ -58,12 +58,12 @@ declared-at t s c r f =
     (λ e.
     let l : r < t .count = ltb-true r (t .count) e in
     rw e
-    (filter-one (λ (D : Declaration). sameName (D .name) c) (declarationAt t) (t .count) r l (numbers-same (f .there l))
+    (filter-one (λ (D : LineType). sameName (D .name) c) (declarationAt t) (t .count) r l (numbers-same (f .there l))
     (λ i k w. not-so (λ q. let x = same-numbers (nameAt t i) c q in
     by (ltb i r)
     (λ u. f .first i (ltb-true i r u) x)
     (λ u. s .distinct r i (omega (arith, ltb-false i r u, w)) k (f .there l ∙ sym x))))))
     (λ e.
     rw e
-    (none-there (λ (D : Declaration). sameName (D .name) c) (declarationAt t) (t .count)
+    (none-there (λ (D : LineType). sameName (D .name) c) (declarationAt t) (t .count)
     (λ i k. not-so (λ q. f .first i (omega (arith, ltb-false r (t .count) e, f .most)) (same-numbers (nameAt t i) c q)))))

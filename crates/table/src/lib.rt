@@ -5,7 +5,7 @@ use records::Marks;
 use types::Extensions;
 ghost use mathlib.Core.Path.{_≡_};
 ghost use Prim.Native.Nat.{_<_, _≤_};
-ghost use Rattle.definitions.specs.Orders.{sameName, dotted};
+ghost use Rattle.definitions.specs.Comparisons.{sameName, dotted};
 ghost use Rattle.fields.specs.Fields.{twoWords, nameOf};
 ghost use Rattle.annotations.specs.Reading.{domAt};
 ghost use Rattle.table.specs.Table.{Finds};

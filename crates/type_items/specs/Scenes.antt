@@ -5,7 +5,7 @@ use Prim.Native.Nat.{ℕ, _*_, _≤_, _<_}
 use lib.ListN.{length}
 use Rattle.lists.specs.Lists.{each}
 use Rattle.definitions.specs.Records.{Sheet, Item}
-use Rattle.definitions.specs.Map.{typeMapOf, mapOf}
+use Rattle.definitions.specs.Map.{typeMapOf, lineMapOf}
 use Rattle.definitions.specs.Items.{associateWord, owned, itemsAt, itemsFor, wordsMade}
 use Rattle.definitions.specs.Packing.{itemBits}
 use Rattle.bits.specs.Writing.{Wrote}
@@ -29,10 +29,10 @@ use Rattle.type_items.specs.declared.Site.{Site}
 
 -- what is made for a word of the type at a place
 abbrev pub wordItems : Sheet → ℕ → ℕ → List Item
-wordItems s t w = itemsAt (mapOf (typeMapOf s)) (declarationAt (typeMapOf s) t) (ancestorsAt s t) w
+wordItems s t w = itemsAt (lineMapOf (typeMapOf s)) (declarationAt (typeMapOf s) t) (ancestorsAt s t) w
 
 abbrev pub typeItems : Sheet → ℕ → List Item
-typeItems s t = itemsFor (mapOf (typeMapOf s)) (declarationAt (typeMapOf s) t) (ancestorsAt s t)
+typeItems s t = itemsFor (lineMapOf (typeMapOf s)) (declarationAt (typeMapOf s) t) (ancestorsAt s t)
 
 -- ---- a type by its place
 

@@ -5,9 +5,9 @@ use mathlib.Core.Path.{_≡_, refl, sym, ap, _∙_, subst}
 use Rattle.lists.specs.Tests.{by, never, or-left, or-false-left, or-false-right}
 use Rattle.lists.specs.Appending.{any-append}
 use Rattle.definitions.specs.Records.{Name}
-use Rattle.definitions.specs.Orders.{sameName}
+use Rattle.definitions.specs.Comparisons.{sameName}
 use Rattle.definitions.specs.Map.{TypeMap}
-use Rattle.laws.specs.Orders.{same-name}
+use Rattle.laws.specs.Comparisons.{same-name}
 use Rattle.visit_laws.specs.Trail.{Reached, seenIn, Told, Played, succeeded, play, playAll, nothingPlayed}
 
 pub seen-append : (a b : List Reached) (n : Name) → seenIn (a ++ b) n ≡ (seenIn a n || seenIn b n)

@@ -5,7 +5,7 @@ use Prim.Native.Nat.{ℕ, zero, suc}
 use lib.ListN.{length}
 use Rattle.lists.specs.Lists.{any, all, null}
 use Rattle.definitions.specs.Records.{Name, TypeInfo, Row}
-use Rattle.definitions.specs.Orders.{sameName}
+use Rattle.definitions.specs.Comparisons.{sameName}
 use Rattle.definitions.specs.Map.{TypeMap}
 use Rattle.definitions.specs.Inherited.{InheritedAnnotation, handedOn}
 use Rattle.definitions.specs.Synthesis.{onlyIf, listedParents, interpretType}

@@ -7,11 +7,11 @@ use lib.ListN.{length}
 use Rattle.lists.specs.Lists.{null}
 use Rattle.lists.specs.Tests.{by, and-right}
 use Rattle.definitions.specs.Records.{Name, TypeInfo, Row}
-use Rattle.definitions.specs.Orders.{sameName, elemName}
+use Rattle.definitions.specs.Comparisons.{sameName, elemName}
 use Rattle.definitions.specs.Map.{TypeMap}
 use Rattle.definitions.specs.Inherited.{InheritedAnnotation, handedOn}
 use Rattle.definitions.specs.Synthesis.{interpretType, Visited, Called, Heard, onlyIf, hear, hearAll, listedParents, finish, visit, visitAll, synthesis}
-use Rattle.laws.specs.Orders.{name-same}
+use Rattle.laws.specs.Comparisons.{name-same}
 use Rattle.laws.specs.Visit.{heardBy, choose, visit-seen, visit-new}
 use Rattle.visit_laws.specs.Trail.{Reached, seenIn, reachAll, reach, reachEach, trail, Played, succeeded, passes, flagsOf, gotFrom, allOf, play, playAll, nothingPlayed, playedRows}
 use Rattle.visit_laws.specs.Extends.{Extends, no-further, further, one-more, seen-append, play-append, toldBy, told-stays}

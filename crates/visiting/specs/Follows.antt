@@ -11,7 +11,7 @@ use Rattle.lists.specs.Tests.{by, never, or-left, or-right}
 use Rattle.lists.specs.Appending.{each-single, map-map, map-append}
 use Rattle.lists.specs.Lexicographic.{numbers-same}
 use Rattle.definitions.specs.Records.{Name, TypeInfo}
-use Rattle.definitions.specs.Orders.{sameName}
+use Rattle.definitions.specs.Comparisons.{sameName}
 use Rattle.definitions.specs.Map.{TypeMap}
 use Rattle.definitions.specs.OrderRows.{typeNamed}
 use Rattle.definitions.specs.Synthesis.{listedParents}

@@ -8,7 +8,7 @@ use native.Mathlib.Omega.{arith}
 use lib.ListN.{replicate}
 use Rattle.definitions.specs.Map.{TypeMap}
 use Rattle.definitions.specs.Order.{isSelf, ready, pass, passes, lastPass, inheritsSelf, hasOrder}
-use Rattle.definitions.specs.Orders.{lookUp}
+use Rattle.definitions.specs.Comparisons.{lookUp}
 use Rattle.definitions.specs.Synthesis.{listedParents}
 use Rattle.visit_laws.specs.Trail.{reachAll, reach, reachEach, trail}
 use Rattle.rows.specs.Rows.{hasBit}

@@ -1,7 +1,7 @@
 use mathlib.Core.Bool.{not}
 use mathlib.Core.Path.{sym, ap}
 use Rattle.lists.specs.Lists.{null}
-use Rattle.definitions.specs.Orders.{dotted}
+use Rattle.definitions.specs.Comparisons.{dotted}
 use Rattle.table.specs.Table.{nameAt}
 use Rattle.synthetic.specs.MadeLaws.{finds-named}
 use Rattle.duplicates.specs.HeldLaws.{three-words, one-word, declared-there}

@@ -7,7 +7,7 @@ use borrow.Author.Tests.{not-true, not-false}
 use Rattle.lists.specs.Lists.{sameList}
 use Rattle.lists.specs.Tests.{and-both}
 use Rattle.lists.specs.Tabulating.{tabulate}
-use Rattle.definitions.specs.Orders.{sameName}
+use Rattle.definitions.specs.Comparisons.{sameName}
 use Rattle.making.specs.Making.{parentAt, parentsOf}
 use Rattle.identical.specs.Identical.{same-none, same-more, places-differ, counts-differ}
 use Rattle.identical.proofs.same_parents.Statement.{statement}

@@ -8,7 +8,7 @@ use lib.ListN.{length, take, getD}
 use Rattle.lists.specs.Lists.{ascends}
 use Rattle.lists.specs.Tabulating.{length-mapped}
 use Rattle.definitions.specs.Records.{Name}
-use Rattle.definitions.specs.Orders.{nameBefore}
+use Rattle.definitions.specs.Comparisons.{nameBefore}
 use Rattle.definitions.specs.Inherited.{dedupOne, dedupOnto}
 use Rattle.dedup.specs.Reading.{namesAt, inheritedOf, Good}
 use Rattle.inheritance.specs.Own.{handed, zeros}

@@ -4,7 +4,7 @@ use mathlib.Core.Bool.{true}
 use Prim.Native.Nat.{_-_, _≤_, _<_}
 use native.Mathlib.Omega.{arith}
 use lib.ListN.{length, length-map}
-use Rattle.definitions.specs.Orders.{dotted}
+use Rattle.definitions.specs.Comparisons.{dotted}
 use Rattle.rows.specs.Rows.{hasBit}
 use Rattle.table.specs.Table.{nameAt}
 use Rattle.making.specs.Making.{parentsOf}

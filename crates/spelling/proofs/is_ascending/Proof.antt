@@ -8,7 +8,7 @@ use Rattle.lists.specs.Lists.{ascends}
 use Rattle.lists.specs.Places.{ascends-end}
 use Rattle.words.specs.Words.{ofWords}
 use Rattle.words.specs.WordLaws.{length-ofWords}
-use Rattle.definitions.specs.Orders.{bytesBefore}
+use Rattle.definitions.specs.Comparisons.{bytesBefore}
 use Rattle.spelling.specs.SpellingLaws.{ascends-words}
 use Rattle.spelling.proofs.is_ascending.Statement.{statement}
 use Rattle.spelling.proofs.is_ascending.Tie as tie

@@ -8,7 +8,7 @@ use Rattle.lists.specs.Lists.{listBefore}
 use Rattle.lists.specs.Places.{before-left, before-right}
 use Rattle.words.specs.Words.{wordOf}
 use Rattle.words.specs.WordLaws.{length-wordOf}
-use Rattle.definitions.specs.Orders.{bytesBefore}
+use Rattle.definitions.specs.Comparisons.{bytesBefore}
 use Rattle.spelling.specs.SpellingLaws.{before-bytes}
 use Rattle.spelling.proofs.is_word_before.Statement.{statement}
 use Rattle.spelling.proofs.is_word_before.Tie as tie

@@ -5,7 +5,7 @@ use Prim.Native.Nat.{_+_, _-_, _≤_, _<_}
 use native.Mathlib.Omega.{arith}
 use borrow.Author.Needs.{needs}
 use lib.ListN.{length, length-map}
-use Rattle.definitions.specs.Orders.{dotted}
+use Rattle.definitions.specs.Comparisons.{dotted}
 use Rattle.rows.specs.Rows.{has}
 use Rattle.table.specs.Table.{nameAt}
 use Rattle.making.specs.Making.{parentsOf}

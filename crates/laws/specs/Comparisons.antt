@@ -10,7 +10,7 @@ use Rattle.lists.specs.Strict.{Strict}
 use Rattle.lists.specs.Sorting.{Ascending, sorted-imp, repeats-not, perm-sorted, sort-perm, sort-is, sort-sorted}
 use Rattle.lists.specs.Lexicographic.{same-numbers, numbers-same, list-strict}
 use Rattle.definitions.specs.Records.{Name, TypeInfo, Sheet}
-use Rattle.definitions.specs.Orders.{sameName, elemName, nameBefore, domBefore, wordsBefore, bytesBefore, lookUp}
+use Rattle.definitions.specs.Comparisons.{sameName, elemName, nameBefore, domBefore, wordsBefore, bytesBefore, lookUp}
 use Rattle.definitions.specs.Checks.{namesTwice, keysTwice, wordsTwice, annotationsTwice, somethingTwice}
 use Rattle.definitions.specs.Map.{typeMapOf}
 
