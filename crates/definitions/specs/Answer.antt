@@ -1,4 +1,4 @@
--- 'Ten ways to be turned back', and acceptance: what each call answers, and both lent slices at exit, for every input.
+-- The ten refusals, and acceptance: what each call answers, and both lent slices at exit, for every input (FORMAT 7).
 use mathlib.Core.Bool.{Bool, true, false, not}
 use mathlib.Core.List.{List, [], _∷_, _++_}
 use Prim.Native.Nat.{ℕ, _*_, min}
@@ -17,18 +17,19 @@ use Rattle.definitions.specs.Synthesis.{synthesis}
 use Rattle.definitions.specs.Items.{itemsOf}
 use Rattle.definitions.specs.Packing.{orderBits, scheduleBits, rowBytes}
 
--- what the calls are set to: how many rows of a diagnosis are written
+-- What the calls are set to: how many rows of a diagnosis are written (FORMAT 8.2).
 pub record Settings : Type 0 where
   pub rows : ℕ
 
--- 'the first 256 rows'
+-- 256 rows (FORMAT 8.2).
 abbrev pub standard : Settings
 standard = record { rows = 256 }
 
+-- The two calls (FORMAT 7.1).
 pub data Call : Type 0 where
   schedule order : Call
 
--- a call's input: the sheet, and the lent slices as they are at entry
+-- A call's input: the sheet, and the lent slices as they are at entry (FORMAT 7.1).
 pub record Input : Type 0 where
   pub settings : Settings
   pub call : Call
@@ -36,14 +37,14 @@ pub record Input : Type 0 where
   pub listing : List ℕ
   pub diagnosis : List ℕ
 
--- 'the answer has the count of rows written and a flag set exactly if more exist'; the number is 0 for acceptance; 'parts of the answer not named are 0'
+-- The parts of an answer; the number is 0 for acceptance, and a part that is not named is 0 (FORMAT 7.4).
 pub record Answer : Type 0 where
   pub number : ℕ
   pub size : ℕ
   pub rows : ℕ
   pub more : Bool
 
--- the answer, and the lent slices at exit
+-- The answer, and the lent slices at exit.
 pub record Outcome : Type 0 where
   pub answer : Answer
   pub listing : List ℕ
@@ -51,64 +52,69 @@ pub record Outcome : Type 0 where
 
 -- ---- what was read
 
+-- Whether reading was refused with this number.
 abbrev pub refusedBy : {A : Type 0} → ℕ → Parsed A → Bool
 refusedBy n (done a rest) = false
 refusedBy n (refused r) = eqb n r
 
--- the bits behind the last field
+-- The bits behind the last field.
 abbrev pub restOf : {A : Type 0} → Parsed A → List Bool
 restOf (done a rest) = rest
 restOf (refused r) = []
 
--- the sheet, or an empty one where it was refused, which no later test sees
+-- The sheet that was read, or an empty one where reading was refused, which no later test sees.
 abbrev pub sheetOf : Parsed Sheet → Sheet
 sheetOf (done s rest) = s
 sheetOf (refused r) = record { words = []; types = []; extensions = [] }
 
 -- ---- what an accepted sheet gives
 
+-- The items that a call writes; the order-only call has none.
 abbrev pub itemsWritten : Call → TypeMap → List Item
 itemsWritten schedule m = itemsOf (lineMapOf m)
 itemsWritten order m = []
 
--- the order of the types and the items; the order-only call has none
+-- The order of the types, and the items that a call writes.
 unfoldable pub scheduleOf : Call → TypeMap → Schedule
 scheduleOf call m = record { order = organizeTypeMap m; items = itemsWritten call m }
 
+-- The bits that a call writes (FORMAT 6.1, 6.5).
 abbrev pub bitsWritten : Call → Schedule → List Bool
 bitsWritten schedule s = scheduleBits s
 bitsWritten order s = orderBits (s .order)
 
--- the new bytes, and behind them what was there: 'no byte past it touched'
+-- The new bytes, and behind them what was there (FORMAT 7.4).
 abbrev pub overwrite : List ℕ → List ℕ → List ℕ
 overwrite new old = new ++ drop (length new) old
 
 -- ---- the refusals
 
--- A test is made only when no earlier one holds, so it is a function; the rows and the size are those of the answer, if it names them.
+-- A refusal: its number, its test, and the rows and the size that its answer names. A test is made only when no earlier one
+-- holds, so it is a function.
 pub record Refusal : Type 0 where
   pub number : ℕ
   pub holds : Unit {0} → Bool
   pub rows : Unit {0} → List Row
   pub size : Unit {0} → ℕ
 
+-- A refusal that names neither rows nor a size.
 abbrev pub bare : ℕ → (Unit {0} → Bool) → Refusal
 bare n test = record { number = n; holds = test; rows = λ u. []; size = λ u. 0 }
 
--- '8 and 9 write the first 256 rows of their diagnosis'
+-- 8 and 9 have rows (FORMAT 8.2).
 abbrev pub diagnosed : ℕ → (Unit {0} → Bool) → (Unit {0} → List Row) → Refusal
 diagnosed n test rows = record { number = n; holds = test; rows = rows; size = λ u. 0 }
 
--- '10 answers the needed size'
+-- 10 names the size that is needed (FORMAT 7.4).
 abbrev pub short : ℕ → (Unit {0} → Bool) → (Unit {0} → ℕ) → Refusal
 short n test size = record { number = n; holds = test; rows = λ u. []; size = size }
 
--- the order-only call 'never gives 9'
+-- The rows of refusal 9, which the order-only call never gives (FORMAT 7.2).
 abbrev pub synthesisRows : Call → TypeMap → List Row
 synthesisRows schedule m = synthesis m .rows
 synthesisRows order m = []
 
--- 'Tests go 1, 2, then 3 and 4 by the first field read, then 7, 5, 6, 8, 9, 10.'
+-- The ten tests in their order: 1, 2, then 3 and 4 by the first field read, 7, 5, 6, 8, 9, 10 (FORMAT 7.3).
 unfoldable pub refusals : Input → List Refusal
 refusals i =
     let r = sheet (bitsOf (i .sheet)) in
@@ -128,21 +134,27 @@ refusals i =
     ∷ short 10 (λ u. ltb (length (i .listing)) n) (λ u. n)
     ∷ []
 
--- 'Refusals leave both slices untouched, but 8 and 9 write the first 256 rows of their diagnosis and no other byte'
+-- A refusal leaves both slices, but the rows of 8 and 9, up to the limit, go to the start of the diagnosis slice; the flag is
+-- set exactly if there are more (FORMAT 7.4, 8.2).
 unfoldable pub reject : Input → Refusal → Outcome
 reject i r =
     let rs = r .rows tt in
     record {
-      answer = record { number = r .number; size = r .size tt; rows = min (i .settings .rows) (length rs); more = ltb (i .settings .rows) (length rs) };
+      answer = record {
+        number = r .number;
+        size = r .size tt;
+        rows = min (i .settings .rows) (length rs);
+        more = ltb (i .settings .rows) (length rs);
+      };
       listing = i .listing;
       diagnosis = overwrite (each rowBytes (take (i .settings .rows) rs)) (i .diagnosis);
     }
 
--- the map of an input
+-- The map of an input.
 unfoldable pub typeMapIn : Input → TypeMap
 typeMapIn i = typeMapOf (sheetOf (sheet (bitsOf (i .sheet))))
 
--- 'acceptance the size written, leaving the diagnosis slice'
+-- Acceptance writes the listing, names its size, and leaves the diagnosis slice (FORMAT 7.4).
 unfoldable pub accept : Input → Outcome
 accept i =
     let bytes = pack (bitsWritten (i .call) (scheduleOf (i .call) (typeMapIn i))) in
@@ -152,11 +164,11 @@ accept i =
       diagnosis = i .diagnosis;
     }
 
--- the first refusal that holds, or acceptance
+-- The first refusal that holds, or acceptance.
 unfoldable pub firstRefusal : Input → List Refusal → Outcome
 firstRefusal i [] = accept i
 firstRefusal i (r ∷ l) = elim (r .holds tt) [ true ↦ reject i r | false ↦ firstRefusal i l ]
 
--- the outcome of a call
+-- The outcome of a call.
 unfoldable pub outcome : Input → Outcome
 outcome i = firstRefusal i (refusals i)

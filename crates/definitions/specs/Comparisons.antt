@@ -1,4 +1,4 @@
--- The orders that 01 sorts by, one definition each, and how a name is looked up.
+-- How names, doms and lists of words compare, one definition each, and how a name is looked up (FORMAT 1.4 to 1.6).
 use mathlib.Core.Bool.{Bool}
 use mathlib.Core.List.{List, [], _∷_, _++_}
 use Prim.Native.Nat.{ℕ}
@@ -6,33 +6,34 @@ use lib.Dec.{eqb}
 use Rattle.lists.specs.Lists.{any, filter, sameList, listBefore}
 use Rattle.definitions.specs.Records.{Name, Dom}
 
--- 'Names compare by their bytes, positions ignored': two names are one when their words are, since the words are distinct
+-- Two names are one when their words are, since the words of a sheet are distinct (FORMAT 1.4).
 abbrev pub sameName : Name → Name → Bool
 sameName a b = sameList eqb a b
 
+-- Whether a name stands in a list.
 abbrev pub elemName : Name → List Name → Bool
 elemName a l = any (sameName a) l
 
--- 'All word bytes exceed the dot, so name order is word order, one word before two.'
+-- The order of names. The dot is below every byte of a word, so it is by word number, one word before two (FORMAT 1.4).
 unfoldable pub nameBefore : Name → Name → Bool
 nameBefore a b = listBefore a b
 
--- 'none first, then ascending'
+-- The order of doms: none first, then by word (FORMAT 1.6).
 unfoldable pub domBefore : Dom → Dom → Bool
 domBefore d e = listBefore d e
 
--- 'Associates by ascending word list'
+-- The order of the word lists of associates: by the first difference, a list before its extensions (FORMAT 1.6).
 unfoldable pub wordsBefore : List ℕ → List ℕ → Bool
 wordsBefore a b = listBefore a b
 
--- 'Words ascend strictly by bytes'
+-- The order of words by their bytes (FORMAT 1.2).
 unfoldable pub bytesBefore : List ℕ → List ℕ → Bool
 bytesBefore a b = listBefore a b
 
--- 'Lookup by name only': the one that has the name, or none; refusal 6 leaves no two
+-- What is declared under a name: one or none, since no two have one name (FORMAT 1.5).
 unfoldable pub lookUp : {A : Type 0} → (A → Name) → List A → Name → List A
 lookUp nameOf l n = filter (λ x. sameName (nameOf x) n) l
 
--- `r`, or `dom.r`; and `T.r`
+-- The name `d.r`, or `r` where d is no word: the class of a resource, and the name of what is made (FORMAT 4.2, 4.3).
 abbrev pub dotted : List ℕ → ℕ → Name
 dotted d r = d ++ (r ∷ [])

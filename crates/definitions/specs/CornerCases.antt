@@ -1,11 +1,13 @@
--- The refusal table's examples, and the corners of document 01, in one list, and the theorem that they hold. Made by tools/cases: above each sheet stands its readable text, and behind `=>` what the program prints for it.
+-- The examples of the table of refusals (FORMAT 7.2) and the corners of the rules in one list, and the theorem that they come out.
+-- Made by tools/cases. Above each sheet stands its readable text, and behind `=>` what the schedule program prints for it, or
+-- the order program where only the order-only call is tried.
 use mathlib.Core.Bool.{true, false}
 use mathlib.Core.List.{List, [], _∷_}
 use mathlib.Core.Path.{refl}
 use Prim.Native.Nat.{ℕ}
 use lib.ListN.{replicate}
 use Rattle.definitions.specs.Answer.{schedule, order}
-use Rattle.definitions.specs.Cases.{Case, ComesOut, AllComeOut, run, hex, times, accepts, refuses, diagnoses, needs}
+use Rattle.definitions.specs.Cases.{Case, ComesOut, AllComeOut, _also_, run, hex, times, accepts, refuses, diagnoses, needs}
 
 -- 1: 40,961 zeros
 abbrev refusal1 : List ℕ
@@ -14,16 +16,16 @@ refusal1 = replicate 40961 0
 abbrev refusal1-schedule : Case
 refusal1-schedule = refuses refusal1 schedule 4 1536 1
 
-refusal1-schedule-holds : ComesOut refusal1-schedule
+refusal1-schedule-comes-out : ComesOut refusal1-schedule
 unfolding run
-refusal1-schedule-holds = refl
+refusal1-schedule-comes-out = refl
 
 abbrev refusal1-order : Case
 refusal1-order = refuses refusal1 order 4 1536 1
 
-refusal1-order-holds : ComesOut refusal1-order
+refusal1-order-comes-out : ComesOut refusal1-order
 unfolding run
-refusal1-order-holds = refl
+refusal1-order-comes-out = refl
 
 -- 2: a diagnosis slice of 1,535 bytes
 --     domain a
@@ -35,16 +37,16 @@ refusal2 = hex 28 0x1040b085990e4cae6deeae4c6ca473656c6604000012202002400000
 abbrev refusal2-schedule : Case
 refusal2-schedule = refuses refusal2 schedule 64 1535 2
 
-refusal2-schedule-holds : ComesOut refusal2-schedule
+refusal2-schedule-comes-out : ComesOut refusal2-schedule
 unfolding run
-refusal2-schedule-holds = refl
+refusal2-schedule-comes-out = refl
 
 abbrev refusal2-order : Case
 refusal2-order = refuses refusal2 order 64 1535 2
 
-refusal2-order-holds : ComesOut refusal2-order
+refusal2-order-comes-out : ComesOut refusal2-order
 unfolding run
-refusal2-order-holds = refl
+refusal2-order-comes-out = refl
 
 -- 3: the empty sheet
 --   => refused 3
@@ -54,16 +56,16 @@ refusal3 = hex 0 0x0
 abbrev refusal3-schedule : Case
 refusal3-schedule = refuses refusal3 schedule 2 1536 3
 
-refusal3-schedule-holds : ComesOut refusal3-schedule
+refusal3-schedule-comes-out : ComesOut refusal3-schedule
 unfolding run
-refusal3-schedule-holds = refl
+refusal3-schedule-comes-out = refl
 
 abbrev refusal3-order : Case
 refusal3-order = refuses refusal3 order 2 1536 3
 
-refusal3-order-holds : ComesOut refusal3-order
+refusal3-order-comes-out : ComesOut refusal3-order
 unfolding run
-refusal3-order-holds = refl
+refusal3-order-comes-out = refl
 
 -- 4: version 2
 --     version 2
@@ -74,16 +76,16 @@ refusal4 = hex 17 0x20243932b9b7bab931b291cd95b1980000
 abbrev refusal4-schedule : Case
 refusal4-schedule = refuses refusal4 schedule 2 1536 4
 
-refusal4-schedule-holds : ComesOut refusal4-schedule
+refusal4-schedule-comes-out : ComesOut refusal4-schedule
 unfolding run
-refusal4-schedule-holds = refl
+refusal4-schedule-comes-out = refl
 
 abbrev refusal4-order : Case
 refusal4-order = refuses refusal4 order 2 1536 4
 
-refusal4-order-holds : ComesOut refusal4-order
+refusal4-order-comes-out : ComesOut refusal4-order
 unfolding run
-refusal4-order-holds = refl
+refusal4-order-comes-out = refl
 
 -- 5: words `self`, `resource`
 --     words! self resource
@@ -94,16 +96,16 @@ refusal5 = hex 17 0x102239b2b63321c995cdbdd5c98d940000
 abbrev refusal5-schedule : Case
 refusal5-schedule = refuses refusal5 schedule 2 1536 5
 
-refusal5-schedule-holds : ComesOut refusal5-schedule
+refusal5-schedule-comes-out : ComesOut refusal5-schedule
 unfolding run
-refusal5-schedule-holds = refl
+refusal5-schedule-comes-out = refl
 
 abbrev refusal5-order : Case
 refusal5-order = refuses refusal5 order 2 1536 5
 
-refusal5-order-holds : ComesOut refusal5-order
+refusal5-order-comes-out : ComesOut refusal5-order
 unfolding run
-refusal5-order-holds = refl
+refusal5-order-comes-out = refl
 
 -- 6: type `a` twice
 --     domain a
@@ -115,16 +117,16 @@ refusal6 = hex 24 0x1030b0a1c995cdbdd5c98d948e6cad8cc080000000000000
 abbrev refusal6-schedule : Case
 refusal6-schedule = refuses refusal6 schedule 2 1536 6
 
-refusal6-schedule-holds : ComesOut refusal6-schedule
+refusal6-schedule-comes-out : ComesOut refusal6-schedule
 unfolding run
-refusal6-schedule-holds = refl
+refusal6-schedule-comes-out = refl
 
 abbrev refusal6-order : Case
 refusal6-order = refuses refusal6 order 2 1536 6
 
-refusal6-order-holds : ComesOut refusal6-order
+refusal6-order-comes-out : ComesOut refusal6-order
 unfolding run
-refusal6-order-holds = refl
+refusal6-order-comes-out = refl
 
 -- 7: a good sheet and 00
 --   => refused 7
@@ -134,16 +136,16 @@ refusal7 = hex 29 0x1040b085990e4cae6deeae4c6ca473656c660400001220200240000000
 abbrev refusal7-schedule : Case
 refusal7-schedule = refuses refusal7 schedule 2 1536 7
 
-refusal7-schedule-holds : ComesOut refusal7-schedule
+refusal7-schedule-comes-out : ComesOut refusal7-schedule
 unfolding run
-refusal7-schedule-holds = refl
+refusal7-schedule-comes-out = refl
 
 abbrev refusal7-order : Case
 refusal7-order = refuses refusal7 order 2 1536 7
 
-refusal7-order-holds : ComesOut refusal7-order
+refusal7-order-comes-out : ComesOut refusal7-order
 unfolding run
-refusal7-order-holds = refl
+refusal7-order-comes-out = refl
 
 -- 8: `a` inherits `a`
 --     domain a : a
@@ -154,16 +156,16 @@ refusal8 = hex 23 0x1030b0a1c995cdbdd5c98d948e6cad8cc0400020000000
 abbrev refusal8-schedule : Case
 refusal8-schedule = diagnoses refusal8 schedule 2 1536 8 1 false (hex 6 0x0200ff00ffff)
 
-refusal8-schedule-holds : ComesOut refusal8-schedule
+refusal8-schedule-comes-out : ComesOut refusal8-schedule
 unfolding run
-refusal8-schedule-holds = refl
+refusal8-schedule-comes-out = refl
 
 abbrev refusal8-order : Case
 refusal8-order = diagnoses refusal8 order 2 1536 8 1 false (hex 6 0x0200ff00ffff)
 
-refusal8-order-holds : ComesOut refusal8-order
+refusal8-order-comes-out : ComesOut refusal8-order
 unfolding run
-refusal8-order-holds = refl
+refusal8-order-comes-out = refl
 
 -- 9: `a` associates undeclared `b`; the order-only call never gives 9
 --     domain a
@@ -175,16 +177,16 @@ refusal9 = hex 25 0x1040b085890e4cae6deeae4c6ca473656c6602000012202000
 abbrev refusal9-schedule : Case
 refusal9-schedule = diagnoses refusal9 schedule 2 1536 9 1 false (hex 6 0x0400ff01ff01)
 
-refusal9-schedule-holds : ComesOut refusal9-schedule
+refusal9-schedule-comes-out : ComesOut refusal9-schedule
 unfolding run
-refusal9-schedule-holds = refl
+refusal9-schedule-comes-out = refl
 
 abbrev refusal9-order : Case
 refusal9-order = accepts refusal9 order 4 1536 2 0x0200
 
-refusal9-order-holds : ComesOut refusal9-order
+refusal9-order-comes-out : ComesOut refusal9-order
 unfolding run
-refusal9-order-holds = refl
+refusal9-order-comes-out = refl
 
 -- 10: a listing of 0 bytes
 --     domain a
@@ -196,16 +198,16 @@ refusal10 = hex 28 0x1040b085990e4cae6deeae4c6ca473656c6604000012202002400000
 abbrev refusal10-schedule : Case
 refusal10-schedule = needs refusal10 schedule 0 1536 15
 
-refusal10-schedule-holds : ComesOut refusal10-schedule
+refusal10-schedule-comes-out : ComesOut refusal10-schedule
 unfolding run
-refusal10-schedule-holds = refl
+refusal10-schedule-comes-out = refl
 
 abbrev refusal10-order : Case
 refusal10-order = needs refusal10 order 0 1536 4
 
-refusal10-order-holds : ComesOut refusal10-order
+refusal10-order-comes-out : ComesOut refusal10-order
 unfolding run
-refusal10-order-holds = refl
+refusal10-order-comes-out = refl
 
 -- a listing that the schedule fills
 --     domain a
@@ -217,9 +219,9 @@ fits = hex 28 0x1040b085990e4cae6deeae4c6ca473656c6604000012202002400000
 abbrev fits-schedule : Case
 fits-schedule = accepts fits schedule 16 1536 15 0x040001000100002120281002000040
 
-fits-schedule-holds : ComesOut fits-schedule
+fits-schedule-comes-out : ComesOut fits-schedule
 unfolding run
-fits-schedule-holds = refl
+fits-schedule-comes-out = refl
 
 -- a listing one byte short
 --     domain a
@@ -231,9 +233,9 @@ oneShort = hex 28 0x1040b085990e4cae6deeae4c6ca473656c6604000012202002400000
 abbrev oneShort-schedule : Case
 oneShort-schedule = accepts oneShort schedule 15 1536 15 0x040001000100002120281002000040
 
-oneShort-schedule-holds : ComesOut oneShort-schedule
+oneShort-schedule-comes-out : ComesOut oneShort-schedule
 unfolding run
-oneShort-schedule-holds = refl
+oneShort-schedule-comes-out = refl
 
 -- a listing that the order fills
 --     domain a
@@ -245,9 +247,9 @@ orderFits = hex 28 0x1040b085990e4cae6deeae4c6ca473656c6604000012202002400000
 abbrev orderFits-order : Case
 orderFits-order = accepts orderFits order 4 1536 4 0x04000100
 
-orderFits-order-holds : ComesOut orderFits-order
+orderFits-order-comes-out : ComesOut orderFits-order
 unfolding run
-orderFits-order-holds = refl
+orderFits-order-comes-out = refl
 
 -- a listing one byte short for the order
 --     domain a
@@ -259,9 +261,9 @@ orderOneShort = hex 28 0x1040b085990e4cae6deeae4c6ca473656c660400001220200240000
 abbrev orderOneShort-order : Case
 orderOneShort-order = needs orderOneShort order 3 1536 4
 
-orderOneShort-order-holds : ComesOut orderOneShort-order
+orderOneShort-order-comes-out : ComesOut orderOneShort-order
 unfolding run
-orderOneShort-order-holds = refl
+orderOneShort-order-comes-out = refl
 
 -- 40,960 bytes are not too many
 abbrev longestSheet : List ℕ
@@ -270,9 +272,9 @@ longestSheet = replicate 40960 0
 abbrev longestSheet-order : Case
 longestSheet-order = refuses longestSheet order 4 1536 4
 
-longestSheet-order-holds : ComesOut longestSheet-order
+longestSheet-order-comes-out : ComesOut longestSheet-order
 unfolding run
-longestSheet-order-holds = refl
+longestSheet-order-comes-out = refl
 
 -- 1 before 2
 abbrev first1 : List ℕ
@@ -281,9 +283,9 @@ first1 = replicate 40961 0
 abbrev first1-order : Case
 first1-order = refuses first1 order 0 0 1
 
-first1-order-holds : ComesOut first1-order
+first1-order-comes-out : ComesOut first1-order
 unfolding run
-first1-order-holds = refl
+first1-order-comes-out = refl
 
 -- 2 before 3
 abbrev first2 : List ℕ
@@ -292,9 +294,9 @@ first2 = hex 0 0x0
 abbrev first2-order : Case
 first2-order = refuses first2 order 0 0 2
 
-first2-order-holds : ComesOut first2-order
+first2-order-comes-out : ComesOut first2-order
 unfolding run
-first2-order-holds = refl
+first2-order-comes-out = refl
 
 -- 7 before 5
 --   => refused 7
@@ -304,9 +306,9 @@ first7 = hex 25 0x103239b2b63321c995cdbdd5c98d942c208080000080000000
 abbrev first7-order : Case
 first7-order = refuses first7 order 2 1536 7
 
-first7-order-holds : ComesOut first7-order
+first7-order-comes-out : ComesOut first7-order
 unfolding run
-first7-order-holds = refl
+first7-order-comes-out = refl
 
 -- 5 before 6
 --     words! self resource a
@@ -319,9 +321,9 @@ first5 = hex 24 0x103239b2b63321c995cdbdd5c98d942c2080800000800000
 abbrev first5-order : Case
 first5-order = refuses first5 order 2 1536 5
 
-first5-order-holds : ComesOut first5-order
+first5-order-comes-out : ComesOut first5-order
 unfolding run
-first5-order-holds = refl
+first5-order-comes-out = refl
 
 -- 6 before 8
 --     domain a : a
@@ -333,9 +335,9 @@ first6 = hex 27 0x1030b0a1c995cdbdd5c98d948e6cad8cc080002000000010000000
 abbrev first6-order : Case
 first6-order = refuses first6 order 2 1536 6
 
-first6-order-holds : ComesOut first6-order
+first6-order-comes-out : ComesOut first6-order
 unfolding run
-first6-order-holds = refl
+first6-order-comes-out = refl
 
 -- 8 before 9 and 10
 --     domain a : a
@@ -346,9 +348,9 @@ first8 = hex 26 0x1040b085890e4cae6deeae4c6ca473656c660200010009101000
 abbrev first8-schedule : Case
 first8-schedule = diagnoses first8 schedule 0 1536 8 1 false (hex 6 0x0200ff00ffff)
 
-first8-schedule-holds : ComesOut first8-schedule
+first8-schedule-comes-out : ComesOut first8-schedule
 unfolding run
-first8-schedule-holds = refl
+first8-schedule-comes-out = refl
 
 -- 9 before 10
 --     domain a
@@ -359,9 +361,9 @@ first9 = hex 25 0x1040b085890e4cae6deeae4c6ca473656c6602000012202000
 abbrev first9-schedule : Case
 first9-schedule = diagnoses first9 schedule 0 1536 9 1 false (hex 6 0x0400ff01ff01)
 
-first9-schedule-holds : ComesOut first9-schedule
+first9-schedule-comes-out : ComesOut first9-schedule
 unfolding run
-first9-schedule-holds = refl
+first9-schedule-comes-out = refl
 
 -- length 31, then `!`, then the end: each byte is a field of its own
 --   => refused 4
@@ -371,9 +373,9 @@ wordByte = hex 4 0x102f9080
 abbrev wordByte-order : Case
 wordByte-order = refuses wordByte order 2 1536 4
 
-wordByte-order-holds : ComesOut wordByte-order
+wordByte-order-comes-out : ComesOut wordByte-order
 unfolding run
-wordByte-order-holds = refl
+wordByte-order-comes-out = refl
 
 -- length 31, then `a`, then the end
 --   => refused 3
@@ -383,9 +385,9 @@ wordByteMissing = hex 4 0x102fb080
 abbrev wordByteMissing-order : Case
 wordByteMissing-order = refuses wordByteMissing order 2 1536 3
 
-wordByteMissing-order-holds : ComesOut wordByteMissing-order
+wordByteMissing-order-comes-out : ComesOut wordByteMissing-order
 unfolding run
-wordByteMissing-order-holds = refl
+wordByteMissing-order-comes-out = refl
 
 -- the first and last of each range of word bytes
 --     words A Z a z 0 9 _
@@ -396,9 +398,9 @@ wordBytes = hex 28 0x10909804e428215a0af85850e4cae6deeae4c6ca473656c660bd0000
 abbrev wordBytes-order : Case
 wordBytes-order = accepts wordBytes order 3 1536 1 0x00
 
-wordBytes-order-holds : ComesOut wordBytes-order
+wordBytes-order-comes-out : ComesOut wordBytes-order
 unfolding run
-wordBytes-order-holds = refl
+wordBytes-order-comes-out = refl
 
 -- a byte beside a range of word bytes: 47
 --     words! / resource self
@@ -409,9 +411,9 @@ wordByte47 = hex 18 0x103097a1c995cdbdd5c98d948e6cad8cc000
 abbrev wordByte47-order : Case
 wordByte47-order = refuses wordByte47 order 2 1536 4
 
-wordByte47-order-holds : ComesOut wordByte47-order
+wordByte47-order-comes-out : ComesOut wordByte47-order
 unfolding run
-wordByte47-order-holds = refl
+wordByte47-order-comes-out = refl
 
 -- a byte beside a range of word bytes: 58
 --     words! : resource self
@@ -422,9 +424,9 @@ wordByte58 = hex 18 0x10309d21c995cdbdd5c98d948e6cad8cc000
 abbrev wordByte58-order : Case
 wordByte58-order = refuses wordByte58 order 2 1536 4
 
-wordByte58-order-holds : ComesOut wordByte58-order
+wordByte58-order-comes-out : ComesOut wordByte58-order
 unfolding run
-wordByte58-order-holds = refl
+wordByte58-order-comes-out = refl
 
 -- a byte beside a range of word bytes: 64
 --     words! @ resource self
@@ -435,9 +437,9 @@ wordByte64 = hex 18 0x1030a021c995cdbdd5c98d948e6cad8cc000
 abbrev wordByte64-order : Case
 wordByte64-order = refuses wordByte64 order 2 1536 4
 
-wordByte64-order-holds : ComesOut wordByte64-order
+wordByte64-order-comes-out : ComesOut wordByte64-order
 unfolding run
-wordByte64-order-holds = refl
+wordByte64-order-comes-out = refl
 
 -- a byte beside a range of word bytes: 91
 --     words! [ resource self
@@ -448,9 +450,9 @@ wordByte91 = hex 18 0x1030ada1c995cdbdd5c98d948e6cad8cc000
 abbrev wordByte91-order : Case
 wordByte91-order = refuses wordByte91 order 2 1536 4
 
-wordByte91-order-holds : ComesOut wordByte91-order
+wordByte91-order-comes-out : ComesOut wordByte91-order
 unfolding run
-wordByte91-order-holds = refl
+wordByte91-order-comes-out = refl
 
 -- a byte beside a range of word bytes: 94
 --     words! ^ resource self
@@ -461,9 +463,9 @@ wordByte94 = hex 18 0x1030af21c995cdbdd5c98d948e6cad8cc000
 abbrev wordByte94-order : Case
 wordByte94-order = refuses wordByte94 order 2 1536 4
 
-wordByte94-order-holds : ComesOut wordByte94-order
+wordByte94-order-comes-out : ComesOut wordByte94-order
 unfolding run
-wordByte94-order-holds = refl
+wordByte94-order-comes-out = refl
 
 -- a byte beside a range of word bytes: 96
 --     words! ` resource self
@@ -474,9 +476,9 @@ wordByte96 = hex 18 0x1030b021c995cdbdd5c98d948e6cad8cc000
 abbrev wordByte96-order : Case
 wordByte96-order = refuses wordByte96 order 2 1536 4
 
-wordByte96-order-holds : ComesOut wordByte96-order
+wordByte96-order-comes-out : ComesOut wordByte96-order
 unfolding run
-wordByte96-order-holds = refl
+wordByte96-order-comes-out = refl
 
 -- a byte beside a range of word bytes: 123
 --     words! { resource self
@@ -487,9 +489,9 @@ wordByte123 = hex 18 0x1030bda1c995cdbdd5c98d948e6cad8cc000
 abbrev wordByte123-order : Case
 wordByte123-order = refuses wordByte123 order 2 1536 4
 
-wordByte123-order-holds : ComesOut wordByte123-order
+wordByte123-order-comes-out : ComesOut wordByte123-order
 unfolding run
-wordByte123-order-holds = refl
+wordByte123-order-comes-out = refl
 
 -- a word without bytes
 --     words! "" resource self
@@ -500,9 +502,9 @@ emptyWord = hex 17 0x103021c995cdbdd5c98d948e6cad8cc000
 abbrev emptyWord-order : Case
 emptyWord-order = refuses emptyWord order 2 1536 4
 
-emptyWord-order-holds : ComesOut emptyWord-order
+emptyWord-order-comes-out : ComesOut emptyWord-order
 unfolding run
-emptyWord-order-holds = refl
+emptyWord-order-comes-out = refl
 
 -- a word of 31 bytes
 --     words abcdefghijklmnopqrstuvwxyz01234
@@ -513,9 +515,9 @@ longWord = hex 48 0x103fb0b131b232b333b434b535b636b737b838b939ba3abb3bbc3cbd1818
 abbrev longWord-order : Case
 longWord-order = accepts longWord order 3 1536 1 0x00
 
-longWord-order-holds : ComesOut longWord-order
+longWord-order-comes-out : ComesOut longWord-order
 unfolding run
-longWord-order-holds = refl
+longWord-order-comes-out = refl
 
 -- one word
 --   => refused 4
@@ -525,9 +527,9 @@ words1 = hex 2 0x1010
 abbrev words1-order : Case
 words1-order = refuses words1 order 2 1536 4
 
-words1-order-holds : ComesOut words1-order
+words1-order-comes-out : ComesOut words1-order
 unfolding run
-words1-order-holds = refl
+words1-order-comes-out = refl
 
 -- 200 words are a count allowed, and the first is missing
 --   => refused 3
@@ -537,9 +539,9 @@ words200 = hex 2 0x1c80
 abbrev words200-order : Case
 words200-order = refuses words200 order 2 1536 3
 
-words200-order-holds : ComesOut words200-order
+words200-order-comes-out : ComesOut words200-order
 unfolding run
-words200-order-holds = refl
+words200-order-comes-out = refl
 
 -- 201 words: a count that is not allowed decides before its missing entries
 --   => refused 4
@@ -549,9 +551,9 @@ words201 = hex 2 0x1c90
 abbrev words201-order : Case
 words201-order = refuses words201 order 2 1536 4
 
-words201-order-holds : ComesOut words201-order
+words201-order-comes-out : ComesOut words201-order
 unfolding run
-words201-order-holds = refl
+words201-order-comes-out = refl
 
 -- 64 types, and the first is missing
 --   => refused 3
@@ -561,9 +563,9 @@ types64Missing = hex 6 0x1020b0858a00
 abbrev types64Missing-order : Case
 types64Missing-order = refuses types64Missing order 2 1536 3
 
-types64Missing-order-holds : ComesOut types64Missing-order
+types64Missing-order-comes-out : ComesOut types64Missing-order
 unfolding run
-types64Missing-order-holds = refl
+types64Missing-order-comes-out = refl
 
 -- 32 extensions, and the first is missing
 --   => refused 3
@@ -573,9 +575,9 @@ extensions32 = hex 7 0x1020b085880400
 abbrev extensions32-order : Case
 extensions32-order = refuses extensions32 order 2 1536 3
 
-extensions32-order-holds : ComesOut extensions32-order
+extensions32-order-comes-out : ComesOut extensions32-order
 unfolding run
-extensions32-order-holds = refl
+extensions32-order-comes-out = refl
 
 -- 33 extensions
 --   => refused 4
@@ -585,9 +587,9 @@ extensions33 = hex 7 0x1020b085880420
 abbrev extensions33-order : Case
 extensions33-order = refuses extensions33 order 2 1536 4
 
-extensions33-order-holds : ComesOut extensions33-order
+extensions33-order-comes-out : ComesOut extensions33-order
 unfolding run
-extensions33-order-holds = refl
+extensions33-order-comes-out = refl
 
 -- a word field not below W
 --     domain @2
@@ -598,9 +600,9 @@ wordNumber = hex 20 0x10243932b9b7bab931b291cd95b1980810000000
 abbrev wordNumber-order : Case
 wordNumber-order = refuses wordNumber order 2 1536 4
 
-wordNumber-order-holds : ComesOut wordNumber-order
+wordNumber-order-comes-out : ComesOut wordNumber-order
 unfolding run
-wordNumber-order-holds = refl
+wordNumber-order-comes-out = refl
 
 -- the variant 3
 --     variant3 a
@@ -611,9 +613,9 @@ variant3 = hex 21 0x1030b0a1c995cdbdd5c98d948e6cad8cc040180000
 abbrev variant3-order : Case
 variant3-order = refuses variant3 order 2 1536 4
 
-variant3-order-holds : ComesOut variant3-order
+variant3-order-comes-out : ComesOut variant3-order
 unfolding run
-variant3-order-holds = refl
+variant3-order-comes-out = refl
 
 -- the annotation kind 7
 --     domain a
@@ -625,9 +627,9 @@ kind7 = hex 22 0x1030b0a1c995cdbdd5c98d948e6cad8cc0400003c000
 abbrev kind7-order : Case
 kind7-order = refuses kind7 order 2 1536 4
 
-kind7-order-holds : ComesOut kind7-order
+kind7-order-comes-out : ComesOut kind7-order
 unfolding run
-kind7-order-holds = refl
+kind7-order-comes-out = refl
 
 -- 13 annotations
 --   => refused 4
@@ -637,9 +639,9 @@ annotations13 = hex 9 0x1020b0858808000340
 abbrev annotations13-order : Case
 annotations13-order = refuses annotations13 order 2 1536 4
 
-annotations13-order-holds : ComesOut annotations13-order
+annotations13-order-comes-out : ComesOut annotations13-order
 unfolding run
-annotations13-order-holds = refl
+annotations13-order-comes-out = refl
 
 -- 12 annotations
 --     domain a
@@ -662,9 +664,9 @@ annotations12 = hex 38 0x1030b0a1c995cdbdd5c98d948e6cad8cc040001940280d02a074128
 abbrev annotations12-order : Case
 annotations12-order = accepts annotations12 order 4 1536 2 0x0200
 
-annotations12-order-holds : ComesOut annotations12-order
+annotations12-order-comes-out : ComesOut annotations12-order
 unfolding run
-annotations12-order-holds = refl
+annotations12-order-comes-out = refl
 
 -- 7 marks, tags 0 and 255 among them
 --     resource a
@@ -682,9 +684,9 @@ marks7 = hex 24 0x1030b0a1c995cdbdd5c98d948e6cad8cc0400801d00ff800
 abbrev marks7-order : Case
 marks7-order = accepts marks7 order 4 1536 2 0x0200
 
-marks7-order-holds : ComesOut marks7-order
+marks7-order-comes-out : ComesOut marks7-order
 unfolding run
-marks7-order-holds = refl
+marks7-order-comes-out = refl
 
 -- NestAssociate in a two-word type, at the kind field
 --   => refused 4
@@ -694,9 +696,9 @@ nestInTwoWords = hex 10 0x1020b085880804040050
 abbrev nestInTwoWords-order : Case
 nestInTwoWords-order = refuses nestInTwoWords order 2 1536 4
 
-nestInTwoWords-order-holds : ComesOut nestInTwoWords-order
+nestInTwoWords-order-comes-out : ComesOut nestInTwoWords-order
 unfolding run
-nestInTwoWords-order-holds = refl
+nestInTwoWords-order-comes-out = refl
 
 -- an Associate in a two-word type
 --     domain a.b
@@ -708,9 +710,9 @@ associateInTwoWords = hex 26 0x1040b085890e4cae6deeae4c6ca473656c660201010012202
 abbrev associateInTwoWords-order : Case
 associateInTwoWords-order = accepts associateInTwoWords order 5 1536 3 0x020101
 
-associateInTwoWords-order-holds : ComesOut associateInTwoWords-order
+associateInTwoWords-order-comes-out : ComesOut associateInTwoWords-order
 unfolding run
-associateInTwoWords-order-holds = refl
+associateInTwoWords-order-comes-out = refl
 
 -- an associate may have 0 resources
 --     domain a
@@ -723,16 +725,16 @@ noResources = hex 23 0x1030b0a1c995cdbdd5c98d948e6cad8cc0400004410000
 abbrev noResources-schedule : Case
 noResources-schedule = accepts noResources schedule 6 1536 4 0x02000000
 
-noResources-schedule-holds : ComesOut noResources-schedule
+noResources-schedule-comes-out : ComesOut noResources-schedule
 unfolding run
-noResources-schedule-holds = refl
+noResources-schedule-comes-out = refl
 
 abbrev noResources-order : Case
 noResources-order = accepts noResources order 4 1536 2 0x0200
 
-noResources-order-holds : ComesOut noResources-order
+noResources-order-comes-out : ComesOut noResources-order
 unfolding run
-noResources-order-holds = refl
+noResources-order-comes-out = refl
 
 -- an extension without parents
 --     extend a b
@@ -743,9 +745,9 @@ noExtensionParent = hex 23 0x1040b085890e4cae6deeae4c6ca473656c660008000400
 abbrev noExtensionParent-order : Case
 noExtensionParent-order = refuses noExtensionParent order 2 1536 4
 
-noExtensionParent-order-holds : ComesOut noExtensionParent-order
+noExtensionParent-order-comes-out : ComesOut noExtensionParent-order
 unfolding run
-noExtensionParent-order-holds = refl
+noExtensionParent-order-comes-out = refl
 
 -- every kind of annotation, 15 names in an Inherit
 --     domain a
@@ -763,9 +765,9 @@ everyKind = hex 70 0x10b0b085882c61640b30998c82ce1680b5a1c995cdbdd5c98d948e6cad8
 abbrev everyKind-order : Case
 everyKind-order = accepts everyKind order 4 1536 2 0x0200
 
-everyKind-order-holds : ComesOut everyKind-order
+everyKind-order-comes-out : ComesOut everyKind-order
 unfolding run
-everyKind-order-holds = refl
+everyKind-order-comes-out = refl
 
 -- `self` missing
 --     words! a resource
@@ -776,9 +778,9 @@ noSelf = hex 14 0x1020b0a1c995cdbdd5c98d940000
 abbrev noSelf-order : Case
 noSelf-order = refuses noSelf order 2 1536 5
 
-noSelf-order-holds : ComesOut noSelf-order
+noSelf-order-comes-out : ComesOut noSelf-order
 unfolding run
-noSelf-order-holds = refl
+noSelf-order-comes-out = refl
 
 -- `resource` missing
 --     words! a self
@@ -789,9 +791,9 @@ noResource = hex 10 0x1020b091cd95b1980000
 abbrev noResource-order : Case
 noResource-order = refuses noResource order 2 1536 5
 
-noResource-order-holds : ComesOut noResource-order
+noResource-order-comes-out : ComesOut noResource-order
 unfolding run
-noResource-order-holds = refl
+noResource-order-comes-out = refl
 
 -- a word twice is not ascending
 --     words! resource self self
@@ -802,9 +804,9 @@ wordTwice = hex 21 0x10343932b9b7bab931b291cd95b1988e6cad8cc000
 abbrev wordTwice-order : Case
 wordTwice-order = refuses wordTwice order 2 1536 5
 
-wordTwice-order-holds : ComesOut wordTwice-order
+wordTwice-order-comes-out : ComesOut wordTwice-order
 unfolding run
-wordTwice-order-holds = refl
+wordTwice-order-comes-out = refl
 
 -- a word before its extension
 --     words a ab b
@@ -815,9 +817,9 @@ prefixFirst = hex 23 0x1050b08985882c487265736f75726365239b2b63300000
 abbrev prefixFirst-order : Case
 prefixFirst-order = accepts prefixFirst order 3 1536 1 0x00
 
-prefixFirst-order-holds : ComesOut prefixFirst-order
+prefixFirst-order-comes-out : ComesOut prefixFirst-order
 unfolding run
-prefixFirst-order-holds = refl
+prefixFirst-order-comes-out = refl
 
 -- the last bit of the fill set
 --   => refused 7
@@ -827,9 +829,9 @@ fill = hex 17 0x10243932b9b7bab931b291cd95b1980001
 abbrev fill-order : Case
 fill-order = refuses fill order 2 1536 7
 
-fill-order-holds : ComesOut fill-order
+fill-order-comes-out : ComesOut fill-order
 unfolding run
-fill-order-holds = refl
+fill-order-comes-out = refl
 
 -- a byte that is not zero behind the sheet
 --   => refused 7
@@ -839,9 +841,9 @@ moreBytes = hex 18 0x10243932b9b7bab931b291cd95b198000001
 abbrev moreBytes-order : Case
 moreBytes-order = refuses moreBytes order 2 1536 7
 
-moreBytes-order-holds : ComesOut moreBytes-order
+moreBytes-order-comes-out : ComesOut moreBytes-order
 unfolding run
-moreBytes-order-holds = refl
+moreBytes-order-comes-out = refl
 
 -- a two-word name twice
 --     domain a.b
@@ -853,9 +855,9 @@ twoWordsTwice = hex 28 0x1040b085890e4cae6deeae4c6ca473656c660401010000010100000
 abbrev twoWordsTwice-order : Case
 twoWordsTwice-order = refuses twoWordsTwice order 2 1536 6
 
-twoWordsTwice-order-holds : ComesOut twoWordsTwice-order
+twoWordsTwice-order-comes-out : ComesOut twoWordsTwice-order
 unfolding run
-twoWordsTwice-order-holds = refl
+twoWordsTwice-order-comes-out = refl
 
 -- a key twice among extensions
 --     extend a b : a
@@ -867,9 +869,9 @@ keyTwice = hex 28 0x1040b085890e4cae6deeae4c6ca473656c6600100004400000110100
 abbrev keyTwice-order : Case
 keyTwice-order = refuses keyTwice order 2 1536 6
 
-keyTwice-order-holds : ComesOut keyTwice-order
+keyTwice-order-comes-out : ComesOut keyTwice-order
 unfolding run
-keyTwice-order-holds = refl
+keyTwice-order-comes-out = refl
 
 -- keys that differ in a word
 --     extend a b : a
@@ -883,9 +885,9 @@ keysDiffer = hex 36 0x1040b085890e4cae6deeae4c6ca473656c660020000440001010110000
 abbrev keysDiffer-order : Case
 keysDiffer-order = accepts keysDiffer order 3 1536 1 0x00
 
-keysDiffer-order-holds : ComesOut keysDiffer-order
+keysDiffer-order-comes-out : ComesOut keysDiffer-order
 unfolding run
-keysDiffer-order-holds = refl
+keysDiffer-order-comes-out = refl
 
 -- a word twice in an associate, whatever the doms
 --     domain a
@@ -897,9 +899,9 @@ wordTwiceInAssociate = hex 29 0x1050b085902cc87265736f75726365239b2b633010000092
 abbrev wordTwiceInAssociate-order : Case
 wordTwiceInAssociate-order = refuses wordTwiceInAssociate order 2 1536 6
 
-wordTwiceInAssociate-order-holds : ComesOut wordTwiceInAssociate-order
+wordTwiceInAssociate-order-comes-out : ComesOut wordTwiceInAssociate-order
 unfolding run
-wordTwiceInAssociate-order-holds = refl
+wordTwiceInAssociate-order-comes-out = refl
 
 -- a word twice in a nested one
 --     domain a
@@ -911,9 +913,9 @@ wordTwiceInNest = hex 26 0x1040b085990e4cae6deeae4c6ca473656c660200001440201000
 abbrev wordTwiceInNest-order : Case
 wordTwiceInNest-order = refuses wordTwiceInNest order 2 1536 6
 
-wordTwiceInNest-order-holds : ComesOut wordTwiceInNest-order
+wordTwiceInNest-order-comes-out : ComesOut wordTwiceInNest-order
 unfolding run
-wordTwiceInNest-order-holds = refl
+wordTwiceInNest-order-comes-out = refl
 
 -- associates of equal word sets, doms ignored
 --     domain a
@@ -926,9 +928,9 @@ equalSets = hex 34 0x1060b085902cc16743932b9b7bab931b291cd95b198080000890100c480
 abbrev equalSets-order : Case
 equalSets-order = refuses equalSets order 2 1536 6
 
-equalSets-order-holds : ComesOut equalSets-order
+equalSets-order-comes-out : ComesOut equalSets-order
 unfolding run
-equalSets-order-holds = refl
+equalSets-order-comes-out = refl
 
 -- two associates without resources
 --     domain a
@@ -941,9 +943,9 @@ emptySets = hex 23 0x1030b0a1c995cdbdd5c98d948e6cad8cc0400004408000
 abbrev emptySets-order : Case
 emptySets-order = refuses emptySets order 2 1536 6
 
-emptySets-order-holds : ComesOut emptySets-order
+emptySets-order-comes-out : ComesOut emptySets-order
 unfolding run
-emptySets-order-holds = refl
+emptySets-order-comes-out = refl
 
 -- associates of unequal word sets; one kind beside the other
 --     domain a
@@ -957,9 +959,9 @@ unequalSets = hex 32 0x1050b085982ce87265736f75726365239b2b633010000192010108809
 abbrev unequalSets-order : Case
 unequalSets-order = accepts unequalSets order 4 1536 2 0x0200
 
-unequalSets-order-holds : ComesOut unequalSets-order
+unequalSets-order-comes-out : ComesOut unequalSets-order
 unfolding run
-unequalSets-order-holds = refl
+unequalSets-order-comes-out = refl
 
 -- equal Inherits
 --     domain a
@@ -972,9 +974,9 @@ inheritTwice = hex 29 0x1040b085890e4cae6deeae4c6ca473656c6602000028400014200008
 abbrev inheritTwice-order : Case
 inheritTwice-order = refuses inheritTwice order 2 1536 6
 
-inheritTwice-order-holds : ComesOut inheritTwice-order
+inheritTwice-order-comes-out : ComesOut inheritTwice-order
 unfolding run
-inheritTwice-order-holds = refl
+inheritTwice-order-comes-out = refl
 
 -- Inherits compare as ordered lists with repeats
 --     domain a
@@ -988,9 +990,9 @@ inheritsDiffer = hex 34 0x1040b085890e4cae6deeae4c6ca473656c66020000384000142010
 abbrev inheritsDiffer-order : Case
 inheritsDiffer-order = accepts inheritsDiffer order 4 1536 2 0x0200
 
-inheritsDiffer-order-holds : ComesOut inheritsDiffer-order
+inheritsDiffer-order-comes-out : ComesOut inheritsDiffer-order
 unfolding run
-inheritsDiffer-order-holds = refl
+inheritsDiffer-order-comes-out = refl
 
 -- equal Derives
 --     domain a
@@ -1003,9 +1005,9 @@ deriveTwice = hex 24 0x1030b0a1c995cdbdd5c98d948e6cad8cc040000540680800
 abbrev deriveTwice-order : Case
 deriveTwice-order = refuses deriveTwice order 2 1536 6
 
-deriveTwice-order-holds : ComesOut deriveTwice-order
+deriveTwice-order-comes-out : ComesOut deriveTwice-order
 unfolding run
-deriveTwice-order-holds = refl
+deriveTwice-order-comes-out = refl
 
 -- equal Aliases
 --     domain a
@@ -1018,9 +1020,9 @@ aliasTwice = hex 26 0x1040b085990e4cae6deeae4c6ca473656c660200002602c04000
 abbrev aliasTwice-order : Case
 aliasTwice-order = refuses aliasTwice order 2 1536 6
 
-aliasTwice-order-holds : ComesOut aliasTwice-order
+aliasTwice-order-comes-out : ComesOut aliasTwice-order
 unfolding run
-aliasTwice-order-holds = refl
+aliasTwice-order-comes-out = refl
 
 -- two MakeLists
 --     domain a
@@ -1033,9 +1035,9 @@ makelistTwice = hex 22 0x1030b0a1c995cdbdd5c98d948e6cad8cc04000040000
 abbrev makelistTwice-order : Case
 makelistTwice-order = refuses makelistTwice order 2 1536 6
 
-makelistTwice-order-holds : ComesOut makelistTwice-order
+makelistTwice-order-comes-out : ComesOut makelistTwice-order
 unfolding run
-makelistTwice-order-holds = refl
+makelistTwice-order-comes-out = refl
 
 -- two NoDerives
 --     domain a
@@ -1048,9 +1050,9 @@ noDeriveTwice = hex 22 0x1030b0a1c995cdbdd5c98d948e6cad8cc0400005b000
 abbrev noDeriveTwice-order : Case
 noDeriveTwice-order = refuses noDeriveTwice order 2 1536 6
 
-noDeriveTwice-order-holds : ComesOut noDeriveTwice-order
+noDeriveTwice-order-comes-out : ComesOut noDeriveTwice-order
 unfolding run
-noDeriveTwice-order-holds = refl
+noDeriveTwice-order-comes-out = refl
 
 -- Derives and Aliases that differ
 --     domain a
@@ -1065,9 +1067,9 @@ tagsDiffer = hex 30 0x1050b085982ce87265736f75726365239b2b6330100002501a04c05810
 abbrev tagsDiffer-order : Case
 tagsDiffer-order = accepts tagsDiffer order 4 1536 2 0x0200
 
-tagsDiffer-order-holds : ComesOut tagsDiffer-order
+tagsDiffer-order-comes-out : ComesOut tagsDiffer-order
 unfolding run
-tagsDiffer-order-holds = refl
+tagsDiffer-order-comes-out = refl
 
 -- a chain against the order of names
 --     domain a : b
@@ -1080,9 +1082,9 @@ againstNames = hex 33 0x1050b085882c687265736f75726365239b2b63303000080800080408
 abbrev againstNames-order : Case
 againstNames-order = accepts againstNames order 7 1536 5 0x0604010000
 
-againstNames-order-holds : ComesOut againstNames-order
+againstNames-order-comes-out : ComesOut againstNames-order
 unfolding run
-againstNames-order-holds = refl
+againstNames-order-comes-out = refl
 
 -- a type ready in its parent's round waits for the next one
 --     domain a
@@ -1095,9 +1097,9 @@ nextRound = hex 32 0x1050b085882c687265736f75726365239b2b63303000000010080000100
 abbrev nextRound-order : Case
 nextRound-order = accepts nextRound order 7 1536 5 0x0600020080
 
-nextRound-order-holds : ComesOut nextRound-order
+nextRound-order-comes-out : ComesOut nextRound-order
 unfolding run
-nextRound-order-holds = refl
+nextRound-order-comes-out = refl
 
 -- one word before two
 --     domain b
@@ -1110,9 +1112,9 @@ oneWordFirst = hex 30 0x1040b085890e4cae6deeae4c6ca473656c6606020000010100000000
 abbrev oneWordFirst-order : Case
 oneWordFirst-order = accepts oneWordFirst order 8 1536 6 0x060000808080
 
-oneWordFirst-order-holds : ComesOut oneWordFirst-order
+oneWordFirst-order-comes-out : ComesOut oneWordFirst-order
 unfolding run
-oneWordFirst-order-holds = refl
+oneWordFirst-order-comes-out = refl
 
 -- the longest chain counts
 --     domain a : d b
@@ -1126,9 +1128,9 @@ longestChain = hex 40 0x1060b085882c616443932b9b7bab931b291cd95b1982000080c02000
 abbrev longestChain-order : Case
 longestChain-order = accepts longestChain order 8 1536 6 0x080602008000
 
-longestChain-order-holds : ComesOut longestChain-order
+longestChain-order-comes-out : ComesOut longestChain-order
 unfolding run
-longestChain-order-holds = refl
+longestChain-order-comes-out = refl
 
 -- each listing of `self` is a row
 --     domain a : self self
@@ -1139,9 +1141,9 @@ selfTwice = hex 24 0x1030b0a1c995cdbdd5c98d948e6cad8cc040004040200000
 abbrev selfTwice-order : Case
 selfTwice-order = diagnoses selfTwice order 2 1536 8 2 false (hex 12 0x0100ff02ffff0100ff02ffff)
 
-selfTwice-order-holds : ComesOut selfTwice-order
+selfTwice-order-comes-out : ComesOut selfTwice-order
 unfolding run
-selfTwice-order-holds = refl
+selfTwice-order-comes-out = refl
 
 -- also of a type that waits, types in name order
 --     domain b : a self
@@ -1154,9 +1156,9 @@ selfWaiting = hex 35 0x1050b085882c687265736f75726365239b2b633030101000100000040
 abbrev selfWaiting-order : Case
 selfWaiting-order = diagnoses selfWaiting order 2 1536 8 2 false (hex 12 0x0100ff04ffff0101ff04ffff)
 
-selfWaiting-order-holds : ComesOut selfWaiting-order
+selfWaiting-order-comes-out : ComesOut selfWaiting-order
 unfolding run
-selfWaiting-order-holds = refl
+selfWaiting-order-comes-out = refl
 
 -- `self` declared: a row of kind 1 where a type is ready
 --     domain self
@@ -1168,9 +1170,9 @@ selfDeclared = hex 26 0x1030b0a1c995cdbdd5c98d948e6cad8cc0808000000020400000
 abbrev selfDeclared-order : Case
 selfDeclared-order = diagnoses selfDeclared order 2 1536 8 1 false (hex 6 0x0100ff02ffff)
 
-selfDeclared-order-holds : ComesOut selfDeclared-order
+selfDeclared-order-comes-out : ComesOut selfDeclared-order
 unfolding run
-selfDeclared-order-holds = refl
+selfDeclared-order-comes-out = refl
 
 -- no type ready: the cycle diagnosis replaces kind 1, and `self` is looked up like any name
 --     domain a : self b
@@ -1183,9 +1185,9 @@ selfReplaced = hex 34 0x1040b085890e4cae6deeae4c6ca473656c6606000203008000804000
 abbrev selfReplaced-order : Case
 selfReplaced-order = diagnoses selfReplaced order 2 1536 8 4 false (hex 24 0x0203ff00ffff0201ff00ffff0200ff01ffff0200ff03ffff)
 
-selfReplaced-order-holds : ComesOut selfReplaced-order
+selfReplaced-order-comes-out : ComesOut selfReplaced-order
 unfolding run
-selfReplaced-order-holds = refl
+selfReplaced-order-comes-out = refl
 
 -- a two-word name is not `self`
 --     domain c
@@ -1197,9 +1199,9 @@ selfInTwoWords = hex 28 0x1040b0858d0e4cae6deeae4c6ca473656c66040200000001038080
 abbrev selfInTwoWords-order : Case
 selfInTwoWords-order = diagnoses selfInTwoWords order 2 1536 8 1 false (hex 6 0x0300ff0301ff)
 
-selfInTwoWords-order-holds : ComesOut selfInTwoWords-order
+selfInTwoWords-order-comes-out : ComesOut selfInTwoWords-order
 unfolding run
-selfInTwoWords-order-holds = refl
+selfInTwoWords-order-comes-out = refl
 
 -- the first bad parent is the only answer, also behind a good one
 --     domain a : b a zz
@@ -1211,9 +1213,9 @@ firstBadParent = hex 33 0x1050b085890e4cae6deeae4c6ca473656c6613d3d0200018080008
 abbrev firstBadParent-order : Case
 firstBadParent-order = diagnoses firstBadParent order 2 1536 8 2 false (hex 12 0x0200ff00ffff0301ff04ffff)
 
-firstBadParent-order-holds : ComesOut firstBadParent-order
+firstBadParent-order-comes-out : ComesOut firstBadParent-order
 unfolding run
-firstBadParent-order-holds = refl
+firstBadParent-order-comes-out = refl
 
 -- repeats repeat rows
 --     domain a : b b
@@ -1225,9 +1227,9 @@ repeatedParent = hex 32 0x1050b085890e4cae6deeae4c6ca473656c6613d3d0200010080400
 abbrev repeatedParent-order : Case
 repeatedParent-order = diagnoses repeatedParent order 2 1536 8 3 false (hex 18 0x0301ff04ffff0301ff04ffff0301ff04ffff)
 
-repeatedParent-order-holds : ComesOut repeatedParent-order
+repeatedParent-order-comes-out : ComesOut repeatedParent-order
 unfolding run
-repeatedParent-order-holds = refl
+repeatedParent-order-comes-out = refl
 
 -- answers along the path
 --     domain a : b c
@@ -1240,9 +1242,9 @@ throughPath = hex 38 0x1060b085882c687265736f75726365239b2b63309e9e8180008040400
 abbrev throughPath-order : Case
 throughPath-order = diagnoses throughPath order 2 1536 8 4 false (hex 24 0x0201ff00ffff0302ff05ffff0200ff01ffff0302ff05ffff)
 
-throughPath-order-holds : ComesOut throughPath-order
+throughPath-order-comes-out : ComesOut throughPath-order
 unfolding run
-throughPath-order-holds = refl
+throughPath-order-comes-out = refl
 
 -- a placed type gives no row
 --     domain a : b c
@@ -1255,9 +1257,9 @@ placedParent = hex 35 0x1050b085882c687265736f75726365239b2b63303000100808000400
 abbrev placedParent-order : Case
 placedParent-order = diagnoses placedParent order 2 1536 8 2 false (hex 12 0x0202ff02ffff0202ff02ffff)
 
-placedParent-order-holds : ComesOut placedParent-order
+placedParent-order-comes-out : ComesOut placedParent-order
 unfolding run
-placedParent-order-holds = refl
+placedParent-order-comes-out = refl
 
 -- 256 rows: the flag is not set
 --     domain q : zz
@@ -1271,16 +1273,16 @@ rows256 = hex 79 0x1080b805c50e4cae6deeae4c6ca473656c660ba05d42ec27a7a0a02010700
 abbrev rows256-schedule : Case
 rows256-schedule = diagnoses rows256 schedule 4 1540 8 256 false (times 256 (hex 6 0x0301ff07ffff))
 
-rows256-schedule-holds : ComesOut rows256-schedule
+rows256-schedule-comes-out : ComesOut rows256-schedule
 unfolding run
-rows256-schedule-holds = refl
+rows256-schedule-comes-out = refl
 
 abbrev rows256-order : Case
 rows256-order = diagnoses rows256 order 4 1540 8 256 false (times 256 (hex 6 0x0301ff07ffff))
 
-rows256-order-holds : ComesOut rows256-order
+rows256-order-comes-out : ComesOut rows256-order
 unfolding run
-rows256-order-holds = refl
+rows256-order-comes-out = refl
 
 -- 257 rows: the flag is set
 --     domain q : zz
@@ -1294,16 +1296,16 @@ rows257 = hex 80 0x1080b805c50e4cae6deeae4c6ca473656c660ba05d42ec27a7a0a02010700
 abbrev rows257-schedule : Case
 rows257-schedule = diagnoses rows257 schedule 4 1540 8 256 true (times 256 (hex 6 0x0301ff07ffff))
 
-rows257-schedule-holds : ComesOut rows257-schedule
+rows257-schedule-comes-out : ComesOut rows257-schedule
 unfolding run
-rows257-schedule-holds = refl
+rows257-schedule-comes-out = refl
 
 abbrev rows257-order : Case
 rows257-order = diagnoses rows257 order 4 1540 8 256 true (times 256 (hex 6 0x0301ff07ffff))
 
-rows257-order-holds : ComesOut rows257-order
+rows257-order-comes-out : ComesOut rows257-order
 unfolding run
-rows257-order-holds = refl
+rows257-order-comes-out = refl
 
 -- two doms of one word from two ancestors: classes none first, then ascending; marks in turn
 --     domain a
@@ -1327,9 +1329,9 @@ twoDoms = hex 66 0x1090b085882c61640b321c995cdbdd5c98d948e6cad8cc1780bc8700000a1
 abbrev twoDoms-schedule : Case
 twoDoms-schedule = accepts twoDoms schedule 33 1536 31 0x0e0001010100f0408820180008060412000480412020441409018140d03008
 
-twoDoms-schedule-holds : ComesOut twoDoms-schedule
+twoDoms-schedule-comes-out : ComesOut twoDoms-schedule
 unfolding run
-twoDoms-schedule-holds = refl
+twoDoms-schedule-comes-out = refl
 
 -- doms of ancestors that are no direct parents
 --     domain a
@@ -1348,9 +1350,9 @@ farDoms = hex 54 0x1080b085882c616643932b9b7bab931b291cd95b1982f01790a0000142070
 abbrev farDoms-schedule : Case
 farDoms-schedule = accepts farDoms schedule 37 1536 35 0x0a00068183c0c040400040080c28000d0400c0a0200c04030a0103410050281c080180
 
-farDoms-schedule-holds : ComesOut farDoms-schedule
+farDoms-schedule-comes-out : ComesOut farDoms-schedule
 unfolding run
-farDoms-schedule-holds = refl
+farDoms-schedule-comes-out = refl
 
 -- the union of doms is interpreted: both classes unknown
 --     domain a
@@ -1365,9 +1367,9 @@ unitedDoms = hex 44 0x1080b085882c616643932b9b7bab931b291cd95b1982f0179060000142
 abbrev unitedDoms-schedule : Case
 unitedDoms-schedule = diagnoses unitedDoms schedule 2 1536 9 2 false (hex 12 0x0402ff0603030402ff070303)
 
-unitedDoms-schedule-holds : ComesOut unitedDoms-schedule
+unitedDoms-schedule-comes-out : ComesOut unitedDoms-schedule
 unfolding run
-unitedDoms-schedule-holds = refl
+unitedDoms-schedule-comes-out = refl
 
 -- T's own doms join its children's inherited classes, and not its own
 --     resource f
@@ -1386,9 +1388,9 @@ ownDoms = hex 50 0x1070b085882c61640b321c995cdbdd5c98d948e6cad8cc141080060207044
 abbrev ownDoms-schedule : Case
 ownDoms-schedule = accepts ownDoms schedule 55 1536 53 0x0a000382020040400070001024110500c060001002040a03044140302008102800110500c060201004040a01044140501814080200
 
-ownDoms-schedule-holds : ComesOut ownDoms-schedule
+ownDoms-schedule-comes-out : ComesOut ownDoms-schedule
 unfolding run
-ownDoms-schedule-holds = refl
+ownDoms-schedule-comes-out = refl
 
 -- P.r for direct parents alone, ascending, each once
 --     resource f
@@ -1404,9 +1406,9 @@ directParents = hex 49 0x1070b285982da87265736f75726365239b2b63305d02f4140480001
 abbrev directParents-schedule : Case
 directParents-schedule = accepts directParents schedule 33 1536 31 0x0a0001030080a000401004281805030040800814021c04030300a060082801
 
-directParents-schedule-holds : ComesOut directParents-schedule
+directParents-schedule-comes-out : ComesOut directParents-schedule
 unfolding run
-directParents-schedule-holds = refl
+directParents-schedule-comes-out = refl
 
 -- own resources by ascending class name, whichever annotation gives them
 --     resource f
@@ -1422,9 +1424,9 @@ ownSorted = hex 42 0x1060b085902cc16743932b9b7bab931b291cd95b198201100000c090000
 abbrev ownSorted-schedule : Case
 ownSorted-schedule = accepts ownSorted schedule 37 1536 35 0x080001810100c000a000105008120800000082409040040001000061206820020000c0
 
-ownSorted-schedule-holds : ComesOut ownSorted-schedule
+ownSorted-schedule-comes-out : ComesOut ownSorted-schedule
 unfolding run
-ownSorted-schedule-holds = refl
+ownSorted-schedule-comes-out = refl
 
 -- virtual: the type and all its classes
 --     resource f virtual
@@ -1440,9 +1442,9 @@ virtual = hex 40 0x1060b085882cc16743932b9b7bab931b291cd95b1982011800019000000c0
 abbrev virtual-schedule : Case
 virtual-schedule = accepts virtual schedule 37 1536 35 0x0800010100c000c0001448120800803020000c240d0400401818040412048200202008
 
-virtual-schedule-holds : ComesOut virtual-schedule
+virtual-schedule-comes-out : ComesOut virtual-schedule
 unfolding run
-virtual-schedule-holds = refl
+virtual-schedule-comes-out = refl
 
 -- marks of the classes in turn, repeats kept
 --     resource f
@@ -1462,9 +1464,9 @@ repeatedMarks = hex 49 0x1070b085882c61640b321c995cdbdd5c98d948e6cad8cc141080080
 abbrev repeatedMarks-schedule : Case
 repeatedMarks-schedule = accepts repeatedMarks schedule 25 1536 23 0x0a000101c1010040002010103800120104414062040100
 
-repeatedMarks-schedule-holds : ComesOut repeatedMarks-schedule
+repeatedMarks-schedule-comes-out : ComesOut repeatedMarks-schedule
 unfolding run
-repeatedMarks-schedule-holds = refl
+repeatedMarks-schedule-comes-out = refl
 
 -- the other kinds of annotation, and Inherit, change nothing
 --     resource f
@@ -1485,9 +1487,9 @@ otherKinds = hex 46 0x1060b085882cc87265736f75726365239b2b63309e9e81811006849828
 abbrev otherKinds-schedule : Case
 otherKinds-schedule = accepts otherKinds schedule 30 1536 28 0x06000200800100002090240c030580002008082800090300c1602008
 
-otherKinds-schedule-holds : ComesOut otherKinds-schedule
+otherKinds-schedule-comes-out : ComesOut otherKinds-schedule
 unfolding run
-otherKinds-schedule-holds = refl
+otherKinds-schedule-comes-out = refl
 
 -- an extension of an undeclared type; undeclared parents and `self` in one
 --     domain a
@@ -1502,9 +1504,9 @@ extensions = hex 42 0x1050b085990e4cae6deeae4c6ca473656c6613d3d02000009101001200
 abbrev extensions-schedule : Case
 extensions-schedule = accepts extensions schedule 22 1536 20 0x0400010001000022a02812070200c08020080001
 
-extensions-schedule-holds : ComesOut extensions-schedule
+extensions-schedule-comes-out : ComesOut extensions-schedule
 unfolding run
-extensions-schedule-holds = refl
+extensions-schedule-comes-out = refl
 
 -- a two-word type gives three-word names
 --     resource f
@@ -1518,9 +1520,9 @@ threeWords = hex 40 0x1070b085882c61640b321c995cdbdd5c98d948e6cad8cc0c1080000202
 abbrev threeWords-schedule : Case
 threeWords-schedule = accepts threeWords schedule 35 1536 33 0x060101040140c001001010409044140100808080281820580008220a008140c040
 
-threeWords-schedule-holds : ComesOut threeWords-schedule
+threeWords-schedule-comes-out : ComesOut threeWords-schedule
 unfolding run
-threeWords-schedule-holds = refl
+threeWords-schedule-comes-out = refl
 
 -- a type may be its own class
 --     resource f virtual
@@ -1532,9 +1534,9 @@ ownClass = hex 23 0x1030b321c995cdbdd5c98d948e6cad8cc0400c02440000
 abbrev ownClass-schedule : Case
 ownClass-schedule = accepts ownClass schedule 16 1536 14 0x0200000200002240101004010000
 
-ownClass-schedule-holds : ComesOut ownClass-schedule
+ownClass-schedule-comes-out : ComesOut ownClass-schedule
 unfolding run
-ownClass-schedule-holds = refl
+ownClass-schedule-comes-out = refl
 
 -- an unknown class that is only nested
 --     domain p
@@ -1546,9 +1548,9 @@ nestAlone = hex 26 0x1040b821c995cdbdd5c98d948e6cad8cc27a7a02000014206000
 abbrev nestAlone-schedule : Case
 nestAlone-schedule = accepts nestAlone schedule 6 1536 4 0x02000000
 
-nestAlone-schedule-holds : ComesOut nestAlone-schedule
+nestAlone-schedule-comes-out : ComesOut nestAlone-schedule
 unfolding run
-nestAlone-schedule-holds = refl
+nestAlone-schedule-comes-out = refl
 
 -- an unknown class nested in a parent
 --     domain p
@@ -1561,9 +1563,9 @@ nestUnknown = hex 32 0x1050b105c10e4cae6deeae4c6ca473656c6613d3d0201000a10400000
 abbrev nestUnknown-schedule : Case
 nestUnknown-schedule = diagnoses nestUnknown schedule 2 1536 9 1 false (hex 6 0x0400ff04ff04)
 
-nestUnknown-schedule-holds : ComesOut nestUnknown-schedule
+nestUnknown-schedule-comes-out : ComesOut nestUnknown-schedule
 unfolding run
-nestUnknown-schedule-holds = refl
+nestUnknown-schedule-comes-out = refl
 
 -- P.r may be a parent though it is neither declared nor made
 --     resource f
@@ -1577,9 +1579,9 @@ nestAndOwn = hex 34 0x1050b105982e087265736f75726365239b2b6330301200002080a10100
 abbrev nestAndOwn-schedule : Case
 nestAndOwn-schedule = accepts nestAndOwn schedule 19 1536 17 0x060202000000800010a020140c01002020
 
-nestAndOwn-schedule-holds : ComesOut nestAndOwn-schedule
+nestAndOwn-schedule-comes-out : ComesOut nestAndOwn-schedule
 unfolding run
-nestAndOwn-schedule-holds = refl
+nestAndOwn-schedule-comes-out = refl
 
 -- a parent call that fails passes nothing at that listing: a refused type without a row
 --     resource f
@@ -1594,9 +1596,9 @@ failedParent = hex 38 0x1060b185982e087265736f75726365239b2b63309e9e818090000100
 abbrev failedParent-schedule : Case
 failedParent-schedule = diagnoses failedParent schedule 2 1536 9 1 false (hex 6 0x0402ff05ff05)
 
-failedParent-schedule-holds : ComesOut failedParent-schedule
+failedParent-schedule-comes-out : ComesOut failedParent-schedule
 unfolding run
-failedParent-schedule-holds = refl
+failedParent-schedule-comes-out = refl
 
 -- listed again, it passes everything
 --     resource f
@@ -1611,9 +1613,9 @@ listedAgain = hex 40 0x1060b185982e087265736f75726365239b2b63309e9e8180900001000
 abbrev listedAgain-schedule : Case
 listedAgain-schedule = diagnoses listedAgain schedule 2 1536 9 2 false (hex 12 0x0402ff05ff050400ff05ff05)
 
-listedAgain-schedule-holds : ComesOut listedAgain-schedule
+listedAgain-schedule-comes-out : ComesOut listedAgain-schedule
 unfolding run
-listedAgain-schedule-holds = refl
+listedAgain-schedule-comes-out = refl
 
 -- the child of a failed call fails too
 --     resource f
@@ -1629,9 +1631,9 @@ failsThrough = hex 45 0x1070b1058c2cc17043932b9b7bab931b291cd95b1984f4f410088000
 abbrev failsThrough-schedule : Case
 failsThrough-schedule = diagnoses failsThrough schedule 2 1536 9 2 false (hex 12 0x0403ff06ff060400ff06ff06)
 
-failsThrough-schedule-holds : ComesOut failsThrough-schedule
+failsThrough-schedule-comes-out : ComesOut failsThrough-schedule
 unfolding run
-failsThrough-schedule-holds = refl
+failsThrough-schedule-comes-out = refl
 
 -- a type that is not refused can get a row: `q` fails, so `p.f` alone stands above a.f
 --     resource f
@@ -1652,9 +1654,9 @@ rowUnrefused = hex 59 0x1070b085982ce1700b8a1c995cdbdd5c98d948e6cad8cc1c04800008
 abbrev rowUnrefused-schedule : Case
 rowUnrefused-schedule = diagnoses rowUnrefused schedule 2 1536 9 2 false (hex 12 0x0604ffffff020600ffffff01)
 
-rowUnrefused-schedule-holds : ComesOut rowUnrefused-schedule
+rowUnrefused-schedule-comes-out : ComesOut rowUnrefused-schedule
 unfolding run
-rowUnrefused-schedule-holds = refl
+rowUnrefused-schedule-comes-out = refl
 
 -- unknown classes end the annotation, words ascending
 --     domain a
@@ -1666,9 +1668,9 @@ unknownEnds = hex 30 0x1050b0a1c995cdbdd5c98d948e6cad8cc2797913d3d01000009204018
 abbrev unknownEnds-schedule : Case
 unknownEnds-schedule = diagnoses unknownEnds schedule 2 1536 9 1 false (hex 6 0x0400ff03ff03)
 
-unknownEnds-schedule-holds : ComesOut unknownEnds-schedule
+unknownEnds-schedule-comes-out : ComesOut unknownEnds-schedule
 unfolding run
-unknownEnds-schedule-holds = refl
+unknownEnds-schedule-comes-out = refl
 
 -- after a 5 the next word ends the annotation, though it adds no row
 --     domain d
@@ -1682,9 +1684,9 @@ after5 = hex 38 0x1060b085902cc87265736f75726365239b2b63309e9e818080000110000000
 abbrev after5-schedule : Case
 after5-schedule = diagnoses after5 schedule 2 1536 9 1 false (hex 6 0x0500ff01ff01)
 
-after5-schedule-holds : ComesOut after5-schedule
+after5-schedule-comes-out : ComesOut after5-schedule
 unfolding run
-after5-schedule-holds = refl
+after5-schedule-comes-out = refl
 
 -- after a 5 the next word adds its unknown classes
 --     domain d
@@ -1698,9 +1700,9 @@ after5Unknown = hex 36 0x1060b085902cc87265736f75726365239b2b63309e9e81808000011
 abbrev after5Unknown-schedule : Case
 after5Unknown-schedule = diagnoses after5Unknown schedule 2 1536 9 2 false (hex 12 0x0500ff01ff010400ff05ff05)
 
-after5Unknown-schedule-holds : ComesOut after5Unknown-schedule
+after5Unknown-schedule-comes-out : ComesOut after5Unknown-schedule
 unfolding run
-after5Unknown-schedule-holds = refl
+after5Unknown-schedule-comes-out = refl
 
 -- after a 6 too
 --     resource d
@@ -1714,9 +1716,9 @@ after6Unknown = hex 36 0x1050b085910e4cae6deeae4c6ca473656c6613d3d030120000080a0
 abbrev after6Unknown-schedule : Case
 after6Unknown-schedule = diagnoses after6Unknown schedule 2 1536 9 2 false (hex 12 0x0600ffffff010400ff04ff04)
 
-after6Unknown-schedule-holds : ComesOut after6Unknown-schedule
+after6Unknown-schedule-comes-out : ComesOut after6Unknown-schedule
 unfolding run
-after6Unknown-schedule-holds = refl
+after6Unknown-schedule-comes-out = refl
 
 -- 6 is not given where 5 is
 --     domain f
@@ -1730,9 +1732,9 @@ not6Where5 = hex 32 0x1040b085990e4cae6deeae4c6ca473656c660602000001014000000012
 abbrev not6Where5-schedule : Case
 not6Where5-schedule = diagnoses not6Where5 schedule 2 1536 9 1 false (hex 6 0x0500ff01ff01)
 
-not6Where5-schedule-holds : ComesOut not6Where5-schedule
+not6Where5-schedule-comes-out : ComesOut not6Where5-schedule
 unfolding run
-not6Where5-schedule-holds = refl
+not6Where5-schedule-comes-out = refl
 
 -- 5 names the first class that is no resource
 --     domain f
@@ -1749,9 +1751,9 @@ firstNoResource = hex 48 0x1070b085882c616643932b9b7bab931b291cd95b1982f0140c000
 abbrev firstNoResource-schedule : Case
 firstNoResource-schedule = diagnoses firstNoResource schedule 2 1536 9 1 false (hex 6 0x0502ff03ff03)
 
-firstNoResource-schedule-holds : ComesOut firstNoResource-schedule
+firstNoResource-schedule-comes-out : ComesOut firstNoResource-schedule
 unfolding run
-firstNoResource-schedule-holds = refl
+firstNoResource-schedule-comes-out = refl
 
 -- the variant `other` is no resource
 --     other f
@@ -1764,9 +1766,9 @@ otherVariant = hex 28 0x1040b085990e4cae6deeae4c6ca473656c6604028000000012202000
 abbrev otherVariant-schedule : Case
 otherVariant-schedule = diagnoses otherVariant schedule 2 1536 9 1 false (hex 6 0x0500ff01ff01)
 
-otherVariant-schedule-holds : ComesOut otherVariant-schedule
+otherVariant-schedule-comes-out : ComesOut otherVariant-schedule
 unfolding run
-otherVariant-schedule-holds = refl
+otherVariant-schedule-comes-out = refl
 
 -- Associates by ascending word list
 --     domain a
@@ -1779,9 +1781,9 @@ wordLists = hex 36 0x1070b085ac2da87265736f75726365239b2b63309e5e44f4f4040000448
 abbrev wordLists-schedule : Case
 wordLists-schedule = diagnoses wordLists schedule 2 1536 9 2 false (hex 12 0x0400ff01ff010400ff02ff02)
 
-wordLists-schedule-holds : ComesOut wordLists-schedule
+wordLists-schedule-comes-out : ComesOut wordLists-schedule
 unfolding run
-wordLists-schedule-holds = refl
+wordLists-schedule-comes-out = refl
 
 -- of each earlier entry its rest, then what it shares, and last the newcomer's rest
 --     domain p
@@ -1796,9 +1798,9 @@ dedupOrder = hex 44 0x1080b085b42e017143932b9b7bab931b291cd95b1982e817a060400144
 abbrev dedupOrder-schedule : Case
 dedupOrder-schedule = diagnoses dedupOrder schedule 2 1536 9 3 false (hex 18 0x0406ff07ff070406ff01ff010406ff00ff00)
 
-dedupOrder-schedule-holds : ComesOut dedupOrder-schedule
+dedupOrder-schedule-comes-out : ComesOut dedupOrder-schedule
 unfolding run
-dedupOrder-schedule-holds = refl
+dedupOrder-schedule-comes-out = refl
 
 -- newcomers by listing
 --     domain p
@@ -1813,9 +1815,9 @@ dedupTurned = hex 44 0x1080b085b42e017143932b9b7bab931b291cd95b1982e817a06040014
 abbrev dedupTurned-schedule : Case
 dedupTurned-schedule = diagnoses dedupTurned schedule 2 1536 9 3 false (hex 18 0x0406ff00ff000406ff01ff010406ff07ff07)
 
-dedupTurned-schedule-holds : ComesOut dedupTurned-schedule
+dedupTurned-schedule-comes-out : ComesOut dedupTurned-schedule
 unfolding run
-dedupTurned-schedule-holds = refl
+dedupTurned-schedule-comes-out = refl
 
 -- two identical own makings
 --     resource f
@@ -1830,9 +1832,9 @@ identicalOwn = hex 36 0x1050b085982ce87265736f75726365239b2b63303012000022000000
 abbrev identicalOwn-schedule : Case
 identicalOwn-schedule = diagnoses identicalOwn schedule 2 1536 9 1 false (hex 6 0x0600ffffff01)
 
-identicalOwn-schedule-holds : ComesOut identicalOwn-schedule
+identicalOwn-schedule-comes-out : ComesOut identicalOwn-schedule
 unfolding run
-identicalOwn-schedule-holds = refl
+identicalOwn-schedule-comes-out = refl
 
 -- an own making of class P.r identical to the inherited one
 --     resource p.f
@@ -1848,9 +1850,9 @@ identicalAbove = hex 44 0x1060b305c02e287265736f75726365239b2b63305d0200c0100001
 abbrev identicalAbove-schedule : Case
 identicalAbove-schedule = diagnoses identicalAbove schedule 2 1536 9 1 false (hex 6 0x0605ffffff00)
 
-identicalAbove-schedule-holds : ComesOut identicalAbove-schedule
+identicalAbove-schedule-comes-out : ComesOut identicalAbove-schedule
 unfolding run
-identicalAbove-schedule-holds = refl
+identicalAbove-schedule-comes-out = refl
 
 -- unlike marks: two makings
 --     resource p.f
@@ -1867,9 +1869,9 @@ marksDiffer = hex 45 0x1060b305c02e287265736f75726365239b2b63305d0200c0100080a00
 abbrev marksDiffer-schedule : Case
 marksDiffer-schedule = accepts marksDiffer schedule 30 1536 28 0x080201800140014000605000500802060101400140200818020a0000
 
-marksDiffer-schedule-holds : ComesOut marksDiffer-schedule
+marksDiffer-schedule-comes-out : ComesOut marksDiffer-schedule
 unfolding run
-marksDiffer-schedule-holds = refl
+marksDiffer-schedule-comes-out = refl
 
 -- T.r is a declared type
 --     resource f
@@ -1883,12 +1885,77 @@ declaredName = hex 32 0x1040b085990e4cae6deeae4c6ca473656c6606024000010140000000
 abbrev declaredName-schedule : Case
 declaredName-schedule = diagnoses declaredName schedule 2 1536 9 1 false (hex 6 0x0600ffffff01)
 
-declaredName-schedule-holds : ComesOut declaredName-schedule
+declaredName-schedule-comes-out : ComesOut declaredName-schedule
 unfolding run
-declaredName-schedule-holds = refl
+declaredName-schedule-comes-out = refl
 
 abbrev pub cases : List Case
-cases = refusal1-schedule ∷ refusal1-order ∷ refusal2-schedule ∷ refusal2-order ∷ refusal3-schedule ∷ refusal3-order ∷ refusal4-schedule ∷ refusal4-order ∷ refusal5-schedule ∷ refusal5-order ∷ refusal6-schedule ∷ refusal6-order ∷ refusal7-schedule ∷ refusal7-order ∷ refusal8-schedule ∷ refusal8-order ∷ refusal9-schedule ∷ refusal9-order ∷ refusal10-schedule ∷ refusal10-order ∷ fits-schedule ∷ oneShort-schedule ∷ orderFits-order ∷ orderOneShort-order ∷ longestSheet-order ∷ first1-order ∷ first2-order ∷ first7-order ∷ first5-order ∷ first6-order ∷ first8-schedule ∷ first9-schedule ∷ wordByte-order ∷ wordByteMissing-order ∷ wordBytes-order ∷ wordByte47-order ∷ wordByte58-order ∷ wordByte64-order ∷ wordByte91-order ∷ wordByte94-order ∷ wordByte96-order ∷ wordByte123-order ∷ emptyWord-order ∷ longWord-order ∷ words1-order ∷ words200-order ∷ words201-order ∷ types64Missing-order ∷ extensions32-order ∷ extensions33-order ∷ wordNumber-order ∷ variant3-order ∷ kind7-order ∷ annotations13-order ∷ annotations12-order ∷ marks7-order ∷ nestInTwoWords-order ∷ associateInTwoWords-order ∷ noResources-schedule ∷ noResources-order ∷ noExtensionParent-order ∷ everyKind-order ∷ noSelf-order ∷ noResource-order ∷ wordTwice-order ∷ prefixFirst-order ∷ fill-order ∷ moreBytes-order ∷ twoWordsTwice-order ∷ keyTwice-order ∷ keysDiffer-order ∷ wordTwiceInAssociate-order ∷ wordTwiceInNest-order ∷ equalSets-order ∷ emptySets-order ∷ unequalSets-order ∷ inheritTwice-order ∷ inheritsDiffer-order ∷ deriveTwice-order ∷ aliasTwice-order ∷ makelistTwice-order ∷ noDeriveTwice-order ∷ tagsDiffer-order ∷ againstNames-order ∷ nextRound-order ∷ oneWordFirst-order ∷ longestChain-order ∷ selfTwice-order ∷ selfWaiting-order ∷ selfDeclared-order ∷ selfReplaced-order ∷ selfInTwoWords-order ∷ firstBadParent-order ∷ repeatedParent-order ∷ throughPath-order ∷ placedParent-order ∷ rows256-schedule ∷ rows256-order ∷ rows257-schedule ∷ rows257-order ∷ twoDoms-schedule ∷ farDoms-schedule ∷ unitedDoms-schedule ∷ ownDoms-schedule ∷ directParents-schedule ∷ ownSorted-schedule ∷ virtual-schedule ∷ repeatedMarks-schedule ∷ otherKinds-schedule ∷ extensions-schedule ∷ threeWords-schedule ∷ ownClass-schedule ∷ nestAlone-schedule ∷ nestUnknown-schedule ∷ nestAndOwn-schedule ∷ failedParent-schedule ∷ listedAgain-schedule ∷ failsThrough-schedule ∷ rowUnrefused-schedule ∷ unknownEnds-schedule ∷ after5-schedule ∷ after5Unknown-schedule ∷ after6Unknown-schedule ∷ not6Where5-schedule ∷ firstNoResource-schedule ∷ otherVariant-schedule ∷ wordLists-schedule ∷ dedupOrder-schedule ∷ dedupTurned-schedule ∷ identicalOwn-schedule ∷ identicalAbove-schedule ∷ marksDiffer-schedule ∷ declaredName-schedule ∷ []
+cases =
+    refusal1-schedule ∷ refusal1-order ∷ refusal2-schedule ∷ refusal2-order ∷ refusal3-schedule ∷ refusal3-order ∷
+    refusal4-schedule ∷ refusal4-order ∷ refusal5-schedule ∷ refusal5-order ∷ refusal6-schedule ∷ refusal6-order ∷
+    refusal7-schedule ∷ refusal7-order ∷ refusal8-schedule ∷ refusal8-order ∷ refusal9-schedule ∷ refusal9-order ∷
+    refusal10-schedule ∷ refusal10-order ∷ fits-schedule ∷ oneShort-schedule ∷ orderFits-order ∷ orderOneShort-order ∷
+    longestSheet-order ∷ first1-order ∷ first2-order ∷ first7-order ∷ first5-order ∷ first6-order ∷ first8-schedule ∷
+    first9-schedule ∷ wordByte-order ∷ wordByteMissing-order ∷ wordBytes-order ∷ wordByte47-order ∷ wordByte58-order ∷
+    wordByte64-order ∷ wordByte91-order ∷ wordByte94-order ∷ wordByte96-order ∷ wordByte123-order ∷ emptyWord-order ∷
+    longWord-order ∷ words1-order ∷ words200-order ∷ words201-order ∷ types64Missing-order ∷ extensions32-order ∷
+    extensions33-order ∷ wordNumber-order ∷ variant3-order ∷ kind7-order ∷ annotations13-order ∷ annotations12-order ∷
+    marks7-order ∷ nestInTwoWords-order ∷ associateInTwoWords-order ∷ noResources-schedule ∷ noResources-order ∷
+    noExtensionParent-order ∷ everyKind-order ∷ noSelf-order ∷ noResource-order ∷ wordTwice-order ∷ prefixFirst-order ∷
+    fill-order ∷ moreBytes-order ∷ twoWordsTwice-order ∷ keyTwice-order ∷ keysDiffer-order ∷ wordTwiceInAssociate-order ∷
+    wordTwiceInNest-order ∷ equalSets-order ∷ emptySets-order ∷ unequalSets-order ∷ inheritTwice-order ∷ inheritsDiffer-order
+    ∷ deriveTwice-order ∷ aliasTwice-order ∷ makelistTwice-order ∷ noDeriveTwice-order ∷ tagsDiffer-order ∷ againstNames-order
+    ∷ nextRound-order ∷ oneWordFirst-order ∷ longestChain-order ∷ selfTwice-order ∷ selfWaiting-order ∷ selfDeclared-order ∷
+    selfReplaced-order ∷ selfInTwoWords-order ∷ firstBadParent-order ∷ repeatedParent-order ∷ throughPath-order ∷
+    placedParent-order ∷ rows256-schedule ∷ rows256-order ∷ rows257-schedule ∷ rows257-order ∷ twoDoms-schedule ∷
+    farDoms-schedule ∷ unitedDoms-schedule ∷ ownDoms-schedule ∷ directParents-schedule ∷ ownSorted-schedule ∷ virtual-schedule
+    ∷ repeatedMarks-schedule ∷ otherKinds-schedule ∷ extensions-schedule ∷ threeWords-schedule ∷ ownClass-schedule ∷
+    nestAlone-schedule ∷ nestUnknown-schedule ∷ nestAndOwn-schedule ∷ failedParent-schedule ∷ listedAgain-schedule ∷
+    failsThrough-schedule ∷ rowUnrefused-schedule ∷ unknownEnds-schedule ∷ after5-schedule ∷ after5Unknown-schedule ∷
+    after6Unknown-schedule ∷ not6Where5-schedule ∷ firstNoResource-schedule ∷ otherVariant-schedule ∷ wordLists-schedule ∷
+    dedupOrder-schedule ∷ dedupTurned-schedule ∷ identicalOwn-schedule ∷ identicalAbove-schedule ∷ marksDiffer-schedule ∷
+    declaredName-schedule ∷ []
 
 pub hold : AllComeOut cases
-hold = (refusal1-schedule-holds, (refusal1-order-holds, (refusal2-schedule-holds, (refusal2-order-holds, (refusal3-schedule-holds, (refusal3-order-holds, (refusal4-schedule-holds, (refusal4-order-holds, (refusal5-schedule-holds, (refusal5-order-holds, (refusal6-schedule-holds, (refusal6-order-holds, (refusal7-schedule-holds, (refusal7-order-holds, (refusal8-schedule-holds, (refusal8-order-holds, (refusal9-schedule-holds, (refusal9-order-holds, (refusal10-schedule-holds, (refusal10-order-holds, (fits-schedule-holds, (oneShort-schedule-holds, (orderFits-order-holds, (orderOneShort-order-holds, (longestSheet-order-holds, (first1-order-holds, (first2-order-holds, (first7-order-holds, (first5-order-holds, (first6-order-holds, (first8-schedule-holds, (first9-schedule-holds, (wordByte-order-holds, (wordByteMissing-order-holds, (wordBytes-order-holds, (wordByte47-order-holds, (wordByte58-order-holds, (wordByte64-order-holds, (wordByte91-order-holds, (wordByte94-order-holds, (wordByte96-order-holds, (wordByte123-order-holds, (emptyWord-order-holds, (longWord-order-holds, (words1-order-holds, (words200-order-holds, (words201-order-holds, (types64Missing-order-holds, (extensions32-order-holds, (extensions33-order-holds, (wordNumber-order-holds, (variant3-order-holds, (kind7-order-holds, (annotations13-order-holds, (annotations12-order-holds, (marks7-order-holds, (nestInTwoWords-order-holds, (associateInTwoWords-order-holds, (noResources-schedule-holds, (noResources-order-holds, (noExtensionParent-order-holds, (everyKind-order-holds, (noSelf-order-holds, (noResource-order-holds, (wordTwice-order-holds, (prefixFirst-order-holds, (fill-order-holds, (moreBytes-order-holds, (twoWordsTwice-order-holds, (keyTwice-order-holds, (keysDiffer-order-holds, (wordTwiceInAssociate-order-holds, (wordTwiceInNest-order-holds, (equalSets-order-holds, (emptySets-order-holds, (unequalSets-order-holds, (inheritTwice-order-holds, (inheritsDiffer-order-holds, (deriveTwice-order-holds, (aliasTwice-order-holds, (makelistTwice-order-holds, (noDeriveTwice-order-holds, (tagsDiffer-order-holds, (againstNames-order-holds, (nextRound-order-holds, (oneWordFirst-order-holds, (longestChain-order-holds, (selfTwice-order-holds, (selfWaiting-order-holds, (selfDeclared-order-holds, (selfReplaced-order-holds, (selfInTwoWords-order-holds, (firstBadParent-order-holds, (repeatedParent-order-holds, (throughPath-order-holds, (placedParent-order-holds, (rows256-schedule-holds, (rows256-order-holds, (rows257-schedule-holds, (rows257-order-holds, (twoDoms-schedule-holds, (farDoms-schedule-holds, (unitedDoms-schedule-holds, (ownDoms-schedule-holds, (directParents-schedule-holds, (ownSorted-schedule-holds, (virtual-schedule-holds, (repeatedMarks-schedule-holds, (otherKinds-schedule-holds, (extensions-schedule-holds, (threeWords-schedule-holds, (ownClass-schedule-holds, (nestAlone-schedule-holds, (nestUnknown-schedule-holds, (nestAndOwn-schedule-holds, (failedParent-schedule-holds, (listedAgain-schedule-holds, (failsThrough-schedule-holds, (rowUnrefused-schedule-holds, (unknownEnds-schedule-holds, (after5-schedule-holds, (after5Unknown-schedule-holds, (after6Unknown-schedule-holds, (not6Where5-schedule-holds, (firstNoResource-schedule-holds, (otherVariant-schedule-holds, (wordLists-schedule-holds, (dedupOrder-schedule-holds, (dedupTurned-schedule-holds, (identicalOwn-schedule-holds, (identicalAbove-schedule-holds, (marksDiffer-schedule-holds, (declaredName-schedule-holds, tt)))))))))))))))))))))))))))))))))))))))))))))))))))))))))))))))))))))))))))))))))))))))))))))))))))))))))))))))))))))))))))))))))))))
+hold =
+    refusal1-schedule-comes-out also refusal1-order-comes-out also refusal2-schedule-comes-out also refusal2-order-comes-out
+    also refusal3-schedule-comes-out also refusal3-order-comes-out also refusal4-schedule-comes-out also
+    refusal4-order-comes-out also refusal5-schedule-comes-out also refusal5-order-comes-out also refusal6-schedule-comes-out
+    also refusal6-order-comes-out also refusal7-schedule-comes-out also refusal7-order-comes-out also
+    refusal8-schedule-comes-out also refusal8-order-comes-out also refusal9-schedule-comes-out also refusal9-order-comes-out
+    also refusal10-schedule-comes-out also refusal10-order-comes-out also fits-schedule-comes-out also
+    oneShort-schedule-comes-out also orderFits-order-comes-out also orderOneShort-order-comes-out also
+    longestSheet-order-comes-out also first1-order-comes-out also first2-order-comes-out also first7-order-comes-out also
+    first5-order-comes-out also first6-order-comes-out also first8-schedule-comes-out also first9-schedule-comes-out also
+    wordByte-order-comes-out also wordByteMissing-order-comes-out also wordBytes-order-comes-out also
+    wordByte47-order-comes-out also wordByte58-order-comes-out also wordByte64-order-comes-out also wordByte91-order-comes-out
+    also wordByte94-order-comes-out also wordByte96-order-comes-out also wordByte123-order-comes-out also
+    emptyWord-order-comes-out also longWord-order-comes-out also words1-order-comes-out also words200-order-comes-out also
+    words201-order-comes-out also types64Missing-order-comes-out also extensions32-order-comes-out also
+    extensions33-order-comes-out also wordNumber-order-comes-out also variant3-order-comes-out also kind7-order-comes-out also
+    annotations13-order-comes-out also annotations12-order-comes-out also marks7-order-comes-out also
+    nestInTwoWords-order-comes-out also associateInTwoWords-order-comes-out also noResources-schedule-comes-out also
+    noResources-order-comes-out also noExtensionParent-order-comes-out also everyKind-order-comes-out also
+    noSelf-order-comes-out also noResource-order-comes-out also wordTwice-order-comes-out also prefixFirst-order-comes-out
+    also fill-order-comes-out also moreBytes-order-comes-out also twoWordsTwice-order-comes-out also keyTwice-order-comes-out
+    also keysDiffer-order-comes-out also wordTwiceInAssociate-order-comes-out also wordTwiceInNest-order-comes-out also
+    equalSets-order-comes-out also emptySets-order-comes-out also unequalSets-order-comes-out also
+    inheritTwice-order-comes-out also inheritsDiffer-order-comes-out also deriveTwice-order-comes-out also
+    aliasTwice-order-comes-out also makelistTwice-order-comes-out also noDeriveTwice-order-comes-out also
+    tagsDiffer-order-comes-out also againstNames-order-comes-out also nextRound-order-comes-out also
+    oneWordFirst-order-comes-out also longestChain-order-comes-out also selfTwice-order-comes-out also
+    selfWaiting-order-comes-out also selfDeclared-order-comes-out also selfReplaced-order-comes-out also
+    selfInTwoWords-order-comes-out also firstBadParent-order-comes-out also repeatedParent-order-comes-out also
+    throughPath-order-comes-out also placedParent-order-comes-out also rows256-schedule-comes-out also rows256-order-comes-out
+    also rows257-schedule-comes-out also rows257-order-comes-out also twoDoms-schedule-comes-out also
+    farDoms-schedule-comes-out also unitedDoms-schedule-comes-out also ownDoms-schedule-comes-out also
+    directParents-schedule-comes-out also ownSorted-schedule-comes-out also virtual-schedule-comes-out also
+    repeatedMarks-schedule-comes-out also otherKinds-schedule-comes-out also extensions-schedule-comes-out also
+    threeWords-schedule-comes-out also ownClass-schedule-comes-out also nestAlone-schedule-comes-out also
+    nestUnknown-schedule-comes-out also nestAndOwn-schedule-comes-out also failedParent-schedule-comes-out also
+    listedAgain-schedule-comes-out also failsThrough-schedule-comes-out also rowUnrefused-schedule-comes-out also
+    unknownEnds-schedule-comes-out also after5-schedule-comes-out also after5Unknown-schedule-comes-out also
+    after6Unknown-schedule-comes-out also not6Where5-schedule-comes-out also firstNoResource-schedule-comes-out also
+    otherVariant-schedule-comes-out also wordLists-schedule-comes-out also dedupOrder-schedule-comes-out also
+    dedupTurned-schedule-comes-out also identicalOwn-schedule-comes-out also identicalAbove-schedule-comes-out also
+    marksDiffer-schedule-comes-out also declaredName-schedule-comes-out also tt

@@ -1,10 +1,12 @@
--- The (p) cases of 'Sheets to try' in one list, and the theorem that they hold. Made by tools/cases: above each sheet stands its readable text, and behind `=>` what the program prints for it.
+-- The (p) cases of 01's 'Sheets to try' in one list, and the theorem that they come out.
+-- Made by tools/cases. Above each sheet stands its readable text, and behind `=>` what the schedule program prints for it, or
+-- the order program where only the order-only call is tried.
 use mathlib.Core.Bool.{false}
 use mathlib.Core.List.{List, [], _∷_}
 use mathlib.Core.Path.{refl}
 use Prim.Native.Nat.{ℕ}
 use Rattle.definitions.specs.Answer.{schedule, order}
-use Rattle.definitions.specs.Cases.{Case, ComesOut, AllComeOut, run, hex, accepts, refuses, diagnoses}
+use Rattle.definitions.specs.Cases.{Case, ComesOut, AllComeOut, _also_, run, hex, accepts, refuses, diagnoses}
 
 -- Words `resource`, `self` alone: 17 bytes, first four 10 24 39 32; schedule 00 00 00.
 --   => nothing
@@ -14,16 +16,16 @@ noTypes = hex 17 0x10243932b9b7bab931b291cd95b1980000
 abbrev noTypes-schedule : Case
 noTypes-schedule = accepts noTypes schedule 5 1536 3 0x000000
 
-noTypes-schedule-holds : ComesOut noTypes-schedule
+noTypes-schedule-comes-out : ComesOut noTypes-schedule
 unfolding run
-noTypes-schedule-holds = refl
+noTypes-schedule-comes-out = refl
 
 abbrev noTypes-order : Case
 noTypes-order = accepts noTypes order 3 1536 1 0x00
 
-noTypes-order-holds : ComesOut noTypes-order
+noTypes-order-comes-out : ComesOut noTypes-order
 unfolding run
-noTypes-order-holds = refl
+noTypes-order-comes-out = refl
 
 -- `a`, `b` inherit each other: rows 2 b a, 2 a b.
 --     domain a : b
@@ -35,16 +37,16 @@ eachOther = hex 28 0x1040b085890e4cae6deeae4c6ca473656c6604000101000100800000
 abbrev eachOther-schedule : Case
 eachOther-schedule = diagnoses eachOther schedule 2 1536 8 2 false (hex 12 0x0201ff00ffff0200ff01ffff)
 
-eachOther-schedule-holds : ComesOut eachOther-schedule
+eachOther-schedule-comes-out : ComesOut eachOther-schedule
 unfolding run
-eachOther-schedule-holds = refl
+eachOther-schedule-comes-out = refl
 
 abbrev eachOther-order : Case
 eachOther-order = diagnoses eachOther order 2 1536 8 2 false (hex 12 0x0201ff00ffff0200ff01ffff)
 
-eachOther-order-holds : ComesOut eachOther-order
+eachOther-order-comes-out : ComesOut eachOther-order
 unfolding run
-eachOther-order-holds = refl
+eachOther-order-comes-out = refl
 
 -- `a` inherits `b`, `zz`; `b` itself: 3 a zz, 2 b b.
 --     domain a : b zz
@@ -56,16 +58,16 @@ undeclaredParent = hex 32 0x1050b085890e4cae6deeae4c6ca473656c6613d3d02000100810
 abbrev undeclaredParent-schedule : Case
 undeclaredParent-schedule = diagnoses undeclaredParent schedule 2 1536 8 2 false (hex 12 0x0300ff04ffff0201ff01ffff)
 
-undeclaredParent-schedule-holds : ComesOut undeclaredParent-schedule
+undeclaredParent-schedule-comes-out : ComesOut undeclaredParent-schedule
 unfolding run
-undeclaredParent-schedule-holds = refl
+undeclaredParent-schedule-comes-out = refl
 
 abbrev undeclaredParent-order : Case
 undeclaredParent-order = diagnoses undeclaredParent order 2 1536 8 2 false (hex 12 0x0300ff04ffff0201ff01ffff)
 
-undeclaredParent-order-holds : ComesOut undeclaredParent-order
+undeclaredParent-order-comes-out : ComesOut undeclaredParent-order
 unfolding run
-undeclaredParent-order-holds = refl
+undeclaredParent-order-comes-out = refl
 
 -- `a` inherits `self`, `zz`, alone: 3 a self.
 --     domain a : self zz
@@ -76,16 +78,16 @@ selfAlone = hex 26 0x1040b0a1c995cdbdd5c98d948e6cad8cc27a7a02000202018000
 abbrev selfAlone-schedule : Case
 selfAlone-schedule = diagnoses selfAlone schedule 2 1536 8 1 false (hex 6 0x0300ff02ffff)
 
-selfAlone-schedule-holds : ComesOut selfAlone-schedule
+selfAlone-schedule-comes-out : ComesOut selfAlone-schedule
 unfolding run
-selfAlone-schedule-holds = refl
+selfAlone-schedule-comes-out = refl
 
 abbrev selfAlone-order : Case
 selfAlone-order = diagnoses selfAlone order 2 1536 8 1 false (hex 6 0x0300ff02ffff)
 
-selfAlone-order-holds : ComesOut selfAlone-order
+selfAlone-order-comes-out : ComesOut selfAlone-order
 unfolding run
-selfAlone-order-holds = refl
+selfAlone-order-comes-out = refl
 
 -- `a` inherits `self`, `zz`, beside a free `c`: 1 a self.
 --     domain a : self zz
@@ -97,16 +99,16 @@ selfBesideFree = hex 31 0x1050b0858d0e4cae6deeae4c6ca473656c6613d3d0200010181000
 abbrev selfBesideFree-schedule : Case
 selfBesideFree-schedule = diagnoses selfBesideFree schedule 2 1536 8 1 false (hex 6 0x0100ff03ffff)
 
-selfBesideFree-schedule-holds : ComesOut selfBesideFree-schedule
+selfBesideFree-schedule-comes-out : ComesOut selfBesideFree-schedule
 unfolding run
-selfBesideFree-schedule-holds = refl
+selfBesideFree-schedule-comes-out = refl
 
 abbrev selfBesideFree-order : Case
 selfBesideFree-order = diagnoses selfBesideFree order 2 1536 8 1 false (hex 6 0x0100ff03ffff)
 
-selfBesideFree-order-holds : ComesOut selfBesideFree-order
+selfBesideFree-order-comes-out : ComesOut selfBesideFree-order
 unfolding run
-selfBesideFree-order-holds = refl
+selfBesideFree-order-comes-out = refl
 
 -- `d` under `b`, `c`, both under `a`, which associates `file`: d.file inherits b.file, c.file, resource.
 --     domain d : b c
@@ -123,16 +125,16 @@ twoWaysUp = hex 54 0x1070b085882c616423334b632a1c995cdbdd5c98d948e6cad8cc180c040
 abbrev twoWaysUp-schedule : Case
 twoWaysUp-schedule = accepts twoWaysUp schedule 54 1536 52 0x0c00050080808030004000081208828020001002040a00044140101008020205000220a008100401810380412020441401030080
 
-twoWaysUp-schedule-holds : ComesOut twoWaysUp-schedule
+twoWaysUp-schedule-comes-out : ComesOut twoWaysUp-schedule
 unfolding run
-twoWaysUp-schedule-holds = refl
+twoWaysUp-schedule-comes-out = refl
 
 abbrev twoWaysUp-order : Case
 twoWaysUp-order = accepts twoWaysUp order 10 1536 8 0x0c00050080808030
 
-twoWaysUp-order-holds : ComesOut twoWaysUp-order
+twoWaysUp-order-comes-out : ComesOut twoWaysUp-order
 unfolding run
-twoWaysUp-order-holds = refl
+twoWaysUp-order-comes-out = refl
 
 -- `a` and its child `b` both associate `file`: two b.file, one line for `b`.
 --     domain a
@@ -147,16 +149,16 @@ parentAndChild = hex 39 0x1050b085888ccd2d8ca87265736f75726365239b2b633030000091
 abbrev parentAndChild-schedule : Case
 parentAndChild-schedule = accepts parentAndChild schedule 35 1536 33 0x06000200800140002090240c010000401010481206000080828000903004040100
 
-parentAndChild-schedule-holds : ComesOut parentAndChild-schedule
+parentAndChild-schedule-comes-out : ComesOut parentAndChild-schedule
 unfolding run
-parentAndChild-schedule-holds = refl
+parentAndChild-schedule-comes-out = refl
 
 abbrev parentAndChild-order : Case
 parentAndChild-order = accepts parentAndChild order 7 1536 5 0x0600020080
 
-parentAndChild-order-holds : ComesOut parentAndChild-order
+parentAndChild-order-comes-out : ComesOut parentAndChild-order
 unfolding run
-parentAndChild-order-holds = refl
+parentAndChild-order-comes-out = refl
 
 -- 64 types pass.
 --     domain a.a
@@ -230,16 +232,16 @@ types64 = hex 286 0x10a0b085882c61640b285982ce16843932b9b7bab931b291cd95b19a0004
 abbrev types64-schedule : Case
 types64-schedule = accepts types64 schedule 141 1536 139 0x80010000808040802060104008280418020e0300018080c0806060304018280c18060e05000280814080a0605040282814180a0e0700038081c080e060704038281c180e0e090004808240812060904048282418120e0b00058082c0816060b04058282c18160e0d000680834081a060d040682834181a0e0f00078083c081e060f04078283c181e0e0000
 
-types64-schedule-holds : ComesOut types64-schedule
+types64-schedule-comes-out : ComesOut types64-schedule
 unfolding run
-types64-schedule-holds = refl
+types64-schedule-comes-out = refl
 
 abbrev types64-order : Case
 types64-order = accepts types64 order 139 1536 137 0x80010000808040802060104008280418020e0300018080c0806060304018280c18060e05000280814080a0605040282814180a0e0700038081c080e060704038281c180e0e090004808240812060904048282418120e0b00058082c0816060b04058282c18160e0d000680834081a060d040682834181a0e0f00078083c081e060f04078283c181e0e
 
-types64-order-holds : ComesOut types64-order
+types64-order-comes-out : ComesOut types64-order
 unfolding run
-types64-order-holds = refl
+types64-order-comes-out = refl
 
 -- 65 types give 4.
 --     domain a.a
@@ -314,16 +316,16 @@ types65 = hex 289 0x10a0b085882c61640b285982ce16843932b9b7bab931b291cd95b19a0804
 abbrev types65-schedule : Case
 types65-schedule = refuses types65 schedule 2 1536 4
 
-types65-schedule-holds : ComesOut types65-schedule
+types65-schedule-comes-out : ComesOut types65-schedule
 unfolding run
-types65-schedule-holds = refl
+types65-schedule-comes-out = refl
 
 abbrev types65-order : Case
 types65-order = refuses types65 order 2 1536 4
 
-types65-order-holds : ComesOut types65-order
+types65-order-comes-out : ComesOut types65-order
 unfolding run
-types65-order-holds = refl
+types65-order-comes-out = refl
 
 -- 8 parents pass.
 --     domain p
@@ -335,16 +337,16 @@ parents8 = hex 35 0x1040b085c10e4cae6deeae4c6ca473656c66040200000008010080402010
 abbrev parents8-schedule : Case
 parents8-schedule = accepts parents8 schedule 8 1536 6 0x040200000000
 
-parents8-schedule-holds : ComesOut parents8-schedule
+parents8-schedule-comes-out : ComesOut parents8-schedule
 unfolding run
-parents8-schedule-holds = refl
+parents8-schedule-comes-out = refl
 
 abbrev parents8-order : Case
 parents8-order = accepts parents8 order 6 1536 4 0x04020000
 
-parents8-order-holds : ComesOut parents8-order
+parents8-order-comes-out : ComesOut parents8-order
 unfolding run
-parents8-order-holds = refl
+parents8-order-comes-out = refl
 
 -- 9 parents give 4.
 --     domain p
@@ -356,16 +358,16 @@ parents9 = hex 36 0x1040b085c10e4cae6deeae4c6ca473656c66040200000009010080402010
 abbrev parents9-schedule : Case
 parents9-schedule = refuses parents9 schedule 2 1536 4
 
-parents9-schedule-holds : ComesOut parents9-schedule
+parents9-schedule-comes-out : ComesOut parents9-schedule
 unfolding run
-parents9-schedule-holds = refl
+parents9-schedule-comes-out = refl
 
 abbrev parents9-order : Case
 parents9-order = refuses parents9 order 2 1536 4
 
-parents9-order-holds : ComesOut parents9-order
+parents9-order-comes-out : ComesOut parents9-order
 unfolding run
-parents9-order-holds = refl
+parents9-order-comes-out = refl
 
 -- Nested p.file in `p`, child `b`: b.file under p.file, none made for `p`.
 --     domain p
@@ -379,16 +381,16 @@ nested = hex 39 0x1050b11199a5b1942e087265736f75726365239b2b6330302000a101810000
 abbrev nested-schedule : Case
 nested-schedule = accepts nested schedule 20 1536 18 0x06040280800000800010a020140c01000020
 
-nested-schedule-holds : ComesOut nested-schedule
+nested-schedule-comes-out : ComesOut nested-schedule
 unfolding run
-nested-schedule-holds = refl
+nested-schedule-comes-out = refl
 
 abbrev nested-order : Case
 nested-order = accepts nested order 8 1536 6 0x060402808000
 
-nested-order-holds : ComesOut nested-order
+nested-order-comes-out : ComesOut nested-order
 unfolding run
-nested-order-holds = refl
+nested-order-comes-out = refl
 
 -- The worked example of the schedule program.
 --     domain base
@@ -403,19 +405,32 @@ worked = hex 38 0x10423130b9b29199a5b1950e4cae6deeae4c6ca473656c6606000012202002
 abbrev worked-schedule : Case
 worked-schedule = accepts worked schedule 18 1536 16 0x06000200800080001090140802800010
 
-worked-schedule-holds : ComesOut worked-schedule
+worked-schedule-comes-out : ComesOut worked-schedule
 unfolding run
-worked-schedule-holds = refl
+worked-schedule-comes-out = refl
 
 abbrev worked-order : Case
 worked-order = accepts worked order 7 1536 5 0x0600020080
 
-worked-order-holds : ComesOut worked-order
+worked-order-comes-out : ComesOut worked-order
 unfolding run
-worked-order-holds = refl
+worked-order-comes-out = refl
 
 abbrev pub cases : List Case
-cases = noTypes-schedule ∷ noTypes-order ∷ eachOther-schedule ∷ eachOther-order ∷ undeclaredParent-schedule ∷ undeclaredParent-order ∷ selfAlone-schedule ∷ selfAlone-order ∷ selfBesideFree-schedule ∷ selfBesideFree-order ∷ twoWaysUp-schedule ∷ twoWaysUp-order ∷ parentAndChild-schedule ∷ parentAndChild-order ∷ types64-schedule ∷ types64-order ∷ types65-schedule ∷ types65-order ∷ parents8-schedule ∷ parents8-order ∷ parents9-schedule ∷ parents9-order ∷ nested-schedule ∷ nested-order ∷ worked-schedule ∷ worked-order ∷ []
+cases =
+    noTypes-schedule ∷ noTypes-order ∷ eachOther-schedule ∷ eachOther-order ∷ undeclaredParent-schedule ∷
+    undeclaredParent-order ∷ selfAlone-schedule ∷ selfAlone-order ∷ selfBesideFree-schedule ∷ selfBesideFree-order ∷
+    twoWaysUp-schedule ∷ twoWaysUp-order ∷ parentAndChild-schedule ∷ parentAndChild-order ∷ types64-schedule ∷ types64-order ∷
+    types65-schedule ∷ types65-order ∷ parents8-schedule ∷ parents8-order ∷ parents9-schedule ∷ parents9-order ∷
+    nested-schedule ∷ nested-order ∷ worked-schedule ∷ worked-order ∷ []
 
 pub hold : AllComeOut cases
-hold = (noTypes-schedule-holds, (noTypes-order-holds, (eachOther-schedule-holds, (eachOther-order-holds, (undeclaredParent-schedule-holds, (undeclaredParent-order-holds, (selfAlone-schedule-holds, (selfAlone-order-holds, (selfBesideFree-schedule-holds, (selfBesideFree-order-holds, (twoWaysUp-schedule-holds, (twoWaysUp-order-holds, (parentAndChild-schedule-holds, (parentAndChild-order-holds, (types64-schedule-holds, (types64-order-holds, (types65-schedule-holds, (types65-order-holds, (parents8-schedule-holds, (parents8-order-holds, (parents9-schedule-holds, (parents9-order-holds, (nested-schedule-holds, (nested-order-holds, (worked-schedule-holds, (worked-order-holds, tt))))))))))))))))))))))))))
+hold =
+    noTypes-schedule-comes-out also noTypes-order-comes-out also eachOther-schedule-comes-out also eachOther-order-comes-out
+    also undeclaredParent-schedule-comes-out also undeclaredParent-order-comes-out also selfAlone-schedule-comes-out also
+    selfAlone-order-comes-out also selfBesideFree-schedule-comes-out also selfBesideFree-order-comes-out also
+    twoWaysUp-schedule-comes-out also twoWaysUp-order-comes-out also parentAndChild-schedule-comes-out also
+    parentAndChild-order-comes-out also types64-schedule-comes-out also types64-order-comes-out also
+    types65-schedule-comes-out also types65-order-comes-out also parents8-schedule-comes-out also parents8-order-comes-out
+    also parents9-schedule-comes-out also parents9-order-comes-out also nested-schedule-comes-out also nested-order-comes-out
+    also worked-schedule-comes-out also worked-order-comes-out also tt

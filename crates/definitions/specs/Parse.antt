@@ -1,70 +1,80 @@
--- Parsers of bits: from the bits that are left, a value and the bits behind it, or the number of a refusal.
+-- Parsers of bits: from the bits that are left, a value and the bits behind it, or the number of a refusal (FORMAT 2.1).
 use mathlib.Core.Bool.{Bool, true, false, _&&_}
 use mathlib.Core.List.{List, [], _∷_, _++_}
 use Prim.Native.Nat.{ℕ, zero, suc, _+_, _*_}
 use lib.Dec.{eqb, leb}
 use Rattle.definitions.specs.Bits.{bit}
 
+-- What a parser gives: a value with the bits behind it, or a refusal's number.
 pub data Parsed (A : Type 0) : Type 0 where
   done : A → List Bool → Parsed A
   refused : ℕ → Parsed A
 
+-- A parser takes the bits that are left.
 abbrev pub Parser : Type 0 → Type 0
 Parser A = List Bool → Parsed A
 
+-- A refusal ends the reading; a value is handed on with the bits behind it.
 abbrev pub next : {A B : Type 0} → Parsed A → (A → Parser B) → Parsed B
 next (done a rest) k = k a rest
 next (refused r) k = refused r
 
+-- One parser after the other, which is what the lines of `do` stand for.
 infixl 20 _>>=_
 abbrev pub _>>=_ : {A B : Type 0} → Parser A → (A → Parser B) → Parser B
 _>>=_ m k bs = next (m bs) k
 
+-- A value, no bits read.
 abbrev pub pure : {A : Type 0} → A → Parser A
 pure a bs = done a bs
 
+-- A refusal, whatever the bits are.
 abbrev pub refuse : {A : Type 0} → ℕ → Parser A
 refuse r bs = refused r
 
+-- One of two parsers, by a test.
 abbrev pub choose : {A : Type 0} → Bool → Parser A → Parser A → Parser A
 choose true x y = x
 choose false x y = y
 
--- Refusal 3: 'a field passes the end'. A field is n bits, most significant first; v is what stands before them.
+-- n bits, most significant first, behind the value v of the bits before them. Refusal 3 where they pass the end (FORMAT 2.1).
 unfoldable pub fieldOnto : ℕ → ℕ → Parser ℕ
 fieldOnto v zero bs = done v bs
 fieldOnto v (suc n) [] = refused 3
 fieldOnto v (suc n) (b ∷ bs) = fieldOnto (2 * v + bit b) n bs
 
+-- A field of n bits.
 abbrev pub field : ℕ → Parser ℕ
 field n = fieldOnto 0 n
 
--- Refusal 4: 'a value not allowed above'. A field of n bits of which `ok` holds.
+-- A field of n bits of which `ok` holds, else refusal 4 (FORMAT 2.1).
 unfoldable pub allowed : ℕ → (ℕ → Bool) → Parser ℕ
 allowed n ok = do
   v ← field n
   choose (ok v) (pure v) (refuse 4)
 
--- a field of n bits from `least` to `most`
+-- A field of n bits from `least` to `most`.
 abbrev pub between : ℕ → ℕ → ℕ → Parser ℕ
 between n least most = allowed n (λ v. leb least v && leb v most)
 
+-- A field of one bit.
 abbrev pub flag : Parser Bool
 flag = do
   v ← field 1
   pure (eqb v 1)
 
--- m, n times; its values go behind those in xs
+-- m, n times; its values go behind those in xs.
 unfoldable pub repeatOnto : {A : Type 0} → List A → Parser A → ℕ → Parser (List A)
 repeatOnto xs m zero = pure xs
 repeatOnto xs m (suc n) = do
   x ← m
   repeatOnto (xs ++ (x ∷ [])) m n
 
+-- m, n times.
 abbrev pub repeat : {A : Type 0} → Parser A → ℕ → Parser (List A)
 repeat m n = repeatOnto [] m n
 
--- 'each its count and directly after it its entries': a count of n bits from `least` to `most`, then the entries
+-- A count of n bits from `least` to `most`, and directly behind it so many entries (FORMAT 2.3).
 unfoldable pub counted : {A : Type 0} → ℕ → ℕ → ℕ → Parser A → Parser (List A)
 counted n least most m = do
   k ← between n least most

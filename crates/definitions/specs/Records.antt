@@ -1,27 +1,27 @@
--- The records of a sheet, of a schedule and of a diagnosis, as document 01 lists their fields.
+-- The records of a sheet, of a schedule and of a diagnosis.
 use mathlib.Core.Bool.{Bool}
 use mathlib.Core.List.{List}
 use Prim.Native.Nat.{ℕ}
 
--- 'A name is a word, a flag 1, and a second word if the flag is 1, written `a.b`': the numbers of its words. A parent in the schedule has 'its words', 1 to 3.
+-- A name is the list of its word numbers: one or two in a sheet, up to three in a parent of a schedule (FORMAT 1.3).
 abbrev pub Name : Type 0
 Name = List ℕ
 
--- the dom of a resource: no word, or one
+-- The dom of a resource: no word, or one (FORMAT 2.8).
 abbrev pub Dom : Type 0
 Dom = List ℕ
 
--- a resource of an associate, as read: 'each a word, dom flag 1, dom word if 1'
+-- A resource of an associate, as read: its word and its dom (FORMAT 2.8).
 pub record Resource : Type 0 where
   pub word : ℕ
   pub dom : Dom
 
--- a resource as the synthesis has it: 'match resources by word and union their dom sets'. Doms ascend, each once.
+-- A resource in the synthesis, where equal words are joined: the doms ascend, each once (FORMAT 8.8).
 pub record AssociatedResource : Type 0 where
   pub word : ℕ
   pub doms : List Dom
 
--- 'Seven kinds, in this order: MakeList, Associate, NestAssociate, Alias, Inherit, Derive, NoDerive.' R is the form of a resource.
+-- The seven kinds of annotations, in their order; R is the form of a resource (FORMAT 2.7).
 pub data AnnotationOf (R : Type 0) : Type 0 where
   makeList : AnnotationOf R
   associate : List R → AnnotationOf R
@@ -31,23 +31,24 @@ pub data AnnotationOf (R : Type 0) : Type 0 where
   derive : ℕ → AnnotationOf R
   noDerive : AnnotationOf R
 
--- as read; and as the synthesis has it, its resources ascending by word
+-- An annotation as read.
 abbrev pub Annotation : Type 0
 Annotation = AnnotationOf Resource
 
+-- An annotation in the synthesis, its resources ascending by word; `AnnotationInfo` of the Rust.
 abbrev pub AnnotationInfo : Type 0
 AnnotationInfo = AnnotationOf AssociatedResource
 
--- 'variant 2 (0 domain, 1 resource, 2 other)'
+-- The three variants of a type (FORMAT 2.6).
 pub data Variant : Type 0 where
   domain resource other : Variant
 
--- 'A mark: 0 makelist, or 1 and a tag 8 for derive.'
+-- A mark: makelist, or derive with its tag (FORMAT 2.9).
 pub data Mark : Type 0 where
   makelistMark : Mark
   deriveMark : ℕ → Mark
 
--- 'A type: name; variant 2; virtual 1; trait 1; parents, names; annotations; marks.'
+-- A type record, its parents as listed (FORMAT 2.6); `TypeInfo` of the Rust.
 pub record TypeInfo : Type 0 where
   pub name : Name
   pub variant : Variant
@@ -57,30 +58,29 @@ pub record TypeInfo : Type 0 where
   pub annotations : List Annotation
   pub marks : List Mark
 
--- 'An extension: type name, resource word, parents 4 (1 to 8), names.'
+-- An extension record: parents to be added to the resource of a type and a word (FORMAT 2.10).
 pub record Extension : Type 0 where
   pub name : Name
   pub word : ℕ
   pub parents : List Name
 
--- 'three lists: words; types; extensions'. A word is its bytes.
+-- A sheet: its three lists (FORMAT 2.2). A word is its bytes.
 pub record Sheet : Type 0 where
   pub words : List (List ℕ)
   pub types : List TypeInfo
   pub extensions : List Extension
 
--- 'Bit 0, a synthesized resource: type name, resource word, virtual 1, parents 5, marks 9. Bit 1, an extension line: type name, virtual 1, trait 1, resource
--- word.' 'A line is an item with all its fields.'
+-- An item of a schedule: a synthesized resource (FORMAT 6.2), or an extension line (FORMAT 6.3).
 pub data Item : Type 0 where
   synthesized : (type : Name) (word : ℕ) (virtual : Bool) (parents : List Name) (marks : List Mark) → Item
   extension : (type : Name) (virtual trait : Bool) (word : ℕ) → Item
 
--- 'N in 7, names in order; item count 16; items in any order': what a schedule holds. The order-only call's has no items.
+-- What a schedule holds: the types' names in order, and the items (FORMAT 6.1). The order-only call's has no items.
 pub record Schedule : Type 0 where
   pub order : List Name
   pub items : List Item
 
--- 'A row is six bytes: kind, subject name, other name, resource word; 255 for an absent word.' An absent name or word is the empty list.
+-- A row of a diagnosis (FORMAT 8.1). An absent name or word is the empty list.
 pub record Row : Type 0 where
   pub kind : ℕ
   pub subject : Name

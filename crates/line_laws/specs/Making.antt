@@ -138,9 +138,9 @@ module _ (s : Sheet) (ok : Readable s) where
       let each : Name → Bool = λ c. all (λ (X : LineType). X .virtual) (declared (lineMap s) c) in (
         λ e. record {
           type = and-left (T .virtual) (all each cs) e;
-          classes = λ c D i j n. virtual-one D j n (all-in each (and-right (T .virtual) (all each cs) e) i);
+          every = λ c D i j n. virtual-one D j n (all-in each (and-right (T .virtual) (all each cs) e) i);
         },
-        λ h. and-both (h .type) (all-of each cs (λ c i. virtual-each c (λ D j n. h .classes c D i j n))),
+        λ h. and-both (h .type) (all-of each cs (λ c i. virtual-each c (λ D j n. h .every c D i j n))),
       )
 
   -- ---- a resource T.r
