@@ -15,6 +15,7 @@ pub mod Items
 pub mod Packing
 pub mod Answer
 pub mod Legal
+pub mod LegalSchedule
 pub mod Encoding
 pub mod Ancestry
 pub mod Lines

@@ -73,7 +73,7 @@ placed-short m (suc k) =
     let g = filter (λ T. not (ready m a T)) w in
     omega (arith, length-append a f, length-append f g, perm-length (filter-perm (ready m a) w))
 
-order-short : (m : TypeMap) → length (organizeTypeMap m) ≤ length (m .types)
+pub order-short : (m : TypeMap) → length (organizeTypeMap m) ≤ length (m .types)
 unfolding organizeTypeMap lastPass
 order-short m =
     let k = length (m .types) in

@@ -75,7 +75,7 @@ legal-passes-seven i s h e d =
     )
 
 -- what is not refused with 3 or 4 is read
-read-done : (bits : List Bool) (r : Parsed Sheet) → sheet bits ≡ r → refusedBy 3 r ≡ false → refusedBy 4 r ≡ false → r ≡ done (sheetOf r) (restOf r)
+pub read-done : (bits : List Bool) (r : Parsed Sheet) → sheet bits ≡ r → refusedBy 3 r ≡ false → refusedBy 4 r ≡ false → r ≡ done (sheetOf r) (restOf r)
 read-done bits (done s rest) e p q = refl
 read-done bits (refused n) e p q =
     absurd (⊎-elim (λ h. never (eq-eqb 3 n (sym h)) p) (λ h. never (eq-eqb 4 n (sym h)) q) (refused-with-3-or-4 bits n e))

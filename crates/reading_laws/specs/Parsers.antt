@@ -252,6 +252,14 @@ abbrev behind : {A : Type 0} → Parsed A → List Bool
 behind (done a rest) = rest
 behind (refused r) = []
 
+-- the values of two answers that are equal
+pub done-value : {A : Type 0} (a b : A) (p q : List Bool) → done a p ≡ done b q → a ≡ b
+done-value {A} a b p q e = ap value e
+  where
+    value : Parsed A → A
+    value (done x rest) = x
+    value (refused r) = a
+
 module _ {A : Type 0} {m : Parser A} {enc : A → List Bool} {P : A → Type 0} (c : Codes m enc P) where
   pub done-only : (bs : List Bool) (a : A) (rest : List Bool) → m bs ≡ done a rest → (bs ≡ enc a ++ rest) × P a
   done-only bs a rest e =
@@ -262,6 +270,12 @@ module _ {A : Type 0} {m : Parser A} {enc : A → List Bool} {P : A → Type 0} 
   refused-only bs r e =
       let t : Told m (Exact enc P) bs (refused r) = rw e at (c .only bs) in
       ⊎-elim inl (λ p. inr (p .0)) t
+
+  -- two values whose bits begin the same list are one value, and what follows them is the same
+  pub one-value : (a b : A) (rest more : List Bool) → P a → P b → enc a ++ rest ≡ enc b ++ more → (a ≡ b) × (rest ≡ more)
+  one-value a b rest more p q e =
+      let d : done a rest ≡ done b more = sym (c .back a p rest) ∙ ap m e ∙ c .back b q more in
+      (done-value a b rest more d, ap behind d)
 
   -- what is behind the bits read changes no value, and nothing a refusal with 4
   pub done-stays : (bs : List Bool) (a : A) (rest more : List Bool) → m bs ≡ done a rest → m (bs ++ more) ≡ done a (rest ++ more)

@@ -11,7 +11,7 @@ use Rattle.lists.specs.Tests.{or-left}
 use Rattle.definitions.specs.Records.{Sheet}
 use Rattle.definitions.specs.Checks.{badFill}
 use Rattle.definitions.specs.Bits.{bitsOf, pack}
-use Rattle.definitions.specs.Parse.{Parsed, done, refused}
+use Rattle.definitions.specs.Parse.{done, refused}
 use Rattle.definitions.specs.Reading.{sheet}
 use Rattle.definitions.specs.Legal.{Every, Legal}
 use Rattle.definitions.specs.Encoding.{sheetBits, encode}
@@ -19,7 +19,7 @@ use Rattle.definitions.specs.Relisted.{Holds}
 use Rattle.reading_laws.specs.Statements.{NothingLegalIsRefused, NothingIllegalIsRead, HeldExactly, OneMap, ReadExactly, RefusedWith3Or4, FourStays}
 use Rattle.bits.specs.NumberLaws.{length-bitsOf, bitsOf-pack}
 use Rattle.reading_laws.specs.Packed.{bitsOf-append, length-pack, pack-bytes, fill, packed-only}
-use Rattle.reading_laws.specs.Parsers.{done-only, refused-only, done-stays, refused-stays, cut-short}
+use Rattle.reading_laws.specs.Parsers.{done-value, done-only, refused-only, done-stays, refused-stays, cut-short}
 use Rattle.reading_laws.specs.Constructs.{sheet-codes}
 use Rattle.reading_laws.specs.Sizes.{sheet-size}
 use Rattle.reading_laws.specs.Rules.{none-set, fill-exactly, words-exactly, twice-exactly}
@@ -70,14 +70,6 @@ held-exactly bytes s b = (
   λ h. nothing-illegal-is-read bytes s (h .rest) b (h .read) (h .fill) (h .words) (h .once),
   λ h. subst (λ l. Holds l s) (sym (h .1)) (nothing-legal-is-refused s (h .0) .0),
 )
-
--- the values of two answers that are equal
-done-value : {A : Type 0} (a b : A) (p q : List Bool) → done a p ≡ done b q → a ≡ b
-done-value {A} a b p q e = ap value e
-  where
-    value : Parsed A → A
-    value (done x rest) = x
-    value (refused r) = a
 
 pub one-map : OneMap
 one-map s t h k e =

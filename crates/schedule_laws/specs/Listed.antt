@@ -1,0 +1,142 @@
+-- From the bytes of an accepted sheet to what its listing holds.
+use mathlib.Core.Bool.{true}
+use mathlib.Core.List.{List, []}
+use mathlib.Core.Path.{_≡_, refl, sym, ap, _∙_, subst}
+use Prim.Native.Nat.{ℕ}
+use borrow.Author.Tests.{ltb-false, not-false}
+use lib.ListN.{length, take, drop}
+use lib.Seq
+use Rattle.lists.specs.Lists.{null}
+use Rattle.lists.specs.Tests.{null-nil}
+use Rattle.definitions.specs.Bits.{bitsOf, pack}
+use Rattle.definitions.specs.Records.{Name, Sheet, Schedule}
+use Rattle.definitions.specs.Map.{typeMapOf}
+use Rattle.definitions.specs.Order.{hasOrder, lastPass, organizeTypeMap}
+use Rattle.definitions.specs.Packing.{orderBits, scheduleBits}
+use Rattle.definitions.specs.LegalSchedule.{LegalOrder, LegalSchedule}
+use Rattle.definitions.specs.Relisted.{Holds}
+use Rattle.definitions.specs.Answer.{Call, schedule, order, Input, Outcome, restOf, sheetOf, scheduleOf, bitsWritten, synthesisRows, refusals, accept, firstRefusal, typeMapIn, outcome}
+use Rattle.laws.specs.Statements.{WellNamed}
+use Rattle.laws.specs.Comparisons.{names-once}
+use Rattle.laws.specs.Order.{order-exists, order-is-by-round}
+use Rattle.line_laws.specs.Within.{Within}
+use Rattle.line_laws.specs.Reading.{read-is-within}
+use Rattle.line_laws.specs.Refused.{accepted-is-tested}
+use Rattle.line_laws.specs.Lines.{items-are-lines}
+use Rattle.line_laws.specs.Once.{items-once}
+use Rattle.synthesis_laws.specs.Statements.{Ordered, MakesLines}
+use Rattle.synthesis_laws.specs.Rows.{rows-are-tested}
+use Rattle.reading_laws.specs.Statements.{NoneHolds, readOf}
+use Rattle.reading_laws.specs.Refusals.{all-pass}
+use Rattle.reading_laws.specs.Answers.{accepted-exactly, read-done}
+use Rattle.schedule_laws.specs.Statements.{bytesWritten, BytesOf, OrderBytesOf, NamesInOrder, ListedExactly, OrderListedExactly, BytesHoldLines}
+use Rattle.schedule_laws.specs.OneToOne.{bytes-determine, order-bytes-determine}
+use Rattle.schedule_laws.specs.Written.{written-is-legal, written-order-is-legal}
+
+-- ---- a sheet that is readable and has an order
+
+module _ (s : Sheet) (o : Ordered s) where
+  names-in-order : NamesInOrder s (organizeTypeMap (typeMapOf s))
+  unfolding organizeTypeMap
+  names-in-order =
+      let w : WellNamed s = record { words = o .readable .words; names = names-once s (o .readable .once) } in
+      record { types = lastPass (typeMapOf s) .placed; ordered = order-is-by-round s w (order-exists s w .0 (o .order)); named = refl }
+
+  -- no row: no type is refused, and each line stands once among the items
+  items-listed : null (synthesisRows schedule (typeMapOf s)) ≡ true → MakesLines s (scheduleOf schedule (typeMapOf s) .items)
+  unfolding scheduleOf
+  items-listed e =
+      let a = accepted-is-tested s (o .readable) .0 (rows-are-tested s o .0 (null-nil (synthesisRows schedule (typeMapOf s)) e)) in
+      record { lines = items-are-lines s (o .readable) a; once = items-once s (o .readable) a }
+
+-- ---- the bytes
+
+bytes-of : (W : ℕ) (c : Schedule) (bytes : List ℕ) → LegalSchedule W c → bytes ≡ pack (scheduleBits c) → BytesOf W c bytes
+bytes-of W c bytes h e = record { legal = h; packed = e; only = λ W′ t k f. bytes-determine W′ W t c k h (sym f ∙ e) }
+
+order-bytes-of : (W : ℕ) (ns : List Name) (bytes : List ℕ) → LegalOrder W ns → bytes ≡ pack (orderBits ns) → OrderBytesOf W ns bytes
+order-bytes-of W ns bytes h e = record { legal = h; packed = e; only = λ W′ ms k f. order-bytes-determine W′ W ms ns k h (sym f ∙ e) }
+
+-- ---- an input that is accepted
+
+module _ (i : Input) (e : outcome i .answer .number ≡ 0) where
+  none : NoneHolds (refusals i)
+  none = accepted-exactly i .0 e
+
+  abbrev s : Sheet
+  s = sheetOf (readOf i)
+
+  holds : Holds (i .sheet) s
+  unfolding refusals
+  holds = record {
+    rest = restOf (readOf i);
+    short = ltb-false 40960 (length (i .sheet)) (none .0);
+    read = read-done (bitsOf (i .sheet)) (readOf i) refl (none .1 .1 .0) (none .1 .1 .1 .0);
+    fill = none .1 .1 .1 .1 .0;
+    words = none .1 .1 .1 .1 .1 .0;
+    once = none .1 .1 .1 .1 .1 .1 .0;
+  }
+
+  within : Within s
+  within = read-is-within (bitsOf (i .sheet)) (holds .rest) s (holds .read)
+
+  ordered : Ordered s
+  unfolding refusals
+  ordered = record {
+    readable = record { words = holds .words; once = holds .once };
+    order = not-false (hasOrder (typeMapOf s)) (none .1 .1 .1 .1 .1 .1 .1 .0);
+  }
+
+  no-rows : null (synthesisRows (i .call) (typeMapOf s)) ≡ true
+  unfolding refusals
+  no-rows = not-false (null (synthesisRows (i .call) (typeMapOf s))) (none .1 .1 .1 .1 .1 .1 .1 .1 .0)
+
+  accepts : outcome i ≡ accept i
+  unfolding outcome refusals firstRefusal
+  accepts = all-pass i (refusals i) [] none
+
+  was-written : (c : Call) → i .call ≡ c → bytesWritten i ≡ pack (bitsWritten c (scheduleOf c (typeMapOf s)))
+  unfolding accept typeMapIn
+  was-written c q =
+      let bytes = pack (bitsWritten (i .call) (scheduleOf (i .call) (typeMapOf s))) in
+      ap (λ (o : Outcome). take (o .answer .size) (o .listing)) accepts
+      ∙ Seq.take-at bytes (drop (length bytes) (i .listing)) (length bytes) refl
+      ∙ ap (λ c. pack (bitsWritten c (scheduleOf c (typeMapOf s)))) q
+
+-- ---- the calls
+
+pub listed-exactly : ListedExactly
+unfolding scheduleOf
+listed-exactly i q e =
+    let s′ = s i e in
+    let o = ordered i e in
+    let m = typeMapOf s′ in
+    record {
+      s = s′;
+      holds = holds i e;
+      bytes = bytes-of (length (s′ .words)) (scheduleOf schedule m) (bytesWritten i) (written-is-legal s′ (o .readable) (within i e)) (was-written i e schedule q);
+      names = names-in-order s′ o;
+      lines = items-listed s′ o (subst (λ c. null (synthesisRows c m) ≡ true) q (no-rows i e));
+    }
+
+pub order-listed-exactly : OrderListedExactly
+unfolding scheduleOf
+order-listed-exactly i q e =
+    let s′ = s i e in
+    let o = ordered i e in
+    record {
+      s = s′;
+      holds = holds i e;
+      bytes = order-bytes-of (length (s′ .words)) (organizeTypeMap (typeMapOf s′)) (bytesWritten i) (written-order-is-legal s′ (within i e)) (was-written i e order q);
+      names = names-in-order s′ o;
+    }
+
+pub bytes-hold-lines : BytesHoldLines
+bytes-hold-lines i q e =
+    let l = listed-exactly i q e in
+    record {
+      s = l .s;
+      holds = l .holds;
+      names = λ W t h f. subst (λ (c : Schedule). NamesInOrder (l .s) (c .order)) (sym (l .bytes .only W t h f)) (l .names);
+      lines = λ W t h f. subst (λ (c : Schedule). MakesLines (l .s) (c .items)) (sym (l .bytes .only W t h f)) (l .lines);
+    }
