@@ -38,8 +38,8 @@ fn with_type(types: u64, a: usize, counts: bool) -> u64
     types
 }
 
-// What the types of a row have at a slot of the table, united: slot 0 for the words that they give, slot r + 1 for the doms that they give the word r.
-// 'every dom that any proper ancestor gives r'
+// What the types of a row have at a slot of the table, united: slot 0 for the words that they give, slot r + 1 for the doms
+// that they give the word r. Over a type's proper ancestors these are its inherited words and their doms (FORMAT 4.4).
 pub fn united(table: &[u64], slot: usize, types: u64, count: usize) -> Row
     requires { ⌜ (slot < 201) × (count ≤ 64) × (804 * count ≤ length (now table)) × (length (now table) < 1000000) ⌝ }
     ensures { λ r. ⌜ United (now (table .entry)) slot types count r ⌝ }
@@ -54,8 +54,8 @@ pub fn united(table: &[u64], slot: usize, types: u64, count: usize) -> Row
     out
 }
 
-// The words that type t passes on: those that it gives, and those that a type of the row gives.
-// 'each direct parent P that associates r, or has an ancestor that does'
+// The words that type t passes on: those that it gives, and those that a type of the row, its proper ancestors, gives
+// (FORMAT 4.4).
 pub fn words_passed(table: &[u64], t: usize, types: u64, count: usize) -> Row
     requires { ⌜ (t < count) × (count ≤ 64) × (804 * count ≤ length (now table)) × (length (now table) < 1000000) ⌝ }
     ensures { λ r. ⌜ Passed (now (table .entry)) t types count r ⌝ }
@@ -82,8 +82,8 @@ pub fn direct_parents<'a>(counts: &'a [u8; 64], places: &'a [u8; 512], t: usize)
     out
 }
 
-// The direct parents of a type that pass on the word r. `passed` has four numbers to a type, the row of the words that it passes on.
-// 'Its first parents are P.r for each direct parent P that associates r, or has an ancestor that does, ascending by P, each once.'
+// The direct parents of a type that pass on the word r: they give an inherited resource its first parents (FORMAT 4.4).
+// `passed` has four numbers to a type, the row of the words that it passes on.
 pub fn parents_passing(parents: u64, passed: &[u64], count: usize, r: usize) -> u64
     requires { ⌜ TypesBelow parents count ⌝ }
     requires { ⌜ (count ≤ 64) × (r < 256) × (4 * count ≤ length (now passed)) × (length (now passed) < 1000000) ⌝ }

@@ -37,7 +37,8 @@ fn refused_early(size: usize, room: usize) -> usize
     if room < 1536 { 2 } else { 0 }
 }
 
-// Tests 1 to 7, for a diagnosis slice of `room` bytes. 'Tests go 1, 2, then 3 and 4 by the first field read, then 7, 5, 6'.
+// Tests 1 to 7, for a diagnosis slice of `room` bytes: 1 and 2 before the sheet is read, the others as the decoder finds them
+// (FORMAT 7.3).
 fn test(sheet: &[u8], room: usize) -> Decoded
     ensures { λ r. ⌜ Tests (now (sheet .entry)) room r ⌝ }
 {
@@ -48,7 +49,7 @@ fn test(sheet: &[u8], room: usize) -> Decoded
     decoding::decode(sheet)
 }
 
-// 8: 'no order'.
+// 8: the map has no order; its rows are written (FORMAT 8.3 to 8.5).
 fn no_order(p: Parents, diagnosis: &mut [u8]) -> Answer
     requires { ⌜ Valid p ⌝ }
     requires { ⌜ 1536 ≤ length (now diagnosis) ⌝ }

@@ -1,5 +1,5 @@
-// The proper ancestors of every type, as places in name order, computed once a type.
-// 'A proper ancestor of T is a parent of T or a proper ancestor of one.'
+// The proper ancestors of every type, as places in name order, computed once a type: its parents, and what is above them
+// (FORMAT 3.1).
 use ordering::Order;
 use ordering::Parents;
 ghost use mathlib.Core.Path.{_≡_};

@@ -10,9 +10,9 @@ ghost use Rattle.definitions.specs.Comparisons.{domBefore};
 ghost use Rattle.definitions.specs.Annotations.{overlaps, nothing, sameAlias, hasAssociatedWord, domsIn, shared, less, intersection, difference};
 ghost use Rattle.annotations.specs.Reading.{Held, domsOf, resourcesIn, infoOf, asOverlap, partOf, With};
 
-// 'Annotations holding vectors become a kind beside flat arrays': the kind's number, the word of an Alias or the tag of a Derive, and the resources of an
-// associate, words ascending, each with its dom set as a row of bits: 0 is none, d + 1 the word d. The names of an Inherit stand there as well, `a.b` as the
-// word b with the dom a.
+// An annotation by value (01: 'a kind beside flat arrays'): the kind's number, the word of an Alias or the tag of a Derive,
+// and the resources of an associate, words ascending, each with its dom set as a row of bits: 0 is none, d + 1 the word d.
+// The names of an Inherit stand there as well, `a.b` as the word b with the dom a.
 pub struct AnnotationInfo {
     pub kind: u8,
     pub tag: u8,
@@ -34,7 +34,7 @@ pub enum Overlap {
     ByWord,
 }
 
-// 'The decision over kind pairs is a match': kinds are numbered 'in this order: MakeList, Associate, NestAssociate, Alias, Inherit, Derive, NoDerive'.
+// By the two kinds alone (01: 'kind pairs is a match'), which have the numbers that a sheet gives them (FORMAT 2.7).
 pub fn overlap_of(k: u8, j: u8) -> Overlap
     requires { ⌜ (k < 7) × (j < 7) ⌝ }
     ensures { λ r. ⌜ asOverlap r ≡ getD (getD overlaps k []) j nothing ⌝ }
@@ -144,7 +144,7 @@ pub fn has_word(y: AnnotationInfo, w: u8) -> bool
     false
 }
 
-// 'union their dom sets': d, and the doms that y gives the word.
+// The doms d, and those that y gives the word (FORMAT 8.8).
 pub fn united(d: Row, y: AnnotationInfo, w: u8) -> Row
     requires { ⌜ Held y ⌝ }
     ensures { λ r. ⌜ domsOf r ≡ setOf domBefore (domsOf d ++ domsIn (resourcesIn y) w) ⌝ }
@@ -164,7 +164,8 @@ pub fn united(d: Row, y: AnnotationInfo, w: u8) -> Row
     out
 }
 
-// 'match resources by word and union their dom sets'. A resource is stored at k, and k moves on if the word is shared.
+// The resources of x whose words y has as well, with the doms of both (FORMAT 8.8). A resource is stored at k, and k moves on
+// if the word is shared.
 pub fn shared_resources(x: AnnotationInfo, y: AnnotationInfo) -> AnnotationInfo
     requires { ⌜ Held x × Held y ⌝ }
     ensures { λ r. ⌜ With x (shared (resourcesIn x) (resourcesIn y)) r ⌝ }
@@ -196,7 +197,7 @@ pub fn shared_resources(x: AnnotationInfo, y: AnnotationInfo) -> AnnotationInfo
     }
 }
 
-// 'drops the words the right has'.
+// The resources of x whose words y has not (FORMAT 8.8). A resource is stored at k, and k moves on if it stays.
 pub fn less_resources(x: AnnotationInfo, y: AnnotationInfo) -> AnnotationInfo
     requires { ⌜ Held x × Held y ⌝ }
     ensures { λ r. ⌜ With x (less (resourcesIn x) (resourcesIn y)) r ⌝ }
@@ -227,7 +228,7 @@ pub fn less_resources(x: AnnotationInfo, y: AnnotationInfo) -> AnnotationInfo
     }
 }
 
-// 'none if empty'
+// An associate without resources is none (FORMAT 8.8).
 fn unless_empty(x: AnnotationInfo) -> Part
     ensures { λ r. ⌜ r ≡ record { some = ltb 0 (x .count); annotation = x } ⌝ }
 {
@@ -237,8 +238,8 @@ fn unless_empty(x: AnnotationInfo) -> Part
     }
 }
 
-// 'equal MakeList, NoDerive or Alias give themselves; two Associate, or two NestAssociate, match resources by word and union their dom sets; two Derive, two
-// Inherit, unlike kinds or an empty result give none'
+// What two annotations share (FORMAT 8.8): x itself, if x and y are equal and of a kind that is shared whole; the shared
+// resources of two associates of one kind; otherwise none.
 pub fn intersection(x: AnnotationInfo, y: AnnotationInfo) -> Part
     requires { ⌜ Held x × Held y ⌝ }
     ensures { λ r. ⌜ partOf r ≡ intersection (infoOf x) (infoOf y) ⌝ }
@@ -257,8 +258,8 @@ pub fn intersection(x: AnnotationInfo, y: AnnotationInfo) -> Part
     }
 }
 
-// 'equal MakeList, NoDerive or Alias give none; Associate from Associate (Nest from Nest) drops the words the right has, none if empty; everything else keeps
-// the left, Derive less an equal Derive included'
+// What x has and y has not (FORMAT 8.8): none of an equal annotation of a kind that is shared whole; the other resources of
+// an associate less one of its kind; otherwise x, even where both are equal Derives or Inherits.
 pub fn difference(x: AnnotationInfo, y: AnnotationInfo) -> Part
     requires { ⌜ Held x × Held y ⌝ }
     ensures { λ r. ⌜ partOf r ≡ difference (infoOf x) (infoOf y) ⌝ }

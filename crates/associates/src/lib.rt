@@ -17,7 +17,8 @@ pub struct Progress {
     pub made: usize,
 }
 
-// A word whose classes are all declared: '5 first class that is no resource, 6 duplicate (not given where 5 is)', or its making.
+// A word whose classes are all declared: a row of kind 5 for its first class of another variant, else one of kind 6 for a
+// duplicate, else its making (FORMAT 8.10).
 fn interpret_known(
     t: Table,
     place: usize,
@@ -73,8 +74,8 @@ fn interpret_known(
     }
 }
 
-// 'A word's unknown classes each add a row and then end the annotation; after a class that is no resource, or a duplicate, the annotation's next word adds only
-// its unknown classes, and there it ends.'
+// One word of an annotation (FORMAT 8.10). Unknown classes have their rows and end the annotation. Behind a word with a row
+// of kind 5 or 6 the annotation ends as well, at the next word, whose unknown classes still have theirs.
 pub fn interpret_word(
     t: Table,
     place: usize,

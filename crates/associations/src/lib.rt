@@ -3,8 +3,8 @@ ghost use Prim.Native.Nat.{_<_, _≤_, _*_};
 ghost use lib.ListN.{length};
 ghost use Rattle.associations.specs.Associations.{FillsPassed};
 
-// The row of the words that each type passes on, four numbers to a type.
-// 'each direct parent P that associates r, or has an ancestor that does'
+// The row of the words that each type passes on to its children, its own and those of its ancestors (FORMAT 4.4), four
+// numbers to a type.
 pub fn fill_passed(passed: &mut [u64], table: &[u64], rows: [u64; 64], count: usize)
     requires { ⌜ (count ≤ 64) × (804 * count ≤ length (now table)) × (length (now table) < 1000000) ⌝ }
     requires { ⌜ (4 * count ≤ length (now passed)) × (length (now passed) < 1000000) ⌝ }

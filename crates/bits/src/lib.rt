@@ -1,4 +1,4 @@
-// Fields of bits in a list of bytes. 01: 'Fields are bit-packed, most significant first; widths in bits.'
+// Fields of bits in a list of bytes; the first bit of a byte or of a field is its most significant one (FORMAT 2.1).
 ghost use mathlib.Core.Path.{_≡_};
 ghost use Prim.Native.Nat.{_+_, _*_, _%_, _^_, _≤_, _<_};
 ghost use lib.ListN.{length, drop, getD};
@@ -6,7 +6,7 @@ ghost use Rattle.definitions.specs.Bits.{bitsOf, num, toBits};
 ghost use Rattle.bits.specs.Reading.{readAt};
 ghost use Rattle.bits.specs.Writing.{put, Wrote};
 
-// A bit position. 01: 'The bit position travels as a value whose methods hand it back.'
+// A bit position (01: 'travels as a value'): each method hands back the position behind what it read or wrote.
 pub struct Cursor {
     pub at: usize,
 }

@@ -1,4 +1,5 @@
-// What the classes of a making give it, looked up in the facts: 'Virtual: T and all its classes are. Marks: those of the classes in turn, repeats kept.'
+// What the classes of a making give it, looked up in the facts: whether all are virtual (FORMAT 4.6), and their marks
+// (FORMAT 4.7).
 use bits::Cursor;
 use making::Mark;
 use rows::Row;

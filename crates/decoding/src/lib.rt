@@ -56,7 +56,7 @@ fn first_of(a: usize, b: usize) -> usize
     if a == 0 { b } else { a }
 }
 
-// 'then 7, 5, 6'; 0 where none holds.
+// What is tested behind the last field, in this order (FORMAT 7.3); 0 where none holds.
 fn refusal_behind(fill: bool, words: bool, twice: bool) -> usize
     ensures { λ r. ⌜ r ≡ behind fill words twice ⌝ }
 {
@@ -69,7 +69,7 @@ fn refusal_behind(fill: bool, words: bool, twice: bool) -> usize
     if twice { 6 } else { 0 }
 }
 
-// Refusal 6: 'a name twice among types, a key among extensions', or what a type repeats within itself.
+// Refusal 6: two types have one name, two extensions one key, or a type repeats something within itself (FORMAT 2.12).
 fn is_something_twice(names: Keys, e: Extensions, within: bool) -> bool
     requires { ⌜ (names .count ≤ 64) × (e .count ≤ 32) ⌝ }
     ensures { λ r. ⌜ r ≡ (repeats sameKey (ofKeys names) || (repeats sameExtensionKey (ofExtensions e) || within)) ⌝ }
@@ -83,7 +83,7 @@ fn is_something_twice(names: Keys, e: Extensions, within: bool) -> bool
     within
 }
 
-// The decoder's answer. 'Tests go 1, 2, then 3 and 4 by the first field read, then 7, 5, 6'.
+// The decoder's answer: the whole sheet, or the number of the first of the tests 3, 4, 7, 5 and 6 that holds (FORMAT 7.3).
 pub fn decode(sheet: &[u8]) -> Decoded
     requires { ⌜ length (now sheet) ≤ 40960 ⌝ }
     ensures { λ r. ⌜ decodedOf r ≡ decoded (now (sheet .entry)) ⌝ }

@@ -10,7 +10,7 @@ ghost use Rattle.dedup.specs.Entries.{inter, diff, unlessEmpty, merge, j
 ghost use Rattle.dedup.specs.EntryLaws.{SameWords, SearchFrom};
 ghost use Rattle.dedup.specs.Reading.{noDoms, underPlace, Kept, Good, Nothing, Unites, Joins, JoinsAll};
 
-// The kind of every entry: 'an inherited NestAssociate entering it as an Associate'.
+// The kind of every entry: a NestAssociate is handed on as an Associate (FORMAT 8.7).
 const ASSOCIATE: u8 = 1;
 
 // An inherited Associate: its words as a row of bits, and the types that it is inherited from, by their places in name order.
@@ -55,7 +55,7 @@ fn left_words(x: Row, y: Row) -> Row
     }
 }
 
-// `InheritedAnnotation::intersection`: 'Call intersect on the annotation and combine the parents'.
+// `InheritedAnnotation::intersection`: what both annotations share, inherited from the parents of both.
 pub fn intersection(x: Entry, y: Entry) -> Entry
     ensures { λ r. ⌜ r ≡ inter x y ⌝ }
 {
@@ -68,7 +68,7 @@ pub fn intersection(x: Entry, y: Entry) -> Entry
     }
 }
 
-// `InheritedAnnotation::difference`: 'Call difference on the annotation and return just the left parents'.
+// `InheritedAnnotation::difference`: the rest of the first, inherited from the parents of the first.
 pub fn difference(x: Entry, y: Entry) -> Entry
     ensures { λ r. ⌜ r ≡ diff x y ⌝ }
 {
@@ -81,7 +81,7 @@ pub fn difference(x: Entry, y: Entry) -> Entry
     }
 }
 
-// How many entries stand for it: one, or 'none if empty'.
+// How many entries stand for it: one, or none where no words are left.
 pub fn standing(e: Entry) -> usize
     ensures { λ r. ⌜ r ≡ length (unlessEmpty e) ⌝ }
 {
@@ -103,8 +103,9 @@ pub fn alone(newcomer: Entry) -> Entries
     }
 }
 
-// 'of each earlier entry its rest, then what it shares, and last the newcomer's rest'. An entry is stored at k, and k moves on if the
-// entry stands. One that shares nothing is its own rest, and the newcomer stays.
+// The list that a newcomer has joined: each earlier entry split into its rest and what it shares, behind all of them the
+// newcomer's rest (FORMAT 8.9). An entry is stored at k, and k moves on if the entry stands. One that shares nothing is its
+// own rest, and the newcomer stays.
 pub fn merged(l: Entries, newcomer: Entry) -> Entries
     requires { ⌜ Apart (entriesOf l) ⌝ }
     requires { ⌜ (l .count ≤ 200) × Sound newcomer ⌝ }
@@ -155,7 +156,7 @@ fn same_words(x: Row, y: Row) -> bool
     x.d == y.d
 }
 
-// 'Take a list of annotations and a new one to append.' The first of a list stays as it is, an associate without resources as well.
+// A newcomer joins a list. The first of a list stays as it is, an associate without resources as well.
 pub fn dedup_inherited_annotations_one(l: Entries, newcomer: Entry) -> Entries
     requires { ⌜ Kept l ⌝ }
     requires { ⌜ Sound newcomer ⌝ }
@@ -201,7 +202,7 @@ pub fn nothing() -> Inherited
     }
 }
 
-// 'union their dom sets', word by word. A word that an entry has not has no doms, so that all words go alike.
+// The doms of both, word by word. A word that an entry has not has no doms, so that all words go alike.
 pub fn united(doms: [Row; 200], given: [Row; 200]) -> [Row; 200]
     ensures { λ r. ⌜ Unites doms given r ⌝ }
 {

@@ -19,8 +19,7 @@ pub struct Report {
     pub more: bool,
 }
 
-// Writes one row at place n, if that is below the limit; the count then is n + 1, and stops one past the limit.
-// 'A row is six bytes: kind, subject name, other name, resource word; 255 for an absent word.'
+// Writes one row (FORMAT 8.1) at place n, if that is below the limit; the count then is n + 1, and stops one past the limit.
 fn put_row(
     buf: &mut [u8],
     limit: usize,
@@ -76,7 +75,7 @@ fn put_parent_row(
     )
 }
 
-// '2 cycle, 3 undeclared parent'
+// Kind 2 where the bad parent is declared, since it is on the path then; otherwise kind 3 (FORMAT 8.4).
 fn bad_kind(p: Parents, at: usize) -> u8
     requires { ⌜ at < 512 ⌝ }
     ensures { λ r. ⌜ r ≡ badKind p (parentAt p at) ⌝ }
@@ -88,7 +87,8 @@ fn bad_kind(p: Parents, at: usize) -> u8
     3
 }
 
-// 'the first parent that is on the path, is the type itself, or is undeclared': how many stand before it.
+// How many parents stand before the first bad one: one that is undeclared or on the path, where the type itself stands too
+// (FORMAT 8.4).
 fn first_bad(p: Parents, t: usize, path: [bool; 64]) -> usize
     requires { ⌜ Valid p ⌝ }
     requires { ⌜ t < p .count ⌝ }
@@ -112,10 +112,10 @@ fn first_bad(p: Parents, t: usize, path: [bool; 64]) -> usize
     count
 }
 
-// Writes the rows of type t, which the path leads to, from place n on. 'Path sets in recursion pass by value,
-// types not yet on the path falling.' A placed type has no row and is not entered, every other has one
-// (specs/Loud.antt), the first bad parent is looked for before any parent is entered, and past the limit the
-// search ends: so each step belongs to a row.
+// Writes the rows of type t, which the path leads to, from place n on (FORMAT 8.4). The path is passed by value (01: 'Path
+// sets in recursion'), and the types off it become fewer. A placed type has no row and is not entered, every other has one
+// (specs/Loud.antt), the first bad parent is looked for before any parent is entered, and past the limit the search ends: so
+// each step belongs to a row.
 fn find_cycles_or_bad_types(
     p: Parents,
     out: Placed,
@@ -185,7 +185,7 @@ fn generate_type_no_parent_errors(p: Parents, out: Placed, buf: &mut [u8], limit
     total
 }
 
-// '1 inherits self': writes a row for each listing of `self` by type t, from place n on.
+// Kind 1: writes a row for each listing of `self` by type t, from place n on (FORMAT 8.3).
 fn put_self_rows(p: Parents, t: usize, buf: &mut [u8], limit: usize, n: usize) -> usize
     requires { ⌜ Valid p ⌝ }
     requires { ⌜ (t < p .count) × (6 * limit ≤ length (now buf)) ⌝ }
@@ -224,8 +224,8 @@ fn self_errors(p: Parents, buf: &mut [u8], limit: usize) -> usize
     total
 }
 
-// Whether the rows of kind 1 stand: '`self` adds its error in round one, and the round still ends; if no type
-// was ready, the cycle diagnosis replaces it.'
+// Whether the rows of kind 1 stand: some parent is `self`, and a type was ready in round one; without one the other rows take
+// their place (FORMAT 8.5).
 fn self_stands(p: Parents) -> bool
     requires { ⌜ Valid p ⌝ }
     ensures { λ r. ⌜ r ≡ (listsSelf p && not (null (placed p 1))) ⌝ }
@@ -250,8 +250,8 @@ fn order_errors(p: Parents, buf: &mut [u8], limit: usize) -> usize
     generate_type_no_parent_errors(p, out, buf, limit)
 }
 
-// The diagnosis of a map that has no order: the first `limit` rows go into the slice, and no other byte of it changes.
-// 'the answer has the count of rows written and a flag set exactly if more exist'
+// The diagnosis of a map that has no order: the first `limit` rows go into the slice, and no other byte of it changes. The
+// report has how many were written, and whether there are more (FORMAT 8.2).
 pub fn diagnose(p: Parents, buf: &mut [u8], limit: usize) -> Report
     requires { ⌜ Valid p ⌝ }
     requires { ⌜ 6 * limit ≤ length (now buf) ⌝ }

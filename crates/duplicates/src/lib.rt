@@ -1,4 +1,4 @@
-// Whether a making is a duplicate: 'T.r is a declared type, or two of its makings are identical'.
+// Whether a making is a duplicate: the type T.r is declared, or the same resource was made before (FORMAT 4.9).
 use fields::Name;
 use making::Making;
 use rows::Row;
@@ -70,7 +70,7 @@ pub fn is_made(t: Table, place: usize, new: Making, made: &[u64; 2280], count: u
     false
 }
 
-// '6 duplicate': T.r is declared, or an earlier making is identical.
+// Kind 6 (FORMAT 8.10): T.r is declared, or an earlier making is identical.
 pub fn is_duplicate(t: Table, place: usize, new: Making, made: &[u64; 2280], count: usize) -> bool
     requires { ⌜ Sound t ⌝ }
     requires { ⌜ Holding t place (makingsIn (now made) count) ⌝ }

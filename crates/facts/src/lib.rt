@@ -15,7 +15,7 @@ ghost use Rattle.table.specs.Table.{Finds};
 ghost use Rattle.facts.specs.Facts.{tableIn};
 ghost use Rattle.facts.specs.Laying.{Copied, MarksLaid, TypeLaid, ExtensionLaid, ExtensionsLaid, FewExtensions, Headed};
 
-// The place of the type of that name, or the count where none is declared. 'Lookup by name only.'
+// The place of the type of that name, or the count where none is declared (FORMAT 1.5).
 pub fn find(f: &[u8; 1944], n: Name) -> usize
     requires { ⌜ tableIn (now f) .count ≤ 64 ⌝ }
     ensures { λ r. ⌜ Finds (tableIn (now (f .entry)) .firsts) (tableIn (now (f .entry)) .seconds) (tableIn (now (f .entry)) .count) (nameOf n) r ⌝ }
@@ -53,7 +53,7 @@ fn flag(b: bool) -> u8
     0
 }
 
-// A variant's number as a byte: 'variant 2 (0 domain, 1 resource, 2 other)'.
+// A variant's number as a byte: 0 for a domain, 1 for a resource, 2 for any other (FORMAT 2.6).
 fn variant_byte(v: usize) -> u8
     ensures { λ r. ⌜ variantOf r ≡ variantOf v ⌝ }
 {

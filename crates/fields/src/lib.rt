@@ -24,7 +24,7 @@ pub enum ByteRead {
     Refused(usize),
 }
 
-// 01: 'A name is a word, a flag 1, and a second word if the flag is 1'. The second is 255 where there is none: a word is below W, at most 200.
+// A name (FORMAT 1.3). The second word is 255 where there is none: a word is below W, at most 200.
 pub struct Name {
     pub first: u8,
     pub second: u8,
@@ -69,7 +69,7 @@ pub fn read_between(s: &[u8], c: Cursor, n: usize, least: usize, most: usize) ->
     }
 }
 
-// 01: 'a tag 8'.
+// A tag is any number of 8 bits (FORMAT 2.7, 2.9).
 pub fn read_tag(s: &[u8], c: Cursor) -> ByteRead
     requires { ⌜ length (now s) ≤ 40960 ⌝ }
     ensures { λ r. ⌜ ofByte (bitsOf (now (s .entry))) r ≡ field 8 (drop (c .at) (bitsOf (now (s .entry)))) ⌝ }
@@ -80,7 +80,7 @@ pub fn read_tag(s: &[u8], c: Cursor) -> ByteRead
     }
 }
 
-// 01: 'A word field is 8, below W.'
+// A word field is the number of a word of the sheet, of which there are `limit` (FORMAT 2.5).
 pub fn read_word_field(s: &[u8], c: Cursor, limit: usize) -> ByteRead
     requires { ⌜ length (now s) ≤ 40960 ⌝ }
     ensures { λ r. ⌜ ofByte (bitsOf (now (s .entry))) r ≡ wordField limit (drop (c .at) (bitsOf (now (s .entry)))) ⌝ }
@@ -97,7 +97,7 @@ pub fn read_word_field(s: &[u8], c: Cursor, limit: usize) -> ByteRead
     }
 }
 
-// 01: 'a flag 1, and a second word if the flag is 1'; 'dom flag 1, dom word if 1'.
+// A flag, and a word where it is set: the second word of a name, or a dom (FORMAT 2.5).
 pub fn read_word_if_flag(s: &[u8], c: Cursor, limit: usize) -> ByteRead
     requires { ⌜ (length (now s) ≤ 40960) × (limit ≤ 255) ⌝ }
     ensures { λ r. ⌜ ofWordIfFlag (bitsOf (now (s .entry))) r ≡ wordIfFlag limit (drop (c .at) (bitsOf (now (s .entry)))) ⌝ }
@@ -190,7 +190,8 @@ fn read_each_name(s: &[u8], c: Cursor, limit: usize, n: usize) -> NamesRead
     }
 }
 
-// 01: 'parents 4 (0 to 8), names', 'parents 4 (1 to 8), names', 'count 4, names'; and the resources of an associate, which are read like names.
+// A count of 4 bits within its bounds, and so many names: parents, the names of an Inherit, and the resources of an
+// associate, which are read like names (FORMAT 2.3, 2.8).
 pub fn read_names(s: &[u8], c: Cursor, limit: usize, least: usize, most: usize) -> NamesRead
     requires { ⌜ (length (now s) ≤ 40960) × (limit ≤ 255) × (most ≤ 15) ⌝ }
     ensures { λ r. ⌜ ofNamesRead (bitsOf (now (s .entry))) r ≡ counted 4 least most (name limit) (drop (c .at) (bitsOf (now (s .entry)))) ⌝ }

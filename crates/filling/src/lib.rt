@@ -64,8 +64,7 @@ fn put_annotation(s: &mut [u64], at: usize, a: Annotation)
     }
 }
 
-// The rows of type a, which were empty, and nothing else changes.
-// 'A type associates r when an annotation of its own does, nested or not.'
+// The rows of type a, which were empty, get what its own annotations associate (FORMAT 4.1), and nothing else changes.
 pub fn fill(s: &mut [u64], a: usize, t: TypeInfo)
     requires { ⌜ TypeWithin 200 (typeInfoOf t) ⌝ }
     requires { ⌜ Blank (now s) a ⌝ }

@@ -1,5 +1,5 @@
-// What counts of a type's own annotations, and the numbers of doms.
-// 'A type associates r when an annotation of its own does, nested or not.'
+// What counts of a type's own annotations, with the nested ones (FORMAT 4.1) or without (FORMAT 4.3), and the numbers of
+// doms.
 ghost use mathlib.Core.Bool.{true};
 ghost use mathlib.Core.Path.{_≡_};
 ghost use Rattle.giving.specs.Giving.{counted, DomPlace};

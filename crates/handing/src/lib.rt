@@ -50,8 +50,8 @@ fn flagged(flags: u64, i: usize) -> bool
     (flags >> i) & 1 == 1
 }
 
-// What the listed parents of type t with a flag hand on, in their order, as the dedup leaves it.
-// 'a parent that failed then, itself or through a parent, passes nothing to that child at that listing'
+// What the listed parents of type t with a flag hand on, in their order, as the dedup leaves it. A listing at which the call
+// of the parent failed has no flag (FORMAT 8.6).
 pub fn gather(p: Parents, types: Types, store: &[u64], t: usize, flags: u64) -> Inherited
     requires { ⌜ Ready p types (now store) t flags ⌝ }
     ensures { λ r. ⌜ Gathered p types (now (store .entry)) t flags r ⌝ }

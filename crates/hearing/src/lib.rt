@@ -1,5 +1,5 @@
-// Which listings of a type hand on what their parent has: 'a parent that failed then, itself or through a parent, passes nothing to that child at that listing, and
-// the child fails too'; listed again, it passes everything.
+// Which listings of a type hand on what their parent has. A listing at which the parent is reached for the first time, and
+// fails, hands on nothing, and the type itself fails; listed again, the parent hands on everything (FORMAT 8.6).
 use ordering::Parents;
 ghost use mathlib.Core.Bool.{_&&_, _||_, not};
 ghost use mathlib.Core.Path.{_≡_};

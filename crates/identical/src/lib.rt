@@ -1,4 +1,4 @@
-// Whether two makings are identical: 'two lines are the same when every field is, parents and marks in their order'.
+// Whether two makings are identical, which they are if all their fields are (FORMAT 5.1).
 use making::Making;
 use making::Marks;
 use making::Parent;

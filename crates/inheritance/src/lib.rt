@@ -26,7 +26,7 @@ pub fn words_of(a: AnnotationInfo) -> Row
     row
 }
 
-// 'union their dom sets': those of the associate join those of the list, at its words.
+// The dom sets of the associate join those of the list, at its words.
 pub fn doms_with(doms: [Row; 200], a: AnnotationInfo) -> [Row; 200]
     requires { ⌜ Own a ⌝ }
     ensures { λ r. ⌜ DomsWith doms a r ⌝ }
@@ -47,7 +47,7 @@ pub fn doms_with(doms: [Row; 200], a: AnnotationInfo) -> [Row; 200]
     out
 }
 
-// A parent's own associate joins what is inherited, 'an inherited NestAssociate entering it as an Associate'.
+// A parent's own associate joins what is inherited, as an Associate, also where it is nested (FORMAT 8.7).
 pub fn inherit_own(h: Inherited, a: AnnotationInfo, parent: u64) -> Inherited
     requires { ⌜ Good h ⌝ }
     requires { ⌜ Own a ⌝ }

@@ -16,8 +16,7 @@ ghost use Rattle.synthetic.specs.Made.{classesOf};
 ghost use Rattle.interpretation.specs.Emit.{emitBytes, emit};
 ghost use Rattle.interpretation.specs.Judged.{isUnknown, isOther, classIf};
 
-// Writes one row at place n, if that is below the limit; the count then is n + 1, and stops one past the limit.
-// 'A row is six bytes: kind, subject name, other name, resource word; 255 for an absent word.'
+// Writes one row (FORMAT 8.1) at place n, if that is below the limit; the count then is n + 1, and stops one past the limit.
 pub fn put_row(
     buf: &mut [u8],
     limit: usize,
@@ -82,7 +81,7 @@ pub fn all_known(t: Table, doms: Row, word: u8) -> bool
     true
 }
 
-// '5 first class that is no resource': its dom, or 201.
+// The dom of the first class that has another variant than a resource's, or 201 (FORMAT 8.10).
 pub fn first_other(t: Table, doms: Row, word: u8) -> usize
     requires { ⌜ Sound t ⌝ }
     requires { ⌜ word < 255 ⌝ }
@@ -100,7 +99,7 @@ pub fn first_other(t: Table, doms: Row, word: u8) -> usize
     k
 }
 
-// 'A word's unknown classes each add a row': kind 4, with the class as the other name.
+// A row of kind 4 for each unknown class, with the class as the other name (FORMAT 8.10).
 pub fn unknown_rows(
     t: Table,
     place: usize,

@@ -1,4 +1,4 @@
-// The bits of what is made for a type and a word, out of the facts: counted first, then written. 01: 'items in any order, each led by one bit'.
+// The bits of what is made for a type and a word, out of the facts: counted first, then written (FORMAT 6.2, 6.3).
 use bits::Cursor;
 use fields::Name;
 use made::Made;
@@ -38,7 +38,7 @@ fn name_at(f: &[u8; 1944], place: usize) -> Name
     }
 }
 
-// 'Virtual: T and all its classes are.'
+// A resource is virtual if its type and all its classes are (FORMAT 4.6).
 fn both_virtual(f: &[u8; 1944], place: usize, all_virtual: bool) -> bool
     requires { ⌜ place < 65 ⌝ }
     ensures { λ r. ⌜ r ≡ (getD (tableIn (now (f .entry)) .virtuals) place false && «all_virtual») ⌝ }
@@ -85,7 +85,7 @@ fn write_making(
     class_marks::write_classes(buf, e, f, doms, word, g.place)
 }
 
-// 'T and each r with a making have one extension line, its virtual and trait those of T.'
+// The extension line of the type at a place and a word, with the flags of the type (FORMAT 4.8).
 fn line_at(f: &[u8; 1944], place: usize, word: u8) -> Line
     requires { ⌜ place < 65 ⌝ }
     ensures { λ r. ⌜ lineOf r ≡ extensionLine (declarationAt (tableIn (now (f .entry))) place) word ⌝ }

@@ -1,4 +1,4 @@
-// The keys of the types and of the extensions, and whether one stands twice. 01, refusal 6: 'a name twice among types, a key among extensions'.
+// The keys of the types, their names, and of the extensions, name and word, and whether one stands twice (FORMAT 2.12).
 use fields::Name;
 use types::Extension;
 use types::Extensions;
@@ -108,7 +108,7 @@ fn with_extension_key(k: Keys, x: Extension) -> Keys
     with_key(k, n, x.word)
 }
 
-// 'a key among extensions': type name and resource word.
+// An extension's key: type name and resource word (FORMAT 2.12).
 pub fn keys_of_extensions(t: Extensions) -> Keys
     requires { ⌜ t .count ≤ 32 ⌝ }
     ensures { λ r. ⌜ (ofKeys r ≡ extensionKeys t) × (r .count ≡ t .count) ⌝ }

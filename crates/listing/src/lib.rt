@@ -22,7 +22,7 @@ pub struct Tried {
     pub listed: Listed,
 }
 
-// 'types in name order'
+// How many items the types have, and how many bits; the types go in name order (FORMAT 5.3).
 fn types_bits(
     own: &[u8],
     p: Parents,
@@ -104,7 +104,7 @@ fn write_types(
     at
 }
 
-// 'N in 7, names in order; item count 16; items'.
+// Writes the whole schedule: the order, the item count in 16 bits, the items (FORMAT 6.1).
 fn write_all(
     buf: &mut [u8],
     own: &[u8],
@@ -127,7 +127,8 @@ fn write_all(
     write_types(buf, d, own, p, facts, table, passed, rows)
 }
 
-// '10 answers the needed size, acceptance the size written'. Nothing is touched where the listing is too short.
+// Writes the schedule and names its size. Nothing is touched where the listing is too short; then the size is what is needed
+// (FORMAT 7.4).
 fn list_all(
     listing: &mut [u8],
     own: &[u8],

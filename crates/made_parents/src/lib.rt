@@ -17,7 +17,7 @@ ghost use Rattle.table.specs.Table.{tableMap, Sound};
 ghost use Rattle.synthetic.specs.Made.{classesOf, namesIn, firstsOf, givenBy, Short};
 ghost use Rattle.facts.specs.Facts.{tableIn, extensionIn, extensionsIn};
 
-// 'whose first parents are the class names'
+// The first parents of an own resource: its classes (FORMAT 4.3).
 fn class_parents(doms: Row, word: u8) -> Parents
     requires { ⌜ (word < 255) × (length (classesOf doms word) ≤ 8) ⌝ }
     ensures { λ r. ⌜ parentsOf r ≡ classesOf doms word ⌝ }
@@ -33,7 +33,7 @@ fn class_parents(doms: Row, word: u8) -> Parents
     r
 }
 
-// 'Its first parents are P.r for each direct parent P that associates r, ascending by P, each once.'
+// The first parents of an inherited resource: P.r for the types P of the row, in name order (FORMAT 4.4).
 fn inherited_parents(f: &[u8; 1944], parents: u64, word: u8) -> Parents
     requires { ⌜ (tableIn (now f) .count ≤ 64) × (word < 255) × (length (namesIn (tableIn (now f)) parents) ≤ 8) ⌝ }
     ensures { λ r. ⌜ parentsOf r ≡ map (λ P. dotted P word) (namesIn (tableIn (now (f .entry))) parents) ⌝ }
@@ -98,7 +98,7 @@ fn with_names(out: Parents, f: &[u8; 1944], j: usize) -> Parents
     r
 }
 
-// 'Then follow `resource` and the extension's parents for T.r.'
+// Behind the other parents go those that the extension of the name and the word adds (FORMAT 4.5).
 fn extension_parents(out: Parents, f: &[u8; 1944], n: Name, word: u8) -> Parents
     requires { ⌜ Short (extensionsIn (now f)) ⌝ }
     requires { ⌜ out .count + length (givenBy (nameOf n) word (ofExtensions (extensionsIn (now f)))) ≤ 17 ⌝ }

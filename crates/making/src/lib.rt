@@ -1,4 +1,4 @@
-// A line of the schedule, before it is packed. 01: 'A line is an item with all its fields'.
+// A line of the schedule with all its fields, before it is packed (FORMAT 5.1).
 use fields::Name;
 ghost use mathlib.Core.List.{[], _∷_, _++_};
 ghost use mathlib.Core.Path.{_≡_};
@@ -6,7 +6,8 @@ ghost use Prim.Native.Nat.{_+_, _<_};
 ghost use Rattle.fields.specs.Fields.{nameOf};
 ghost use Rattle.making.specs.Making.{parentOf, parentsOf, markOf, marksOf};
 
-// 01: 'parents 5, each a word count 2 (1 to 3) and its words'. The second and the third word are 255 where there is none: the count follows from them.
+// A parent of a made resource, of one to three words (FORMAT 1.3). The second and the third are 255 where there is none, so
+// that their count follows from them.
 pub struct Parent {
     pub first: u8,
     pub second: u8,
@@ -21,7 +22,7 @@ pub struct Parents {
     pub thirds: [u8; 17],
 }
 
-// 01: 'A mark: 0 makelist, or 1 and a tag 8 for derive.'
+// A mark (FORMAT 2.9): derive is 1 for a derive mark with its tag, 0 for makelist.
 pub struct Mark {
     pub derive: u8,
     pub tag: u8,
@@ -34,7 +35,7 @@ pub struct Marks {
     pub tags: [u8; 448],
 }
 
-// 01: 'a synthesized resource: type name, resource word, virtual 1, parents 5, marks 9'.
+// A synthesized resource, its fields in the order in which they are packed (FORMAT 6.2).
 pub struct Making {
     pub name: Name,
     pub word: u8,
@@ -43,7 +44,7 @@ pub struct Making {
     pub marks: Marks,
 }
 
-// 01: 'an extension line: type name, virtual 1, trait 1, resource word'.
+// An extension line, its fields likewise (FORMAT 6.3).
 pub struct Line {
     pub name: Name,
     pub is_virtual: bool,
@@ -62,7 +63,7 @@ pub fn named(n: Name) -> Parent
     }
 }
 
-// P.r. 01: 'Its first parents are P.r for each direct parent P'.
+// P.r, a first parent of an inherited resource (FORMAT 4.4).
 pub fn resource_of(n: Name, word: u8) -> Parent
     requires { ⌜ word < 255 ⌝ }
     ensures { λ r. ⌜ parentOf r ≡ nameOf n ++ (word ∷ []) ⌝ }
@@ -109,7 +110,7 @@ pub fn no_marks() -> Marks
     }
 }
 
-// The marks with one more. 01: 'Marks: those of the classes in turn, repeats kept.'
+// The marks with one more, also where it stands there already (FORMAT 4.7).
 pub fn with_mark(t: Marks, m: Mark) -> Marks
     requires { ⌜ t .count < 448 ⌝ }
     ensures { λ r. ⌜ (marksOf r ≡ marksOf t ++ (markOf m ∷ [])) × (r .count ≡ t .count + 1) ⌝ }

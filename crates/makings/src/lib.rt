@@ -7,8 +7,7 @@ ghost use Rattle.above.specs.Tables.{TypesBelow};
 ghost use Rattle.own_classes.specs.OwnClasses.{OwnSound};
 ghost use Rattle.makings.specs.Makings.{RowOfWord, OwnWords, WordsAbove, WordsFor, WithInherited, Makes};
 
-// The words that a proper ancestor gives: `row` has the ancestors.
-// 'each word r associated, nested or not, by a proper ancestor'
+// The words that a proper ancestor gives, nested or not (FORMAT 4.4): `row` has the ancestors.
 pub fn words_above(table: &[u64], row: u64, count: usize) -> Row
     requires { ⌜ (count ≤ 64) × (804 * count ≤ length (now table)) × (length (now table) < 1000000) ⌝ }
     ensures { λ r. ⌜ WordsAbove (now (table .entry)) row count r ⌝ }
@@ -39,8 +38,8 @@ fn own_words(n: usize, words: &[u8; 180]) -> Row
     out
 }
 
-// The words with a making: those of the own Associates, the first n, and those that a proper ancestor gives.
-// 'T and each r with a making have one extension line'
+// The words with a making, each of which has an extension line (FORMAT 4.8): those of the own Associates, the first n, and
+// those that a proper ancestor gives.
 pub fn words_of(n: usize, words: &[u8; 180], above: Row) -> Row
     requires { ⌜ n ≤ 180 ⌝ }
     ensures { λ r. ⌜ WordsFor n (now (words .entry)) above r ⌝ }

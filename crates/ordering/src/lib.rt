@@ -1,5 +1,5 @@
-// The order of the types of a map, over a compact form in which a type is its place in name order.
-// 'Borrowed `&TypeInfo` becomes a type number', so a type is handed on as its place.
+// The order of the types of a map, over a compact form in which a type is its place in name order. A type is handed on as
+// that number.
 ghost use mathlib.Core.Path.{_≡_};
 ghost use mathlib.Core.Bool.{_&&_};
 ghost use Prim.Native.Nat.{_+_, _<_, _≤_};
@@ -63,8 +63,8 @@ pub fn has(out: [u8; 64], n: usize, t: u8) -> bool
     false
 }
 
-// Whether each of `count` parents from `base` on stands among the first n of `out`; `self` holds no type back.
-// 'the ready scan is left at the first parent not placed'
+// Whether each of `count` parents from `base` on stands among the first n of `out`; `self` holds no type back (FORMAT 3.4).
+// The scan ends where one does not (01: 'the first parent not placed').
 fn all_placed<'a>(
     places: &'a [u8; 512],
     firsts: &'a [u8; 512],
@@ -120,8 +120,8 @@ fn is_free<'a>(
     all_placed(places, firsts, seconds, word, 8 * t, count, out, n)
 }
 
-// One round over the types: those that are ready go behind the ones placed, in name order.
-// 'A placed type counts only from the next round', so the scans see the first `start` only.
+// One round over the types: those that are ready go behind the ones placed, in name order. A type placed in this round makes
+// no other ready before the next, so the scans see the first `start` only (FORMAT 3.4).
 fn one_round(p: Parents, from: Placed) -> Placed
     requires { ⌜ Valid p ⌝ }
     requires { ⌜ (from .count ≤ 64) × (length (round p (placesOf from)) ≤ 64) ⌝ }
@@ -215,7 +215,7 @@ fn lists_self<'a>(
     false
 }
 
-// Whether a parent is listed as `self`: '`self` having a scan of its own'.
+// Whether a parent is listed as `self`, which the scan for ready types passes over.
 pub fn inherits_self(p: Parents) -> bool
     requires { ⌜ Valid p ⌝ }
     ensures { λ r. ⌜ r ≡ listsSelf p ⌝ }

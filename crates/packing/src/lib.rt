@@ -31,7 +31,7 @@ fn write_flag(buf: &mut [u8], c: Cursor, v: bool) -> Cursor
     }
 }
 
-// 01: 'A name is a word, a flag 1, and a second word if the flag is 1'.
+// How many bits a name has: a word, a flag, and a second word where there is one (FORMAT 2.5).
 pub fn name_bits(n: Name) -> usize
     ensures { λ r. ⌜ (r ≡ length (nameBits (nameOf n))) × (r ≤ 17) ⌝ }
 {
@@ -70,7 +70,7 @@ fn write_present(buf: &mut [u8], c: Cursor, w: u8) -> Cursor
     }
 }
 
-// 01: 'each a word count 2 (1 to 3) and its words'.
+// How many bits a parent has: its count of words, and so many words (FORMAT 6.2).
 fn parent_bits(second: u8, third: u8) -> usize
     ensures { λ r. ⌜ (r ≡ 10 + length (each (toBits 8) (optional second)) + length (each (toBits 8) (optional third))) × (r ≤ 26) ⌝ }
 {
@@ -87,7 +87,7 @@ fn write_parent(buf: &mut [u8], c: Cursor, p: Parent) -> Cursor
     write_present(buf, e, p.third)
 }
 
-// 01: 'parents 5'.
+// How many bits the parents have: a count of 5 bits, then each (FORMAT 6.2).
 fn parents_bits(t: Parents) -> usize
     requires { ⌜ t .count ≤ 17 ⌝ }
     ensures { λ r. ⌜ (r ≡ length (countedBits 5 parentBits (parentsOf t))) × (r ≤ 447) ⌝ }
@@ -129,7 +129,7 @@ fn write_parents(buf: &mut [u8], c: Cursor, t: Parents) -> Cursor
     write_each_parent(buf, d, t)
 }
 
-// 01: 'A mark: 0 makelist, or 1 and a tag 8 for derive.'
+// How many bits a mark has: a tag follows the bit of a derive mark only (FORMAT 2.9).
 pub fn mark_bits(m: Mark) -> usize
     ensures { λ r. ⌜ (r ≡ length (markBits (markOf m))) × (r ≤ 9) ⌝ }
 {
@@ -148,7 +148,7 @@ pub fn write_mark(buf: &mut [u8], c: Cursor, m: Mark) -> Cursor
     }
 }
 
-// 01: 'Bit 0, a synthesized resource: type name, resource word, virtual 1, parents 5', all that stands before its marks.
+// How many bits of a synthesized resource stand before its marks (FORMAT 6.2).
 pub fn head_bits(name: Name, parents: Parents) -> usize
     requires { ⌜ parents .count ≤ 17 ⌝ }
     ensures { λ r. ⌜ (r ≡ 10 + length (nameBits (nameOf name)) + length (countedBits 5 parentBits (parentsOf parents))) × (r ≤ 474) ⌝ }
@@ -175,7 +175,7 @@ pub fn write_head(
     write_parents(buf, c4, parents)
 }
 
-// 01: 'Bit 1, an extension line: type name, virtual 1, trait 1, resource word.'
+// How many bits an extension line has (FORMAT 6.3).
 pub fn line_bits(l: Line) -> usize
     ensures { λ r. ⌜ (r ≡ length (itemBits (lineOf l))) × (r ≤ 28) ⌝ }
 {
@@ -246,7 +246,7 @@ fn write_names(
     at
 }
 
-// 01: 'N in 7, names in order'.
+// How many bits the order has: N in 7 bits, then the names (FORMAT 6.1).
 pub fn order_bits(firsts: [u8; 64], seconds: [u8; 64], items: [u8; 64], n: usize) -> usize
     requires { ⌜ n ≤ 64 ⌝ }
     ensures { λ r. ⌜ (r ≡ length (orderBits (orderNames firsts seconds items n))) × (r ≤ 1095) ⌝ }
@@ -270,13 +270,13 @@ pub fn write_order_bits(
     write_names(buf, d, firsts, seconds, items, n)
 }
 
-// 01: '10 answers the needed size, acceptance the size written'.
+// Whether the listing was too short, and the size of what the call writes (FORMAT 7.4).
 pub struct Listed {
     pub short: bool,
     pub size: usize,
 }
 
-// 01: 'The order-only call writes N and the names'. Nothing is touched where the listing is too short.
+// The order-only call's listing (FORMAT 6.5). Nothing is touched where the listing is too short.
 pub fn write_order(
     listing: &mut [u8],
     firsts: [u8; 64],

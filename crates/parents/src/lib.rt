@@ -97,7 +97,7 @@ fn names_for(i: usize, count: u8, n: usize) -> usize
     if i < count as usize { n } else { 0 }
 }
 
-// The place of the type that each parent names. 'Lookup by name only.'
+// The place of the type that each parent names (FORMAT 1.5).
 fn with_places(p: Parents) -> Parents
     requires { ⌜ p .count ≤ 64 ⌝ }
     ensures { λ r. ⌜ Looked p r ⌝ }

@@ -1,7 +1,6 @@
-// Whether no type of a map is refused, by a quick test of each: the classes of what it gives are declared as resources, no resource of its
-// own Associates has both the word of one before and the dom of one before, an own class of an inherited word is no P.r of a parent P, and T.r is not declared. A
-// type that fails it may yet be accepted.
-// 'T is refused if a class is undeclared or no resource, T.r is a declared type, or two of its makings are identical.'
+// Whether no type of a map is refused (FORMAT 4.9), by a quick test of each: the classes of what it gives are declared as
+// resources, no resource of its own Associates has both the word of one before and the dom of one before, an own class of an
+// inherited word is no P.r of a parent P, and T.r is not declared. A type that fails it may yet be accepted.
 use fields::Names;
 use records::Annotation;
 use rows::Row;

@@ -1,7 +1,7 @@
 // What the programs do with a sheet: they lend the slices, call, and print what then stands in them.
 use access::Answer;
 
-// The order-only call. 01: 'lends a listing of 65,536 bytes'; 1,536 bytes hold 256 rows.
+// The order-only call. The programs lend 65,536 bytes for the listing (FORMAT 9.5), and 1,536 for 256 rows.
 pub fn print_order(sheet: &[u8]) {
     let mut listing = io::large_buffer();
     let mut diagnosis = [0u8; 1536];

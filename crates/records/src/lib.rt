@@ -19,8 +19,9 @@ ghost use Rattle.fields.specs.Fields.{ofNames, ofNamesRead};
 ghost use Rattle.records.specs.Annotations.{rowOfWord, rowOfTag, rowsFor, withKind, annotationOf, ofAnnotationRead, ofAnnotations, ofAnnotationsRead};
 ghost use Rattle.records.specs.Marks.{markOf, ofMarkRead, ofMarks, ofMarksRead};
 
-// 01: 'Annotations holding vectors become a kind beside flat arrays'. The kinds are 01's seven in their order. An associate has count words, each with its dom or
-// 255; an Inherit has the two words of each name there; an Alias has its word, and a Derive its tag, as its only word.
+// An annotation as read (01: 'a kind beside flat arrays'), the kinds numbered as in the sheet (FORMAT 2.7). An associate has
+// count words, each with its dom or 255; an Inherit has the two words of each name there; an Alias has its word, and a Derive
+// its tag, as its only word.
 pub struct Annotation {
     pub kind: usize,
     pub count: usize,
@@ -49,7 +50,7 @@ pub struct AnnotationsRead {
     pub annotations: Annotations,
 }
 
-// 01: 'A mark: 0 makelist, or 1 and a tag 8 for derive.'
+// A mark (FORMAT 2.9): derive is 1 for a derive mark with its tag, 0 for makelist.
 pub struct Mark {
     pub derive: u8,
     pub tag: u8,
@@ -93,7 +94,7 @@ fn one_row(w: u8, next: Cursor) -> NamesRead
     }
 }
 
-// 01: 'Alias a word'.
+// The word of an Alias (FORMAT 2.7).
 fn read_alias(s: &[u8], c: Cursor, limit: usize) -> NamesRead
     requires { ⌜ length (now s) ≤ 40960 ⌝ }
     ensures { λ r. ⌜ ofNamesRead (bitsOf (now (s .entry))) r ≡ rowOfWord limit (drop (c .at) (bitsOf (now (s .entry)))) ⌝ }
@@ -104,7 +105,7 @@ fn read_alias(s: &[u8], c: Cursor, limit: usize) -> NamesRead
     }
 }
 
-// 01: 'Derive a tag 8'.
+// The tag of a Derive (FORMAT 2.7).
 fn read_derive(s: &[u8], c: Cursor) -> NamesRead
     requires { ⌜ length (now s) ≤ 40960 ⌝ }
     ensures { λ r. ⌜ ofNamesRead (bitsOf (now (s .entry))) r ≡ rowOfTag (drop (c .at) (bitsOf (now (s .entry)))) ⌝ }
@@ -115,7 +116,7 @@ fn read_derive(s: &[u8], c: Cursor) -> NamesRead
     }
 }
 
-// What follows the kind. 01: 'the two associates: count 4, each a word, dom flag 1, dom word if 1; Alias a word; Inherit: count 4, names; Derive a tag 8.'
+// What follows the kind (FORMAT 2.7): the resources of an associate, the names of an Inherit, a word, a tag, or nothing.
 fn read_rows(s: &[u8], c: Cursor, limit: usize, kind: usize) -> NamesRead
     requires { ⌜ (length (now s) ≤ 40960) × (limit ≤ 255) ⌝ }
     ensures { λ r. ⌜ ofNamesRead (bitsOf (now (s .entry))) r ≡ rowsFor limit kind (drop (c .at) (bitsOf (now (s .entry)))) ⌝ }
@@ -166,14 +167,14 @@ fn annotation_refused(r: usize) -> AnnotationRead
     with_kind(0, none)
 }
 
-// 01: 'A two-word type has no NestAssociate'.
+// A NestAssociate does not stand in a two-word type (FORMAT 2.7).
 fn is_nested_in_two(kind: usize, single: bool) -> bool
     ensures { λ r. ⌜ r ≡ (eqb kind 2 && not single) ⌝ }
 {
     if kind == 2 { !single } else { false }
 }
 
-// 01: 'An annotation: kind 3 (0 to 6, as above)'. A NestAssociate in a two-word type is refused at its kind.
+// An annotation: its kind, and what follows it. A NestAssociate in a two-word type is refused at its kind (FORMAT 2.7).
 pub fn read_annotation(s: &[u8], c: Cursor, limit: usize, single: bool) -> AnnotationRead
     requires { ⌜ (length (now s) ≤ 40960) × (limit ≤ 255) ⌝ }
     ensures { λ r. ⌜ ofAnnotationRead (bitsOf (now (s .entry))) r ≡ annotation limit single (drop (c .at) (bitsOf (now (s .entry)))) ⌝ }
@@ -252,7 +253,7 @@ fn read_each_annotation(
     }
 }
 
-// 01: 'annotations 4 (0 to 12)'.
+// The annotations of a type, at most 12 (FORMAT 2.6).
 pub fn read_annotations(s: &[u8], c: Cursor, limit: usize, single: bool) -> AnnotationsRead
     requires { ⌜ (length (now s) ≤ 40960) × (limit ≤ 255) ⌝ }
     ensures { λ r. ⌜ ofAnnotationsRead (bitsOf (now (s .entry))) r ≡ counted 4 0 12 (annotation limit single) (drop (c .at) (bitsOf (now (s .entry)))) ⌝ }
@@ -345,7 +346,7 @@ fn read_each_mark(s: &[u8], c: Cursor, n: usize) -> MarksRead
     }
 }
 
-// 01: 'marks 3 (0 to 7)'.
+// The marks of a type, at most 7 (FORMAT 2.6).
 pub fn read_marks(s: &[u8], c: Cursor) -> MarksRead
     requires { ⌜ length (now s) ≤ 40960 ⌝ }
     ensures { λ r. ⌜ ofMarksRead (bitsOf (now (s .entry))) r ≡ counted 3 0 7 mark (drop (c .at) (bitsOf (now (s .entry)))) ⌝ }

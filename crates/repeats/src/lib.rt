@@ -1,4 +1,5 @@
-// 01, refusal 6: 'a word within an associate; two annotations of a type of one kind and equal (associates: equal word sets)'.
+// What may not stand twice within a type, refusal 6: a word in an associate, or an annotation; two associates of one kind are
+// equal if they have the same words (FORMAT 2.12).
 use records::Annotation;
 use records::Annotations;
 use types::TypeInfo;
@@ -58,7 +59,7 @@ fn is_associate(kind: usize) -> bool
     if kind == 1 { true } else { kind == 2 }
 }
 
-// 'a word within an associate', whatever the doms.
+// Whether a word stands twice within an associate, whatever the doms.
 pub fn repeats_word(a: Annotation) -> bool
     ensures { λ r. ⌜ r ≡ repeatsWord (annotationOf a) ⌝ }
 {
@@ -94,7 +95,7 @@ fn is_same_row(a: Annotation, b: Annotation, i: usize) -> bool
     }
 }
 
-// Inherit: 'names', as listed.
+// Whether two Inherits list the same names in the same order.
 fn is_same_rows(a: Annotation, b: Annotation) -> bool
     ensures { λ r. ⌜ r ≡ sameList (sameList eqb) (rowsOf a) (rowsOf b) ⌝ }
 {
@@ -128,7 +129,7 @@ fn kind_of(a: Annotation) -> usize
     if a.kind < 6 { a.kind } else { 6 }
 }
 
-// 'associates: equal word sets'
+// Whether two associates have the same words, in any order and whatever the doms.
 fn is_same_set(a: Annotation, b: Annotation) -> bool
     ensures { λ r. ⌜ r ≡ (all (λ w. any (eqb w) (wordsOf b)) (wordsOf a) && all (λ w. any (eqb w) (wordsOf a)) (wordsOf b)) ⌝ }
 {
@@ -161,7 +162,7 @@ fn is_worded(kind: usize) -> bool
     if kind == 3 { true } else { kind == 5 }
 }
 
-// 'of one kind and equal'
+// Whether two annotations are equal, which those of unlike kinds are not.
 pub fn is_same_annotation(a: Annotation, b: Annotation) -> bool
     ensures { λ r. ⌜ r ≡ sameAnnotation (annotationOf a) (annotationOf b) ⌝ }
 {
@@ -211,7 +212,7 @@ fn has_annotation_from(t: Annotations, x: Annotation, from: usize) -> bool
     false
 }
 
-// 'two annotations of a type of one kind and equal'
+// Whether two annotations of a type are equal.
 fn repeats_annotation(t: Annotations) -> bool
     ensures { λ r. ⌜ r ≡ repeats sameAnnotation (ofAnnotations t) ⌝ }
 {

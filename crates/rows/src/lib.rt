@@ -1,4 +1,4 @@
-// Sets of numbers below 256 as rows of bits: 'a dom set a row of bits'. A set of words is held so too.
+// Sets of numbers below 256 as rows of bits: dom sets, and sets of words.
 ghost use mathlib.Core.Path.{_≡_};
 ghost use Prim.Native.Nat.{_<_, _≤_};
 ghost use Rattle.rows.specs.Next.{Next, NextBit};

@@ -33,7 +33,7 @@ pub struct TypesRead {
     pub items: [TypeInfo; 64],
 }
 
-// 01: 'Version 4 (is 1)'.
+// A sheet begins with its version, which is 1 (FORMAT 2.2).
 pub fn read_version(s: &[u8], c: Cursor) -> Opening
     requires { ⌜ length (now s) ≤ 40960 ⌝ }
     ensures { λ r. ⌜ ofOpening (bitsOf (now (s .entry))) r ≡ version (drop (c .at) (bitsOf (now (s .entry)))) ⌝ }
@@ -116,7 +116,7 @@ fn read_each_type(s: &[u8], c: Cursor, limit: usize, n: usize) -> TypesRead
     read
 }
 
-// 01: 'types, N 7 (0 to 64)'.
+// The types of a sheet, at most 64 (FORMAT 2.2).
 pub fn read_types(s: &[u8], c: Cursor, limit: usize) -> TypesRead
     requires { ⌜ (length (now s) ≤ 40960) × (limit ≤ 255) ⌝ }
     ensures { λ r. ⌜ (ofTypesRead (bitsOf (now (s .entry))) r ≡ counted 7 0 64 (typeInfo limit) (drop (c .at) (bitsOf (now (s .entry))))) × Noted (typesIn r) (namesIn r) (r .twice) ⌝ }
@@ -127,7 +127,8 @@ pub fn read_types(s: &[u8], c: Cursor, limit: usize) -> TypesRead
     }
 }
 
-// 01, refusal 7: 'fill not zero, or more bytes'. Fewer than 8 bits are left exactly if no byte follows, and they are read as one field.
+// Refusal 7: something other than zero bits to the end of the byte stands behind the last field (FORMAT 2.11). Fewer than 8
+// bits are left exactly if no byte follows, and they are read as one field.
 pub fn is_bad_fill(s: &[u8], c: Cursor) -> bool
     requires { ⌜ length (now s) ≤ 40960 ⌝ }
     ensures { λ r. ⌜ r ≡ badFill (drop (c .at) (bitsOf (now (s .entry)))) ⌝ }

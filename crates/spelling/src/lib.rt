@@ -1,4 +1,4 @@
-// Words compared by their bytes, and refusal 5: 'words not ascending, or `resource` or `self` missing'.
+// Words compared by their bytes, and refusal 5: they do not ascend, or lack `resource` or `self` (FORMAT 1.2).
 use words::Word;
 use words::Words;
 ghost use mathlib.Core.Bool.{not, _||_};
@@ -45,7 +45,7 @@ fn is_same_word(a: Word, b: Word) -> bool
     }
 }
 
-// 01: 'Words ascend strictly by bytes'. The first byte that differs decides; a word comes before its extensions.
+// Whether a word comes before another. The first byte that differs decides; a word comes before its extensions.
 fn is_word_before(a: Word, b: Word) -> bool
     ensures { λ r. ⌜ r ≡ bytesBefore (wordOf a) (wordOf b) ⌝ }
 {

@@ -145,7 +145,7 @@ fn play_in_room(table: Table, types: Types, p: Parents, diagnosis: &mut [u8], tr
     play_most(table, types, p, diagnosis, trail)
 }
 
-// The rows of refusal 9: 'the first 256 rows', 'and no other byte'.
+// The rows of refusal 9: at most 256 are written, and no other byte changes (FORMAT 8.2).
 pub fn apply_associate_annotations(
     types: Types,
     extensions: Extensions,

@@ -89,7 +89,7 @@ fn with_class(g: Gathered, is_virtual: bool, m: records::Marks) -> Gathered
     }
 }
 
-// 'Virtual: T and all its classes are. Marks: those of the classes in turn, repeats kept.'
+// What the classes give the resource: whether all are virtual (FORMAT 4.6), and their marks (FORMAT 4.7).
 pub fn gather(t: Table, doms: Row, word: u8) -> Gathered
     requires { ⌜ Sound t ⌝ }
     requires { ⌜ (word < 255) × (length (marksOf (tableMap t) (classesOf doms word)) ≤ 448) ⌝ }
@@ -114,7 +114,7 @@ pub fn gather(t: Table, doms: Row, word: u8) -> Gathered
     g
 }
 
-// 'whose first parents are the class names'
+// The first parents of an own resource: its classes (FORMAT 4.3).
 fn class_parents(doms: Row, word: u8) -> Parents
     requires { ⌜ (word < 255) × (length (classesOf doms word) ≤ 8) ⌝ }
     ensures { λ r. ⌜ parentsOf r ≡ classesOf doms word ⌝ }
@@ -132,7 +132,7 @@ fn class_parents(doms: Row, word: u8) -> Parents
     r
 }
 
-// 'Its first parents are P.r for each direct parent P that associates r, ascending by P, each once.'
+// The first parents of an inherited resource: P.r for the types P of the row, in name order (FORMAT 4.4).
 fn inherited_parents(t: Table, parents: u64, word: u8) -> Parents
     requires { ⌜ (t .count ≤ 64) × (word < 255) × (length (namesIn t parents) ≤ 8) ⌝ }
     ensures { λ r. ⌜ parentsOf r ≡ map (λ P. dotted P word) (namesIn t parents) ⌝ }
@@ -209,7 +209,7 @@ fn with_extension(out: Parents, e: Extension, n: Name, word: u8) -> Parents
     out
 }
 
-// 'Then follow `resource` and the extension's parents for T.r.'
+// Behind the other parents go those that the extension of the name and the word adds (FORMAT 4.5).
 fn extension_parents(out: Parents, l: Extensions, n: Name, word: u8) -> Parents
     requires { ⌜ Short l ⌝ }
     requires { ⌜ out .count + length (givenBy (nameOf n) word (ofExtensions l)) ≤ 17 ⌝ }

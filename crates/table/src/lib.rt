@@ -1,5 +1,5 @@
-// What the synthesis and the schedule look up of the types and the extensions, in a compact form. 'Borrowed `&TypeInfo` becomes a type number': its place in name
-// order.
+// What the synthesis and the schedule look up of the types and the extensions, in a compact form. A type is a number, its
+// place in name order.
 use fields::Name;
 use records::Marks;
 use types::Extensions;
@@ -10,8 +10,8 @@ ghost use Rattle.fields.specs.Fields.{twoWords, nameOf};
 ghost use Rattle.annotations.specs.Reading.{domAt};
 ghost use Rattle.table.specs.Table.{Finds};
 
-// The first count types. A place more than there can be types is the place of a name that is not declared. The variant is 01's number: 0 domain, 1 resource,
-// 2 other.
+// The first count types. A place more than there can be types is the place of a name that is not declared. The variant is the
+// sheet's number (FORMAT 2.6).
 pub struct Table {
     pub resource: u8,
     pub count: usize,
@@ -24,7 +24,7 @@ pub struct Table {
     pub extensions: Extensions,
 }
 
-// 'Names compare by their bytes': by their words.
+// Whether two names are one, by their words (FORMAT 1.4).
 pub fn same_words(a: u8, b: u8, c: u8, d: u8) -> bool
     ensures { λ r. ⌜ r ≡ sameName (twoWords a b) (twoWords c d) ⌝ }
 {
@@ -34,7 +34,8 @@ pub fn same_words(a: u8, b: u8, c: u8, d: u8) -> bool
     false
 }
 
-// The place of the type of that name, or the count where none is declared. 'Lookup by name only.' The names are lent, since there is a call for each class.
+// The place of the type of that name, or the count where none is declared (FORMAT 1.5). The names are lent, since there is a
+// call for each class.
 pub fn find<'a>(firsts: &'a [u8; 65], seconds: &'a [u8; 65], count: usize, n: Name) -> usize
     requires { ⌜ count ≤ 64 ⌝ }
     ensures { λ r. ⌜ Finds (now (firsts .entry)) (now (seconds .entry)) count (nameOf n) r ⌝ }
@@ -49,7 +50,7 @@ pub fn find<'a>(firsts: &'a [u8; 65], seconds: &'a [u8; 65], count: usize, n: Na
     i
 }
 
-// 'a resource T.r whose class is `r`, or `dom.r`': the dom 0 is none, d + 1 the word d.
+// The class of a resource (FORMAT 4.2): the dom 0 is none, d + 1 the word d.
 pub fn class_name(dom: usize, word: u8) -> Name
     requires { ⌜ (dom < 256) × (word < 255) ⌝ }
     ensures { λ n. ⌜ nameOf n ≡ dotted (domAt dom) word ⌝ }

@@ -80,14 +80,14 @@ fn put_between(out: &mut [u8], to: usize, left: usize, b: u8) -> usize {
     if 1 < left { put(out, to, b) } else { to }
 }
 
-// 01: '`-` if none'.
+// An empty list is printed as `-` (FORMAT 9.2).
 fn put_if_none(out: &mut [u8], to: usize, count: usize) -> usize {
     if count == 0 { put(out, to, b'-') } else { to }
 }
 
 // ---- words
 
-// The bit behind the word that begins at `at`. 01: 'Each word: length 5 (1 to 31), then bytes'.
+// The bit behind the word that begins at `at`: a length of 5 bits, and so many bytes (FORMAT 2.4).
 fn behind_word(sheet: &[u8], at: usize) -> usize {
     let length = get(sheet, at, 5);
     if length.at < NOWHERE {
@@ -102,7 +102,8 @@ fn start_of(i: usize, count: usize, at: usize) -> usize {
     if i < count { at } else { NOWHERE }
 }
 
-// The bit at which each word of the sheet begins. 01: 'Version 4, then three lists, each its count and directly after it its entries: words, W 8'.
+// The bit at which each word of the sheet begins. The word list, led by its count of 8 bits, stands behind the version of 4
+// (FORMAT 2.2).
 fn index_words(sheet: &[u8], starts: &mut [usize]) {
     let count = get(sheet, 4, 8);
     let mut at = count.at;
@@ -160,7 +161,7 @@ fn put_flag(out: &mut [u8], listing: &[u8], p: Place) -> Place {
     Place { at: v.at, to }
 }
 
-// 01: 'A name is a word, a flag 1, and a second word if the flag is 1, written `a.b`.'
+// A name, with a dot between two words (FORMAT 1.3, 2.5).
 fn put_name(out: &mut [u8], sheet: &[u8], starts: &[usize], listing: &[u8], p: Place) -> Place {
     let q = put_word_field(out, sheet, starts, listing, p);
     let flag = get(listing, q.at, 1);
@@ -174,7 +175,7 @@ fn put_name(out: &mut [u8], sheet: &[u8], starts: &[usize], listing: &[u8], p: P
     put_word_field(out, sheet, starts, listing, Place { at: flag.at, to })
 }
 
-// 01: 'T: name.'
+// A `T` line (FORMAT 9.1).
 fn put_type(out: &mut [u8], sheet: &[u8], starts: &[usize], listing: &[u8], p: Place) -> Place {
     let a = put_text(out, p.to, b"T ");
     let q = put_name(out, sheet, starts, listing, Place { at: p.at, to: a });
@@ -182,7 +183,7 @@ fn put_type(out: &mut [u8], sheet: &[u8], starts: &[usize], listing: &[u8], p: P
     Place { at: q.at, to }
 }
 
-// 01: 'N in 7, names in order'.
+// A `T` line for each name; their number has 7 bits (FORMAT 6.1).
 fn put_types(out: &mut [u8], sheet: &[u8], starts: &[usize], listing: &[u8]) -> Place {
     let count = get(listing, 0, 7);
     let mut p = Place {
@@ -211,7 +212,7 @@ fn put_part(
     Place { at: q.at, to }
 }
 
-// 01: 'each a word count 2 (1 to 3) and its words'.
+// A parent: its count of words in 2 bits, and so many words (FORMAT 6.2).
 fn put_parent(
     out: &mut [u8],
     sheet: &[u8],
@@ -243,7 +244,7 @@ fn put_one_parent(
     Place { at: q.at, to }
 }
 
-// 01: 'parents 5', 'several joined by commas'.
+// The parents with commas between them; their count has 5 bits (FORMAT 6.2, 9.2).
 fn put_parents(
     out: &mut [u8],
     sheet: &[u8],
@@ -266,7 +267,7 @@ fn put_parents(
     p
 }
 
-// 01: '`derive:tag` with a decimal tag'.
+// `makelist`, or `derive:` and the tag (FORMAT 9.2).
 fn put_mark(out: &mut [u8], listing: &[u8], p: Place) -> Place {
     let derive = get(listing, p.at, 1);
     if derive.value == 0 {
@@ -285,7 +286,7 @@ fn put_one_mark(out: &mut [u8], listing: &[u8], p: Place, left: usize) -> Place 
     Place { at: q.at, to }
 }
 
-// 01: 'marks 9'.
+// The marks with commas between them; their count has 9 bits (FORMAT 6.2, 9.2).
 fn put_marks(out: &mut [u8], listing: &[u8], at: usize, to: usize) -> Place {
     let count = get(listing, at, 9);
     let start = put_if_none(out, to, count.value);
@@ -331,7 +332,7 @@ fn put_lists(out: &mut [u8], sheet: &[u8], starts: &[usize], listing: &[u8], p: 
     Place { at: r.at, to }
 }
 
-// 01: 'R: name, virtual, parents, marks'.
+// An `R` line (FORMAT 9.2).
 fn put_resource(out: &mut [u8], sheet: &[u8], starts: &[usize], listing: &[u8], p: Place) -> Place {
     let q = put_resource_name(out, sheet, starts, listing, p);
     let r = put_virtual(out, listing, q);
@@ -353,7 +354,7 @@ fn put_trait_and_word(
     Place { at: r.at, to }
 }
 
-// 01: 'E: type, virtual and trait, word.'
+// An `E` line (FORMAT 9.3).
 fn put_extension(
     out: &mut [u8],
     sheet: &[u8],
@@ -367,7 +368,7 @@ fn put_extension(
     put_trait_and_word(out, sheet, starts, listing, r)
 }
 
-// 01: 'items, each led by one bit'.
+// An item; its first bit says which of the two it is (FORMAT 6.2, 6.3).
 fn put_item(out: &mut [u8], sheet: &[u8], starts: &[usize], listing: &[u8], p: Place) -> Place {
     let lead = get(listing, p.at, 1);
     let q = Place {
@@ -381,7 +382,7 @@ fn put_item(out: &mut [u8], sheet: &[u8], starts: &[usize], listing: &[u8], p: P
     }
 }
 
-// 01: 'item count 16'.
+// A line for each item; their count has 16 bits (FORMAT 6.1).
 fn put_items(
     out: &mut [u8],
     sheet: &[u8],
@@ -411,7 +412,7 @@ fn put_row_second(out: &mut [u8], to: usize, sheet: &[u8], starts: &[usize], w: 
     put_word(out, a, sheet, starts, w)
 }
 
-// A space, and the word; 01: '`-` for absent'.
+// A space, and the word, or `-` where it is absent (FORMAT 9.4).
 fn put_row_first(
     out: &mut [u8],
     sheet: &[u8],
@@ -443,7 +444,7 @@ fn put_row_name(
     Place { at: w.at, to }
 }
 
-// 01: '`D` rows (kind, subject, other name, word)'.
+// A `D` line (FORMAT 9.4).
 fn put_row(out: &mut [u8], sheet: &[u8], starts: &[usize], diagnosis: &[u8], p: Place) -> Place {
     let kind = get(diagnosis, p.at, 8);
     let a = put_text(out, p.to, b"D ");
@@ -455,7 +456,7 @@ fn put_row(out: &mut [u8], sheet: &[u8], starts: &[usize], diagnosis: &[u8], p: 
     Place { at: s.at, to }
 }
 
-// 01: 'the count of rows written'.
+// A `D` line for each row that was written.
 fn put_rows(
     out: &mut [u8],
     sheet: &[u8],
@@ -473,14 +474,14 @@ fn put_rows(
     p.to
 }
 
-// 01: 'A refusal prints `refused` and its number'.
+// The line that a refusal begins with (FORMAT 9.4).
 fn put_refused(out: &mut [u8], number: usize) -> usize {
     let a = put_text(out, 0, b"refused ");
     let b = put_decimal(out, a, number);
     put(out, b, b'\n')
 }
 
-// 01: 'then `more` if flagged'.
+// A last line where more rows exist than were written (FORMAT 9.4).
 fn put_more(out: &mut [u8], to: usize, more: bool) -> usize {
     if more {
         put_text(out, to, b"more\n")

@@ -102,7 +102,7 @@ fn word_bits<'a>(
     item_bits::made_bits(f, site.place, w as u8, x)
 }
 
-// 'words ascending': those with a making.
+// The words with a making, ascending (FORMAT 5.3).
 pub fn type_bits<'a>(
     n: usize,
     words: &'a [u8; 180],

@@ -19,7 +19,7 @@ ghost use Rattle.definitions.specs.Reading.{typeInfo, extension};
 ghost use Rattle.types.specs.Types.{headingOf, head, body, ofHeadRead, typeInfoOf, ofTypeInfoRead, ofTypes};
 ghost use Rattle.types.specs.Extensions.{extensionOf, ofExtensionRead, ofExtensions, ofExtensionsRead};
 
-// What a type begins with. The variant is 01's number: 0 domain, 1 resource, 2 other.
+// What a type begins with. The variant is the sheet's number: 0 a domain, 1 a resource, 2 any other (FORMAT 2.6).
 pub struct Head {
     pub name: Name,
     pub variant: usize,
@@ -82,7 +82,7 @@ pub struct ExtensionsRead {
     pub extensions: Extensions,
 }
 
-// 01: 'A type: name; variant 2 (0 domain, 1 resource, 2 other); virtual 1; trait 1'.
+// The fields of a type record before its lists: name, variant and two flags (FORMAT 2.6).
 fn read_head(s: &[u8], c: Cursor, limit: usize) -> HeadRead
     requires { ⌜ (length (now s) ≤ 40960) × (limit ≤ 255) ⌝ }
     ensures { λ r. ⌜ ofHeadRead (bitsOf (now (s .entry))) r ≡ head limit (drop (c .at) (bitsOf (now (s .entry)))) ⌝ }
@@ -140,7 +140,7 @@ fn type_refused(r: usize) -> TypeInfoRead
     }
 }
 
-// 01: 'parents 4 (0 to 8), names; annotations 4 (0 to 12); marks 3 (0 to 7).'
+// The three lists of a type record: parents, annotations, marks (FORMAT 2.6).
 fn read_body(s: &[u8], c: Cursor, limit: usize, h: Head) -> TypeInfoRead
     requires { ⌜ (length (now s) ≤ 40960) × (limit ≤ 255) ⌝ }
     ensures { λ r. ⌜ ofTypeInfoRead (bitsOf (now (s .entry))) r ≡ body limit (headingOf h) (drop (c .at) (bitsOf (now (s .entry)))) ⌝ }
@@ -225,7 +225,7 @@ fn extension_refused(r: usize) -> ExtensionRead
     }
 }
 
-// 01: 'An extension: type name, resource word, parents 4 (1 to 8), names.'
+// An extension record (FORMAT 2.10).
 pub fn read_extension(s: &[u8], c: Cursor, limit: usize) -> ExtensionRead
     requires { ⌜ (length (now s) ≤ 40960) × (limit ≤ 255) ⌝ }
     ensures { λ r. ⌜ ofExtensionRead (bitsOf (now (s .entry))) r ≡ extension limit (drop (c .at) (bitsOf (now (s .entry)))) ⌝ }
@@ -307,7 +307,7 @@ fn read_each_extension(s: &[u8], c: Cursor, limit: usize, n: usize) -> Extension
     }
 }
 
-// 01: 'extensions, 6 (0 to 32)'.
+// The extensions of a sheet, at most 32 (FORMAT 2.2).
 pub fn read_extensions(s: &[u8], c: Cursor, limit: usize) -> ExtensionsRead
     requires { ⌜ (length (now s) ≤ 40960) × (limit ≤ 255) ⌝ }
     ensures { λ r. ⌜ (ofExtensionsRead (bitsOf (now (s .entry))) r ≡ counted 6 0 32 (extension limit) (drop (c .at) (bitsOf (now (s .entry))))) × (r .extensions .count ≤ 32) ⌝ }

@@ -1,5 +1,5 @@
-// Which types the visit of the synthesis reaches, and in which order, as places in name order.
-// 'Each type is interpreted the first time it is reached, ancestors before it'
+// Which types the visit of the synthesis reaches, and in which order, as places in name order: each once, behind its
+// ancestors (FORMAT 8.6).
 use ordering::Parents;
 ghost use mathlib.Core.Path.{_≡_};
 ghost use Prim.Native.Nat.{_<_, _≤_};
@@ -95,7 +95,7 @@ fn no_trail() -> Trail
     }
 }
 
-// The types that are reached, 'types tried in name order'.
+// The types that are reached when all are tried in name order.
 pub fn trail_of(p: Parents) -> Trail
     requires { ⌜ Orderly p ⌝ }
     ensures { λ r. ⌜ TrailOf p r ⌝ }

@@ -54,7 +54,7 @@ fn within(b: usize, least: usize, most: usize) -> bool
     true
 }
 
-// 01: 'bytes A-Z, a-z, 0-9 or `_`'.
+// A letter, a digit or `_` (FORMAT 1.1).
 pub fn is_word_byte(b: usize) -> bool
     ensures { λ r. ⌜ r ≡ isWordByte b ⌝ }
 {
@@ -148,7 +148,7 @@ fn read_each_byte(s: &[u8], c: Cursor, n: usize) -> WordRead
     }
 }
 
-// 01: 'Each word: length 5 (1 to 31), then bytes'.
+// An entry of the word list: its length, 1 to 31, and so many bytes (FORMAT 2.4).
 pub fn read_word(s: &[u8], c: Cursor) -> WordRead
     requires { ⌜ length (now s) ≤ 40960 ⌝ }
     ensures { λ r. ⌜ ofWordRead (bitsOf (now (s .entry))) r ≡ word (drop (c .at) (bitsOf (now (s .entry)))) ⌝ }
@@ -210,7 +210,7 @@ fn read_each_word(s: &[u8], c: Cursor, n: usize) -> WordsRead
     }
 }
 
-// 01: 'words, W 8 (2 to 200)'.
+// The word list, of 2 to 200 words (FORMAT 2.2).
 pub fn read_words(s: &[u8], c: Cursor) -> WordsRead
     requires { ⌜ length (now s) ≤ 40960 ⌝ }
     ensures { λ r. ⌜ (ofWordsRead (bitsOf (now (s .entry))) r ≡ counted 8 2 200 word (drop (c .at) (bitsOf (now (s .entry))))) × (r .words .count ≤ 200) ⌝ }
