@@ -101,11 +101,11 @@ module _ (m : TypeMap) (n : ℕ) (table : List ℕ) (T : Table m n table) (row :
       any-upTo (hasIn table 0 row k) (λ a. hasBit row a && hasWord (given (declarationAt m a)) k) n (λ a h. ap (λ (b : Bool). hasBit row a && b) (T .words a h k))
       ∙ sym (any-types m n row (λ A. hasWord (given A) k))
 
-  -- 'each word r associated, nested or not, by a proper ancestor'
+  -- the words that proper ancestors associate (FORMAT 4.4)
   pub words-above : (out : Row) → United table 0 row n out → (k : ℕ) → has out k ≡ associateWord above k
   words-above out u k = u .bits k ∙ given-above k
 
-  -- 'Its classes come from every dom that any proper ancestor gives r, none first, then ascending.'
+  -- the doms that proper ancestors give r, in their order (FORMAT 4.4)
   pub doms-above : (r : ℕ) → r < 200 → Bounded (each given above) → (out : Row) → United table (r + 1) row n out → domsAbove above r ≡ domsOf out
   unfolding domsAbove
   doms-above r l b out u =
@@ -118,7 +118,7 @@ module _ (m : TypeMap) (n : ℕ) (table : List ℕ) (T : Table m n table) (row :
       ∙ sym (any-each g (λ A. ofWord r (given A)) above)
       ∙ sym (ap (any g) (filter-each (λ (v : Resource). eqb (v .word) r) given above)))
 
-  -- 'T and each r with a making': own has the words of the own Associates
+  -- the words with a making (FORMAT 4.8): own has the words of the own Associates
   pub words-made : (D : LineType) (own made : Row) → ((k : ℕ) → has own k ≡ hasWord (owned D) k) → WithMaking table own row n made
       → Bounded (owned D ++ each given above) → wordsMade D above ≡ below (has made) 200
   unfolding wordsMade
@@ -163,7 +163,7 @@ module _ (p : Parents) (m : TypeMap) (r : Reads p m) (passed : List ℕ) where
   pub record Passes : Type 0 where
     pub words : (a : ℕ) → a < p .count → (w : ℕ) → has (rowAt passed (4 * a)) w ≡ associateWord (declarationAt m a ∷ ancestors (lineMapOf m) (declarationAt m a)) w
 
-  -- 'Its first parents are P.r for each direct parent P that associates r, or has an ancestor that does, ascending by P, each once.'
+  -- the first parents of an inherited resource: P.r for the direct parents P that pass r on (FORMAT 4.4)
   pub parents-passing : Passes → (t w x : ℕ) → t < p .count → Passing p passed t w x
       → parentsAbove (lineMapOf m) (declarationAt m t) w ≡ map (λ a. dotted (typeAt m a .name) w) (ordering.below (hasBit x) (p .count))
   unfolding parentsAbove parentsOf lineTypeOf

@@ -32,7 +32,7 @@ use Rattle.access.specs.declared.Answer.{Answer}
 use Rattle.access.specs.Answers.{outcomeOf, inputOf}
 use Rattle.access.specs.Ending.{bitsFor, ended}
 
--- 'Refusals leave both slices untouched'
+-- refusals 1 to 7 leave both lent slices as they were (FORMAT 7.4)
 abbrev pub untouched : ℕ → List ℕ → List ℕ → Outcome
 untouched n l d = outcomeOf (Answer.Refused n) l d
 

@@ -20,12 +20,12 @@ use Rattle.packing.specs.Order.{nameAt}
 use Rattle.access.specs.declared.Answer.{Answer}
 use Rattle.access.specs.Answers.{outcomeOf}
 
--- '8 and 9 write the first 256 rows of their diagnosis and no other byte'
+-- 8 and 9: at most 256 rows are written, and no byte behind them changes (FORMAT 8.2)
 abbrev pub diagnosed : ℕ → List Row → List ℕ → List ℕ → Outcome
 diagnosed n rows listing diagnosis =
     outcomeOf (Answer.Diagnosed n (min 256 (length rows)) (ltb 256 (length rows))) listing (overwrite (each rowBytes (take 256 rows)) diagnosis)
 
--- '10 answers the needed size, acceptance the size written, leaving the diagnosis slice'
+-- 10 names the size that is needed and touches nothing; acceptance writes the bits and names their size (FORMAT 7.4)
 abbrev pub listed : List Bool → List ℕ → List ℕ → Outcome
 listed bits listing diagnosis =
     cond

@@ -12,7 +12,7 @@ use Rattle.synthesis_laws.specs.Statements.{MakesLines}
 use Rattle.access.specs.declared.Answer.{Answer}
 use Rattle.access.specs.Answers.{answerOf}
 
--- the listing has the schedule of the sheet that the bytes hold: 'each line of the map stands in it once and nothing else does'
+-- the listing has the schedule of the sheet that the bytes hold: each line of its map once, and nothing else (FORMAT 5.2)
 pub record Lists (bytes entry exit : List ℕ) : Type 0 where
   pub s : Sheet
   pub holds : Holds bytes s

@@ -34,7 +34,7 @@ pub record Started (ts : Types) (es : Extensions) (resource : ℕ) (p : Parents)
   pub s : Sheet
   pub starts : Starts s ts es resource p
 
--- the rows of the synthesis of a sheet, as they are reported: '8 and 9 write the first 256 rows of their diagnosis and no other byte'
+-- the rows of the synthesis of a sheet; refusal 9 writes at most 256 of them (FORMAT 8.2)
 abbrev pub rowsOf : Sheet → List Row
 rowsOf s = synthesis (typeMapOf s) .rows
 

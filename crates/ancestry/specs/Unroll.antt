@@ -1,4 +1,4 @@
--- In a map no two of whose types have one name, an ancestor of T is a parent of T or an ancestor of one.
+-- In a map no two of whose types have one name, the ancestors of T are its parents and their ancestors (FORMAT 3.1).
 use mathlib.Core.Bool.{Bool, true, _||_}
 use mathlib.Core.Logic.{_⊎_, inl, inr, ⊎-elim}
 use mathlib.Core.Path.{_≡_, refl, sym, subst}
@@ -26,7 +26,7 @@ abbrev pub OneName : LineMap → Type 0
 OneName m = (A B : LineType) → In A (m .types) → In B (m .types) → A .name ≡ B .name → A ≡ B
 
 module _ (m : LineMap) (one : OneName m) where
-  -- X is a parent of T, or above one
+  -- X is above T: it is a parent, or above a parent
   abbrev pub Above : LineType → LineType → Type 0
   Above T X = (P : LineType) × In P (parentsOf m T) × ((X ≡ P) ⊎ In X (ancestors m P))
 

@@ -15,7 +15,7 @@ use Rattle.annotations.specs.declared.AnnotationInfo.{AnnotationInfo}
 use Rattle.annotations.specs.declared.Part.{Part}
 use Rattle.annotations.specs.declared.Overlap.{Overlap}
 
--- a dom set as a row of bits, 'none first, then ascending': 0 is none, d + 1 the word d
+-- a dom set as a row of bits, in the order of doms (FORMAT 1.6): 0 is none, d + 1 the word d
 abbrev pub domAt : ℕ → Dom
 domAt zero = []
 domAt (suc d) = d ∷ []

@@ -81,7 +81,7 @@ small i n = go (sheet (bitsOf (i .sheet))) refl
         (λ (q : k ≡ 4). never (ap (refusedBy 4) (e ∙ ap refused q)) (n .1 .1 .1 .0))
         (refused-with-3-or-4 (bitsOf (i .sheet)) k e)
 
--- '10 answers the needed size, acceptance the size written'
+-- 10 and acceptance name the size of what the call writes (FORMAT 7.4)
 last : (i : Input) → NoneHolds (take 7 (refusals i)) → firstRefusal i (drop 9 (refusals i)) .answer .size ≤ most
 unfolding refusals firstRefusal reject accept typeMapIn pack
 last i n =

@@ -13,7 +13,7 @@ use Rattle.ancestry.specs.Rows.{Ancestors}
 use Rattle.above.specs.Above.{Table, Passes}
 use Rattle.filling.specs.Filling.{Blank}
 
--- 'types, N 7 (0 to 64)', each within its bounds
+-- at most 64 types (FORMAT 2.2), each within its bounds
 pub record TypesHeld (ts : Types) : Type 0 where
   pub count : ts .count ≤ 64
   pub type : (a : ℕ) → a < ts .count → TypeWithin 200 (typeInfoOf (itemAt ts a))

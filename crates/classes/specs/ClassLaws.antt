@@ -198,7 +198,7 @@ notes-both l a b variant r h e = record { adds = λ n. added-both l a b variant 
 
 -- ---- type by type
 
--- 'A resource is a type of that variant.'
+-- a resource has variant 1 (FORMAT 2.6)
 variant-one : (v : ℕ) → isResourceVariant (variantOf v) ≡ eqb v 1
 variant-one zero = refl
 variant-one (suc zero) = refl

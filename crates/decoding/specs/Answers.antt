@@ -20,6 +20,6 @@ decodedOf r = cond (r .ok) (whole (ofWords (r .words)) (mapIn r)) (turnedBack (r
 abbrev pub firstOf : ℕ → ℕ → ℕ
 firstOf a b = cond (eqb a 0) b a
 
--- 'then 7, 5, 6'; 0 where none holds
+-- 7 goes before 5, and 5 before 6 (FORMAT 7.3); 0 where none holds
 abbrev pub behind : Bool → Bool → Bool → ℕ
 behind fill words twice = cond fill 7 (cond words 5 (cond twice 6 0))

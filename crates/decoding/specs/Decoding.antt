@@ -17,11 +17,11 @@ pub data Decoding : Type 0 where
 abbrev pub wholeOf : Sheet → Decoding
 wholeOf s = whole (s .words) (typeMapOf s)
 
--- 'then 7, 5, 6'
+-- what is tested behind the last field: 7, 5, 6 (FORMAT 7.3)
 abbrev pub tested : Sheet → List Bool → Decoding
 tested s rest = cond (badFill rest) (turnedBack 7) (cond (badWords (s .words)) (turnedBack 5) (cond (somethingTwice s) (turnedBack 6) (wholeOf s)))
 
--- '3 and 4 by the first field read'
+-- 3 or 4 where reading ended early (FORMAT 2.1), otherwise the later tests
 abbrev pub ofParsed : Parsed Sheet → Decoding
 ofParsed (done s rest) = tested s rest
 ofParsed (refused n) = turnedBack n

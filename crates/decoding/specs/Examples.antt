@@ -17,12 +17,12 @@ unfoldable run : List ℕ → Decoding
 unfolding decoded insert sort odd toBits bitsOf fieldOnto allowed repeatOnto counted bytesBefore isWordByte word sheet badFill badWords namesTwice keysTwice wordsTwice annotationsTwice somethingTwice numberOf typeMapOf
 run bytes = decoded bytes
 
--- 'Words `resource`, `self` alone: 17 bytes'
+-- the two words that every sheet has, and nothing else
 two-words : run (hex 17 0x10243932b9b7bab931b291cd95b1980000) ≡ whole (resourceBytes ∷ selfBytes ∷ []) (record { resource = 0; self = 1; types = []; extensions = [] })
 unfolding run
 two-words = refl
 
--- 'a good sheet and 00'
+-- that sheet with a zero byte behind it
 one-more : run (hex 18 0x10243932b9b7bab931b291cd95b198000000) ≡ turnedBack 7
 unfolding run
 one-more = refl

@@ -26,7 +26,8 @@ stands e = not (none (e .words))
 unfoldable pub unlessEmpty : Entry → List Entry
 unlessEmpty e = filter stands (e ∷ [])
 
--- 'of each earlier entry its rest, then what it shares, and last the newcomer's rest'
+-- a newcomer joins: each earlier entry is split into its rest and what it shares; the newcomer's own rest goes last
+-- (FORMAT 8.9)
 unfoldable pub merge : List Entry → Entry → List Entry
 merge [] n = unlessEmpty n
 merge (a ∷ l) n = unlessEmpty (diff a n) ++ (unlessEmpty (inter a n) ++ merge l (diff n a))

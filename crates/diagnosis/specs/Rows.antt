@@ -11,7 +11,7 @@ use Rattle.ordering.specs.Rounds.{placed, final, listsSelf}
 use Rattle.ordering.specs.Names.{unplaced}
 use Rattle.ordering.specs.declared.Parents.{Parents}
 
--- 'A row is six bytes: kind, subject name, other name, resource word'; these rows have no resource word
+-- a row as its bytes (FORMAT 8.1), but for the last: these rows have no resource word
 pub record Row : Type 0 where
   pub kind : ℕ
   pub first : ℕ

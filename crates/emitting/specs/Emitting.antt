@@ -1,4 +1,5 @@
--- Rows written into a buffer, six bytes each: the first `limit`, with a count that stops one past it. 'the first 256 rows', 'a flag set exactly if more exist'
+-- Rows written into a buffer, six bytes each: the first `limit`, with a count that stops one past it, so that it tells
+-- whether there are more (FORMAT 8.2).
 use mathlib.Core.Bool.{Bool, true, false}
 use mathlib.Core.List.{List, [], _∷_, _++_}
 use mathlib.Core.Path.{_≡_, refl, sym, ap, _∙_}

@@ -70,8 +70,8 @@ module _ (i : Input) (e : i .settings ≡ standard) (a : held.Answer) (l d : Lis
 
 -- ---- demand 3
 
--- 'each call that takes a sheet answers alike: refusal number, or type order and set of lines, and in any case the size', for callers who lend as many numbers; and
--- the listings are equal where the lent ones were
+-- what relisted sheets have in common (FORMAT 5.5), for callers who lend as many numbers; and the listings are equal where
+-- the lent ones were
 pub record ExportedAlike (i j : Input) (x y : Exported) : Type 0 where
   pub number : x .number ≡ y .number
   pub size : getD (x .parts) 0 0 ≡ getD (y .parts) 0 0

@@ -46,7 +46,7 @@ pub record ExtensionsLaid (f : List ℕ) (l : Extensions) (n : ℕ) (g : List �
   pub at : (j : ℕ) → j < n → extensionOf (extensionIn g j) ≡ extensionOf (getD (l .items) j zeroExtension)
   pub keeps : Keeps f 1300 1940 g
 
--- 'extensions, 6 (0 to 32)', 'parents 4 (1 to 8)'
+-- at most 32 extensions (FORMAT 2.2), each with at most 8 parents (FORMAT 2.10)
 pub record FewExtensions (es : List records.Extension) : Type 0 where
   pub most : length es ≤ 32
   pub parents : (e : records.Extension) → In e es → length (e .parents) ≤ 8

@@ -43,7 +43,7 @@ pub record DomPlace (d r : ℕ) : Type 0 where
   pub small : r < 256
   pub place : r ≡ placeOfDom (optional d)
 
--- what a type associates, nested or not; without nested ones 'each resource of each own Associate'
+-- what a type associates (FORMAT 4.1); without the nested ones, what makes its own resources (FORMAT 4.3)
 abbrev pub givenBy : Bool → TypeInfo → List Resource
 givenBy true t = given (lineTypeOf (typeInfoOf t))
 givenBy false t = owned (lineTypeOf (typeInfoOf t))

@@ -59,7 +59,7 @@ pub record Stored (p : Parents) (m : TypeMap) (st : List ℕ) (a : ℕ) : Type 0
 
 -- ---- one parent
 
--- what a type hands on, under other names than its own: its own associates, then what it inherits, 'an inherited NestAssociate entering it as an Associate'
+-- what a type hands on, under other names than its own: its own associates, as Associates, then what it inherits (FORMAT 8.7)
 abbrev pub handsUnder : List Name → TypeInfo → List InheritedAnnotation → List InheritedAnnotation
 handsUnder ps T l = map (λ a. record { annotation = asAssociate a; parents = ps }) (ownAssociates T) ++ map (under′ ps) l
 
@@ -119,7 +119,7 @@ pub record Ready (p : Parents) (ts : Types) (st : List ℕ) (t flags : ℕ) : Ty
   pub most : length st < 1000000
   pub stored : StoredParents p (typeMapOf sheet) st t flags
 
--- what those with a flag hand on: one without 'passes nothing to that child at that listing'
+-- what those with a flag hand on; a listing at which the call of the parent failed has none (FORMAT 8.6)
 abbrev pub handedTo : TypeMap → Parents → ℕ → ℕ → List InheritedAnnotation
 handedTo m p t flags = gotFrom m (tab (hasBit flags) (howMany p t)) (listedParents m (typeAt m t))
 

@@ -104,7 +104,7 @@ module _ (s : Sheet) (ts : Types) (es : Extensions) (p : Parents) (h : HeldMap s
   pub names-once-held : namesTwice s ≡ false
   names-once-held = names-once s (h .readable .once)
 
-  -- 'Types sort by name.'
+  -- the types of a map stand in name order (FORMAT 1.4)
   pub names-ascend : ascends nameBefore (map (λ (T : TypeInfo). T .name) (typeMapOf s .types)) ≡ true
   names-ascend =
       let f : TypeInfo → Name = λ T. T .name in

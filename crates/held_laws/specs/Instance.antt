@@ -1,5 +1,6 @@
--- A sheet and its map as the code holds it: `HeldMap` is no empty demand. It is 01's example: `base` (domain, associates `file`), `file` (virtual resource under
--- `resource`, mark makelist) and `resource` (resource variant), with an extension for `base` and `file`. The sheet lists the types in another order.
+-- A sheet and its map as the code holds it: `HeldMap` is no empty demand. It is the worked example: the domain `base`, which
+-- associates `file`; the virtual resource `file`, with a mark and the parent `resource`; the resource `resource`; and an
+-- extension for `base` and `file`. The sheet lists the types in another order.
 use mathlib.Core.Bool.{true, false}
 use mathlib.Core.List.{List, [], _∷_, _++_, List·Memᴰ·not-nil}
 use mathlib.Core.Path.{_≡_, refl}

@@ -108,7 +108,7 @@ module _ (x : TypeInfo) (w : TypeWithin 200 (typeInfoOf x)) where
   unfolding typeInfoOf ofAnnotations
   annotation-in i l = places-in annotationOf zeroAnnotation (x .annotations .items) (x .annotations .count) i l
 
-  -- 'a word within an associate' stands there once
+  -- no word stands twice within an associate (FORMAT 2.12)
   pub all-fit : any (λ (a : records.Annotation). repeats (λ (u v : Resource). eqb (u .word) (v .word)) (resourcesOf a)) (typeInfoOf x .annotations) ≡ false → AllFit x
   all-fit once =
       record {
@@ -146,7 +146,7 @@ module _ (s : Sheet) (ts : Types) (es : Extensions) (p : Parents) (h : HeldMap s
   pub type-within : (i : ℕ) → i < ts .count → TypeWithin 200 (typeInfoOf (getD (ts .items) i zeroType))
   type-within i l = subst (TypeWithin 200) (sym (type-at s ts es p h i l)) (within-at i l)
 
-  -- 'A name is a word, a flag 1, and a second word if the flag is 1'
+  -- a name has one word or two (FORMAT 1.3)
   pub name-within : (i : ℕ) → i < ts .count → NameWithin 200 (typeAt (typeMapOf s) i .name)
   name-within i l = within-at i l .name
 
@@ -202,7 +202,7 @@ module _ (s : Sheet) (ts : Types) (es : Extensions) (p : Parents) (h : HeldMap s
   pub held-extensions : ofExtensions es ≡ typeMapOf s .extensions
   held-extensions = h .extensions ∙ sym extensions-are
 
-  -- 'a key among extensions' stands there once
+  -- no two extensions have one key (FORMAT 2.12)
   pub keys-once : repeats (λ (e f : records.Extension). sameName (e .name) (f .name) && eqb (e .word) (f .word)) (typeMapOf s .extensions) ≡ false
   unfolding typeMapOf somethingTwice keysTwice
   keys-once =

@@ -17,11 +17,11 @@ use Rattle.table.specs.Table.{tableMap}
 abbrev pub className : ℕ → ℕ → Name
 className word k = dotted (domAt k) word
 
--- '4 unknown class'
+-- a class that is not declared: kind 4 (FORMAT 8.10)
 abbrev pub isUnknown : Table → Name → Bool
 isUnknown t c = null (declared (tableMap t) c)
 
--- '5 first class that is no resource'
+-- a declared class of another variant than a resource's: kind 5 (FORMAT 8.10)
 abbrev pub isOther : Table → Name → Bool
 isOther t c = not (isResource (tableMap t) c)
 

@@ -86,7 +86,7 @@ module _ (t : Table) (s : Sound t) (doms : Row) (word k r : ℕ) (c : ClassAt (t
       (λ e. rw (e, declared-at t s (className word k) r (c .found e)) (by (ltb r (t .count)) (λ p. rw p) (λ p. rw p)))
       (λ e. rw e)
 
-  -- 'A resource is a type of that variant.'
+  -- a resource has variant 1 (FORMAT 2.6)
   pub other-at : (ltb r (t .count) && not (eqb (getD (t .variants) r 0) 1)) ≡ (has doms k && isOther t (className word k))
   unfolding declarationAt
   other-at =

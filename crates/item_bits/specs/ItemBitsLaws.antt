@@ -55,7 +55,7 @@ module _ (t : Table) (T r : ℕ) (doms : Row) (ps : ℕ) where
       itemBits (created t T r doms ps) ≡ headBits n r v ps′ ++ (toBits 9 (length marksMade) ++ each markBits marksMade)
   created-as n ps′ v e f g = rw (e, f, g) (ap itemBits parts ∙ making-is (nameAt t T) r virtualMade parentsMade marksMade)
 
-  -- 'parents 5', of which there are at most 17
+  -- a making has at most 17 parents (FORMAT 6.2)
   pub parents-few : Fits t T r doms ps → (p : Parents) → making.parentsOf p ≡ parentsMade → p .count ≤ 17
   parents-few f p e = omega (arith, f .firsts, f .added, length-parentsOf p, simp length-append at (ap length e))
 

@@ -59,7 +59,7 @@ typeKeys t = places typeKey zeroType (t .items) (t .count)
 unfoldable pub extensionKeys : Extensions → List Key
 extensionKeys t = places extensionKey zeroExtension (t .items) (t .count)
 
--- 'a name twice among types, a key among extensions'
+-- what may not stand twice: the name among types, name and word among extensions (FORMAT 2.12)
 abbrev pub sameTypeName : records.TypeInfo → records.TypeInfo → Bool
 sameTypeName T U = sameName (T .name) (U .name)
 

@@ -94,7 +94,7 @@ types-is s T = sort-is (λ (T U : TypeInfo). nameBefore (T .name) (U .name)) (s 
 pub types-apart : (s : Sheet) → namesTwice s ≡ false → NamesApart (typeMapOf s .types)
 types-apart s e = perm-sorted (λ (T U : TypeInfo). T .name ≡ U .name → ⊥) (λ T U h q. h (sym q)) (types-perm s) (names-apart s e)
 
--- 'Types sort by name.'
+-- the types of a map stand in name order (FORMAT 1.4)
 pub types-ascend : (s : Sheet) → namesTwice s ≡ false → NamesAscend (typeMapOf s .types)
 unfolding typeMapOf
 types-ascend s e = sort-sorted name-strict (λ (T : TypeInfo). T .name) (s .types) (names-apart s e)

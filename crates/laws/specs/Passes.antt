@@ -140,7 +140,7 @@ module _ (m : TypeMap) where
   placed-short : (k : ℕ) → length (passes m k .placed) ≤ length (m .types)
   placed-short k = omega (arith, length-append (passes m k .placed) (passes m k .waiting), perm-length (passes-perm k))
 
-  -- 'after as many rounds as there are types no further round places one'
+  -- after as many rounds as there are types, no further round places one
   last-stuck : Stuck (length (m .types))
   last-stuck = ⊎-elim (λ e. e) (λ h. absurd (omega (arith, placed-short (suc (length (m .types)))))) (progress (length (m .types)))
 

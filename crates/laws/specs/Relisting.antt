@@ -1,4 +1,4 @@
--- Relisted sheets: the order of the type records, and the order and repeats of parents, do not matter.
+-- Relisted sheets: neither the order of type records nor that of parents matters, nor how often a parent is listed.
 use mathlib.Core.Bool.{Bool, true, false, _&&_, _||_, not, cond}
 use mathlib.Core.List.{List, [], _∷_, _++_, map}
 use mathlib.Core.Path.{_≡_, refl, sym, ap, ap₂, _∙_, subst}

@@ -25,7 +25,7 @@ pub record WellNamed (s : Sheet) : Type 0 where
 abbrev pub OrderExists : Type 0
 OrderExists = (s : Sheet) → WellNamed s → (hasOrder (typeMapOf s) ≡ true) ↔ HasOrder s
 
--- 'Round of a type: the longest chain of parents above it. Order: round, then name.'
+-- the rounds find the order: by the longest chain of parents, then by name (FORMAT 3.3, 3.4)
 abbrev pub OrderIsByRound : Type 0
 OrderIsByRound = (s : Sheet) → WellNamed s → HasOrder s → IsOrder s (lastPass (typeMapOf s) .placed)
 
@@ -46,7 +46,7 @@ pub data Reaches (m : TypeMap) : List Name → TypeInfo → Type 0 where
   onward : {path : List Name} {T U : TypeInfo} {p : Name} → Reaches m path T → In p (T .parents) → isBad m (T .name ∷ path) p ≡ false → In U (typeNamed m p)
       → Reaches m (T .name ∷ path) U
 
--- 'if no type was ready, the cycle diagnosis replaces it': the cycle diagnosis is what refusal 8 answers with
+-- refusal 8 answers with rows of kinds 2 and 3: no parent is `self`, or no type was ready in round one (FORMAT 8.5)
 abbrev pub CycleDiagnosis : TypeMap → Type 0
 CycleDiagnosis m = (inheritsSelf m && not (null (passes m 1 .placed))) ≡ false
 

@@ -53,7 +53,7 @@ gives-of : {A : TypeInfo} {u : Resource} → Gives A u → In u (each resourcesO
 gives-of (plainly rs i j) = each-in resourcesOf i j
 gives-of (nested rs i j) = each-in resourcesOf i j
 
--- 'A type associates r when an annotation of its own does, nested or not.'
+-- what a type associates, nested or not (FORMAT 4.1)
 pub given-is : (A : TypeInfo) (u : Resource) → In u (given (lineTypeOf A)) ↔ Gives A u
 unfolding given lineTypeOf
 given-is A u = (λ i. let x = each-of resourcesOf (A .annotations) i in gives-in (x .0) (x .1) (x .2), gives-of)
@@ -73,7 +73,7 @@ own-at (inherit ns) p k = absurd (List·Memᴰ·not-nil k)
 own-at (derive t) p k = absurd (List·Memᴰ·not-nil k)
 own-at noDerive p k = absurd (List·Memᴰ·not-nil k)
 
--- 'each resource of each own Associate'
+-- what makes a type's own resources (FORMAT 4.3)
 pub owned-of : (T : TypeInfo) {u : Resource} → In u (owned (lineTypeOf T)) → (i j : ℕ) × OwnResource T i j u
 unfolding owned lineTypeOf
 owned-of T k =
@@ -128,7 +128,7 @@ module _ (s : Sheet) (ok : Readable s) (T : TypeInfo) where
         (Memᴰ·map (λ (u : Resource). u .dom) (word-is r (each given above) (h .resource) .1 (above-is (h .resource) .1 (h .by, h .above, h .gives), h .word))),
   )
 
-  -- 'Its classes come from every dom that any proper ancestor gives r, none first, then ascending.'
+  -- the doms that proper ancestors give r, in their order (FORMAT 4.4)
   pub doms-are : (r : ℕ) → DomsAbove s T r (domsAbove above r)
   unfolding domsAbove
   doms-are r = record {
@@ -172,7 +172,7 @@ pub parents-above-is : (m : LineMap) (T : LineType) (r : ℕ) → parentsAbove m
 unfolding parentsAbove
 parents-above-is m T r = sym (map-map (λ (n : Name). dotted n r) (λ (P : LineType). P .name) (passing m T r))
 
--- 'P.r for each direct parent P that associates r, or has an ancestor that does, ascending by P, each once'
+-- the direct parents that pass r on, ascending, each once (FORMAT 4.4)
 pub parents-above-are : (s : Sheet) → Readable s → (T : TypeInfo) (r : ℕ) → ParentsAbove s T r (namesPassing (lineMap s) (lineTypeOf T) r)
 unfolding parentsOf
 parents-above-are s ok T r =

@@ -39,7 +39,7 @@ module _ (s : Sheet) (ok : Readable s) where
   pub types-ascending : NamesAscend (typeMapOf s .types)
   types-ascending = types-ascend s (names-once s (ok .once))
 
-  -- 'Lookup by name only': two types of one name are one
+  -- two types of one name are one (FORMAT 1.5)
   pub one-type : {T U : TypeInfo} → In T (s .types) → In U (s .types) → T .name ≡ U .name → T ≡ U
   one-type i j e = one-key (λ (T : TypeInfo). T .name) (s .types) (names-apart s (names-once s (ok .once))) i j e
 

@@ -162,11 +162,11 @@ places-of {A} p (x ∷ l) i =
 abbrev Made : Type 0
 Made = Source × Item
 
--- 'each resource of each own Associate makes a resource T.r'
+-- what the resources of an own Associate make (FORMAT 4.3)
 abbrev ownMade : LineMap → LineType → ℕ × Annotation → List Made
 ownMade m T a = map (λ (u : ℕ × Resource). (Source.own (a .0) (u .0), ownResource m T (u .1 .word) (dotted (u .1 .dom) (u .1 .word)))) (places (associateOf (a .1)))
 
--- 'each word r associated, nested or not, by a proper ancestor makes one T.r'
+-- what a word associated above makes (FORMAT 4.4)
 abbrev inheritedMade : LineMap → LineType → List LineType → ℕ → Made
 inheritedMade m T As r = (Source.inherited r, inheritedResource m T As r)
 

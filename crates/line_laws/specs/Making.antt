@@ -131,7 +131,7 @@ module _ (s : Sheet) (ok : Readable s) where
       let t = type-of s (x .0) in
       subst (λ (D : LineType). D .virtual ≡ true) (t .2) (h (t .0) (t .1) (ap (λ (D : LineType). D .name) (t .2) ∙ x .1)))
 
-  -- 'Virtual: T and all its classes are.'
+  -- virtual exactly if T and all classes are (FORMAT 4.6)
   pub virtual-is : (T : TypeInfo) (cs : List Name) → ((T .virtual && allVirtual (lineMap s) cs) ≡ true) ↔ AllVirtual s T cs
   unfolding allVirtual
   virtual-is T cs =
@@ -172,7 +172,7 @@ module _ (s : Sheet) (ok : Readable s) where
 
 -- ---- classes
 
--- '`r`, or `dom.r`'; 'P.r'
+-- the names of classes and of first parents: `r`, `dom.r` and P.r (FORMAT 4.2, 4.4)
 pub dotted-of : {r : ℕ} {ds : List Dom} {cs : List Name} → Dotted r ds cs → cs ≡ classNames ds r
 dotted-of end = refl
 dotted-of (and e d) = ap₂ (λ c cs. c ∷ cs) e (dotted-of d)

@@ -31,7 +31,7 @@ module _ (s : Sheet) (ok : Readable s) (T : TypeInfo) where
   abbrev classes : List Name
   classes = classesOf (lineTypeOf T) (above s ok T)
 
-  -- 'a class is undeclared'
+  -- the first ground: a class that is not declared (FORMAT 4.9)
   pub undeclared-is : (any (λ c. null (declared (lineMap s) c)) classes ≡ true) ↔ ((c : Name) × ClassOf s T c × ((D : TypeInfo) → In D (s .types) → D .name ≡ c → ⊥))
   undeclared-is = (
     λ e. let x = any-of (λ c. null (declared (lineMap s) c)) classes e in (x .0, classes-are s ok T (x .0) .0 (x .1), declared-none s ok (x .0) (x .2)),
@@ -48,7 +48,7 @@ module _ (s : Sheet) (ok : Readable s) (T : TypeInfo) where
   unfolding lineTypeOf
   resource-is i e = rw (declared-one s ok i e)
 
-  -- 'or no resource'; an undeclared class is no ground of this kind
+  -- the second: a class of another variant; an undeclared class is no ground of this kind
   pub no-resource-is : (any (λ c. not (isResource (lineMap s) c)) classes ≡ true)
       ↔ ((c : Name) × (D : TypeInfo) × ClassOf s T c × In D (s .types) × (D .name ≡ c) × (D .variant ≡ Variant.resource → ⊥))
   no-resource-is =
@@ -66,7 +66,7 @@ module _ (s : Sheet) (ok : Readable s) (T : TypeInfo) where
             (ap not (not-so (λ e. h .5 (variant-is (h .1 .variant) (and-left (isResourceVariant (h .1 .variant)) true (sym (resource-is (h .3) (h .4)) ∙ e)))))),
       )
 
-  -- 'T.r is a declared type'
+  -- the third: a word with a making whose T.r is declared
   pub declared-is : (any (λ r. not (null (declared (lineMap s) (dotted (T .name) r)))) (wordsMade (lineTypeOf T) (above s ok T)) ≡ true)
       ↔ ((r : ℕ) × (D : TypeInfo) × HasMaking s T r × In D (s .types) × (D .name ≡ T .name ++ (r ∷ [])))
   declared-is =

@@ -1,4 +1,4 @@
--- `sameItem` is equality: 'two lines are the same when every field is, parents and marks in their order'.
+-- `sameItem` is equality: two items are the same if all their fields are (FORMAT 5.1).
 use mathlib.Core.Bool.{Bool, true, false, _&&_, Bool·beq}
 use mathlib.Core.List.{List, [], _∷_}
 use mathlib.Core.Path.{_≡_, refl, sym, ap, _∙_}

@@ -40,14 +40,14 @@ AllDeclared s cs = (c : Name) → In c cs → Declared s c
 
 -- ---- ancestors (Ancestors.antt)
 
--- the computed ancestors are the declarations of 'a parent of T or a proper ancestor of one'
+-- the computed ancestors of T are its proper ancestors (FORMAT 3.1)
 abbrev pub AncestorsAre : Type 0
 AncestorsAre = (s : Sheet) → Readable s → (T : TypeInfo) (X : LineType)
     → In X (ancestors (lineMap s) (lineTypeOf T)) ↔ ((A : TypeInfo) × Ancestor s A T × (lineTypeOf A ≡ X))
 
 -- ---- parent by parent (Unroll.antt)
 
--- an ancestor of T is a parent of T or an ancestor of one, in the computed lists
+-- the computed ancestors of T are its parents and their ancestors
 abbrev pub AncestorsUnroll : Type 0
 AncestorsUnroll = (s : Sheet) → Readable s → (T : TypeInfo) (X : LineType)
     → In X (ancestors (lineMap s) (lineTypeOf T))
@@ -74,7 +74,7 @@ Accepted s = (T : TypeInfo) → In T (s .types) → Refused s T → ⊥
 abbrev pub ClassesDeclared : Sheet → Type 0
 ClassesDeclared s = (T : TypeInfo) → In T (s .types) → (c : Name) → ClassOf s T c → Declared s c
 
--- 'The lines of an accepted map are the resources so made and the extension lines, over all its types, and no others.'
+-- the items of an accepted map are its lines (FORMAT 5.2)
 abbrev pub ItemsAreLines : Type 0
 ItemsAreLines = (s : Sheet) → Readable s → Accepted s → (x : Item) → In x (itemsOf (lineMap s)) ↔ LineOf s x
 
@@ -100,7 +100,7 @@ ItemsOnce = (s : Sheet) → Readable s → Accepted s → Distinct (itemsOf (lin
 abbrev pub classesOf : LineType → List LineType → List Name
 classesOf T As = map (λ (u : Resource). dotted (u .dom) (u .word)) (owned T ++ each given As)
 
--- 'T is refused if a class is undeclared or no resource, T.r is a declared type, or two of its makings are identical', tested
+-- the four grounds on which T is refused (FORMAT 4.9), tested
 unfoldable pub isRefused : LineMap → LineType → List LineType → Bool
 isRefused m T As =
     any (λ c. null (declared m c)) (classesOf T As)
@@ -119,7 +119,7 @@ NoneIdentical s T = (a b : Source) (x : Item) → (a ≡ b → ⊥) → Making s
 abbrev pub DeclaredFor : Sheet → TypeInfo → Type 0
 DeclaredFor s T = (c : Name) → ClassOf s T c → Declared s c
 
--- where every class of T is declared, no two of its makings are identical exactly if none of its items stands twice
+-- where every class of T is declared, its makings are all different exactly if none of its items stands twice
 abbrev pub IdenticalIsTwice : Type 0
 IdenticalIsTwice = (s : Sheet) → Readable s → (T : TypeInfo) → DeclaredFor s T
     → NoneIdentical s T ↔ Distinct (itemsFor (lineMap s) (lineTypeOf T) (ancestors (lineMap s) (lineTypeOf T)))

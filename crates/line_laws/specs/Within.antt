@@ -1,4 +1,5 @@
--- The limits that 'The sheet, bit by bit' sets, as facts about a sheet, and those of the items that follow. Nothing here computes.
+-- The limits of a sheet's fields (FORMAT 2), as facts about a sheet, and those of the items that follow (FORMAT 6). Nothing
+-- here computes.
 use mathlib.Core.List.{List}
 use Prim.Native.Nat.{ℕ, _+_, _*_, _≤_, _<_}
 use lib.ListN.{length}
@@ -8,32 +9,32 @@ use Rattle.definitions.specs.Checks.{resourcesOf}
 use Rattle.definitions.specs.Map.{typeMapOf, lineTypeOf, lineMapOf}
 use Rattle.definitions.specs.Items.{ancestors, ownClasses, domsAbove, parentsAbove, wordsMade, itemsFor}
 
--- a list of a to b words, each 'below W'
+-- a list of a to b words, each below W (FORMAT 2.5)
 pub record WordsWithin (W a b : ℕ) (n : List ℕ) : Type 0 where
   pub least : a ≤ length n
   pub most : length n ≤ b
   pub below : (w : ℕ) → In w n → w < W
 
--- 'A name is a word, a flag 1, and a second word if the flag is 1'
+-- a name has one word or two (FORMAT 1.3)
 abbrev pub NameWithin : ℕ → Name → Type 0
 NameWithin W n = WordsWithin W 1 2 n
 
--- 'each a word, dom flag 1, dom word if 1'
+-- a resource of an associate: its word, and at most one dom (FORMAT 2.8)
 pub record ResourceWithin (W : ℕ) (u : Resource) : Type 0 where
   pub word : u .word < W
   pub dom : WordsWithin W 0 1 (u .dom)
 
--- 'the two associates: count 4'
+-- an associate has at most 15 resources, since its count has 4 bits (FORMAT 2.7)
 pub record AnnotationWithin (W : ℕ) (a : Annotation) : Type 0 where
   pub resources : length (resourcesOf a) ≤ 15
   pub resource : (u : Resource) → In u (resourcesOf a) → ResourceWithin W u
 
--- 'a tag 8 for derive'
+-- a tag has 8 bits (FORMAT 2.9)
 abbrev pub MarkWithin : Mark → Type 0
 MarkWithin makelistMark = Unit {0}
 MarkWithin (deriveMark t) = t < 256
 
--- 'parents 4 (0 to 8), names; annotations 4 (0 to 12); marks 3 (0 to 7)'
+-- a type record has at most 8 parents, 12 annotations and 7 marks (FORMAT 2.6)
 pub record TypeWithin (W : ℕ) (T : TypeInfo) : Type 0 where
   pub name : NameWithin W (T .name)
   pub parents : length (T .parents) ≤ 8
@@ -43,14 +44,14 @@ pub record TypeWithin (W : ℕ) (T : TypeInfo) : Type 0 where
   pub marks : length (T .marks) ≤ 7
   pub mark : (k : Mark) → In k (T .marks) → MarkWithin k
 
--- 'An extension: type name, resource word, parents 4 (1 to 8), names.'
+-- an extension record has at most 8 parents (FORMAT 2.10)
 pub record ExtensionWithin (W : ℕ) (e : Extension) : Type 0 where
   pub name : NameWithin W (e .name)
   pub word : e .word < W
   pub parents : length (e .parents) ≤ 8
   pub parent : (p : Name) → In p (e .parents) → NameWithin W p
 
--- 'words, W 8 (2 to 200); types, N 7 (0 to 64); extensions, 6 (0 to 32)'
+-- a sheet has 2 to 200 words, at most 64 types and at most 32 extensions (FORMAT 2.2)
 pub record Within (s : Sheet) : Type 0 where
   pub least : 2 ≤ length (s .words)
   pub words : length (s .words) ≤ 200
@@ -69,7 +70,7 @@ pub record CountsWithin (s : Sheet) (T : TypeInfo) : Type 0 where
   pub parents : (r : ℕ) → length (parentsAbove (lineMapOf (typeMapOf s)) (lineTypeOf T) r) ≤ 8
   pub items : length (itemsFor (lineMapOf (typeMapOf s)) (lineTypeOf T) (ancestors (lineMapOf (typeMapOf s)) (lineTypeOf T))) ≤ 12 * 15 + 200 + 200
 
--- 'parents 5, each a word count 2 (1 to 3) and its words; marks 9': what the fields of an item hold
+-- what the fields of an item hold: at most 17 parents of one to three words, at most 448 marks (FORMAT 6.2, 6.3)
 abbrev pub ItemWithin : ℕ → Item → Type 0
 ItemWithin W (synthesized n r v ps ms) = record {
   type : NameWithin W n;

@@ -96,7 +96,7 @@ module _ (t : Table) where
   unfolding declarationAt
   few-marks s i h = omega (arith, length-ofMarks (getD (t .marks) i zeroMarks), s .marks i h)
 
-  -- 'marks 9': the classes of a word are types at different places, at most 64 of at most 7 marks
+  -- the classes of a word are types at different places: at most 64, of at most 7 marks each
   pub marks-fit : Sound t → (doms : Row) (r : ℕ) → length (marksOf (tableMap t) (classesOf doms r)) ≤ 448
   marks-fit s doms r =
       let l = classPlaces doms r in
@@ -141,7 +141,7 @@ module _ {m : TypeMap} {t : Table} (o : TableOf m t) where
         o .sound .parents (r .0) (r .1),
       )
 
-  -- 'parents 4 (1 to 8)'
+  -- an extension has at most 8 parents (FORMAT 2.10)
   pub named-added-fits : (n : Name) (r : ℕ) → length (extensionParents (tableMap t) n r) ≤ 8
   unfolding extensionParents tableMap
   named-added-fits n r =

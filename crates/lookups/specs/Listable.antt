@@ -18,8 +18,9 @@ use Rattle.table.specs.Table.{declarationAt}
 use Rattle.lookup_laws.specs.Bare.{bare}
 use Rattle.lookups.specs.TableOf.{TableOf}
 
--- The types and the extensions of a sheet that tests 4 and 6 passed: 'types, N 7 (0 to 64)', 'marks 3 (0 to 7)', 'extensions, 6 (0 to 32)', 'parents 4 (1 to 8)'; no
--- two types have one name, no two extensions one type name and word.
+-- The types and the extensions of a sheet that tests 4 and 6 passed: at most 64 types of at most 7 marks each, at most 32
+-- extensions of at most 8 parents each (FORMAT 2.2, 2.6, 2.10); no two types have one name, no two extensions one type name
+-- and word (FORMAT 2.12).
 pub record Listable (l : List TypeInfo) (es : List Extension) : Type 0 where
   pub few : length l ≤ 64
   pub marks : (T : TypeInfo) → In T l → length (T .marks) ≤ 7

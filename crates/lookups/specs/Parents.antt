@@ -55,7 +55,7 @@ module _ (t : Table) (ps : ℕ) where
       let j = mathlib.Core.List.Memᴰ·map (nameAt t) (in-between (hasBit ps) i 0 (t .count) (omega arith) (omega arith) b) in
       List·Memᴰ·not-nil (subst (In (nameAt t i)) e j)
 
-  -- where there is one, the first parents are P.r for each
+  -- where there is one, the first parents are their P.r
   pub inherited-firsts : (i : ℕ) → i < t .count → hasBit ps i ≡ true → (doms : Row) (r : ℕ) → firstsOf t doms ps r ≡ map (λ P. dotted P r) (namesIn t ps)
   unfolding firstsOf
   inherited-firsts i h b doms r = go (namesIn t ps) (some-names i h b)

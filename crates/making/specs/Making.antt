@@ -28,7 +28,7 @@ parentAt t i = threeWords (getD (t .firsts) i 0) (getD (t .seconds) i 0) (getD (
 unfoldable pub parentsOf : Parents → List (List ℕ)
 parentsOf t = tabulate (parentAt t) (t .count)
 
--- 'A mark: 0 makelist, or 1 and a tag 8 for derive.'
+-- a mark by its two numbers (FORMAT 2.9)
 abbrev pub markAs : ℕ → ℕ → records.Mark
 markAs d t = cond (eqb d 1) (deriveMark t) makelistMark
 

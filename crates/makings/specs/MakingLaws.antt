@@ -62,7 +62,7 @@ module _ (s : Sheet) (ts : Types) (es : Extensions) (p : Parents) (table : List 
   below-types : t < ts .count
   below-types = omega (arith, count-parents s ts es p (h .map))
 
-  -- 'Its classes come from every dom that any proper ancestor gives r, none first, then ascending.'
+  -- the doms of an inherited word (FORMAT 4.4)
   doms-here : word < 200 → (doms : Row) → United table (word + 1) row (p .count) doms → domsAbove (ancestorsAt s t) word ≡ domsOf doms
   doms-here w doms u =
       doms-are p (typeMapOf s) (h .map .reads) table (h .gives) t row (h .over) word w (above-bounded s ts es p (h .map) t below-types) doms u
@@ -71,7 +71,7 @@ module _ (s : Sheet) (ts : Types) (es : Extensions) (p : Parents) (table : List 
     count-same : p .count ≡ tb .count
     count-same = h .map .reads .count ∙ sym (o .count)
 
-    -- 'Its first parents are P.r for each direct parent P that associates r, or has an ancestor that does, ascending by P, each once.'
+    -- the first parents of an inherited word (FORMAT 4.4)
     parents-here : (ps : ℕ) → Passing p passed t word ps
         → parentsAbove (lineMapOf (typeMapOf s)) (declarationAt (typeMapOf s) t) word ≡ map (λ a. dotted (typeAt (typeMapOf s) a .name) word) (ordering.below (hasBit ps) (tb .count))
     parents-here ps g =

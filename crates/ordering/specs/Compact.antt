@@ -32,7 +32,7 @@ compactOf m = record {
   «parent_seconds» = column 512 (each (λ (T : TypeInfo). column 8 (map secondWord (T .parents))) (m .types));
 }
 
--- '64 types or 8 parents pass', no word is 255, and no name stands twice
+-- at most 64 types, at most 8 parents each, no word is 255, and no name stands twice
 pub record Within (m : TypeMap) : Type 0 where
   pub most : length (m .types) ≤ 64
   pub word : m .self < 255

@@ -6,6 +6,6 @@ use Rattle.definitions.specs.Records.{Name}
 use Rattle.definitions.specs.Bits.{toBits}
 use Rattle.definitions.specs.Packing.{nameBits, parentBits, countedBits}
 
--- 'Bit 0, a synthesized resource: type name, resource word, virtual 1, parents 5'
+-- a synthesized resource up to its marks (FORMAT 6.2)
 unfoldable pub headBits : Name → ℕ → Bool → List Name → List Bool
 headBits n r v ps = false ∷ nameBits n ++ (toBits 8 r ++ (v ∷ countedBits 5 parentBits ps))

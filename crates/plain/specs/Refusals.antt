@@ -58,7 +58,7 @@ one-source T once {i} {j} {k} {l} {u} {w} o p e =
 
 -- ---- the first parent of an inherited making
 
--- some direct parent associates the word, or has an ancestor that does
+-- some direct parent passes the word on
 passing : {s : Sheet} {A T : TypeInfo} {r : ℕ} → Ancestor s A T → Associates A r → (P : TypeInfo) × Parent s P T × Passes s P r
 passing {A = A} (direct q) a = (A, q, inl a)
 passing {A = A} (further {P} q t) a = (P, q, inr (record { by = A; above = t; associates = a }))

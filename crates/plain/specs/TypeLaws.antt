@@ -72,7 +72,7 @@ own-once (inherit ns) s = s
 own-once (derive t) s = s
 own-once noDerive s = s
 
--- 'a word within an associate' stands there once
+-- no word stands twice within an associate (FORMAT 2.12)
 fit-once : (a : Annotation) → Fit a → Once (associateOf (annotationOf a))
 fit-once a f =
     own-once (annotationOf a)

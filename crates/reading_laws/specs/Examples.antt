@@ -20,7 +20,7 @@ use Rattle.definitions.specs.Cases.{hex}
 use Rattle.reading_laws.specs.Packed.{fill, pack-bytes}
 use Rattle.reading_laws.specs.RoundTrip.{fill-good, nothing-illegal-is-read}
 
--- ---- 'Words `resource`, `self` alone'
+-- ---- the two words that every sheet has, and nothing else
 
 abbrev pub alone : Sheet
 alone = record { words = resourceBytes ∷ selfBytes ∷ []; types = []; extensions = [] }
@@ -63,7 +63,8 @@ alone-legal = record {
 
 -- ---- the worked example
 
--- `base` (domain, associates `file`), `file` (virtual resource under `resource`, mark makelist) and `resource`; words base, file, resource, self
+-- the worked example: `base` associates `file`, which is virtual, has a mark and the parent `resource`; words base, file,
+-- resource, self
 abbrev pub worked : Sheet
 worked = record {
   words = (98 ∷ 97 ∷ 115 ∷ 101 ∷ []) ∷ (102 ∷ 105 ∷ 108 ∷ 101 ∷ []) ∷ resourceBytes ∷ selfBytes ∷ [];

@@ -136,7 +136,7 @@ field-only (suc n) v (b ∷ bs) = go (fieldOnto (2 * v + bit b) n bs) (field-onl
           ),
         )
 
--- 'widths in bits': a field of n bits holds the numbers below 2 ^ n
+-- a field of n bits holds the numbers below 2 ^ n (FORMAT 2.1)
 pub field-codes : (n : ℕ) → Codes (field n) (toBits n) (λ v. v < 2 ^ n)
 unfolding OntoField
 field-codes n = record {
@@ -212,7 +212,7 @@ module _ {A : Type 0} {m : Parser A} {enc : A → List Bool} {P : A → Type 0} 
       (λ l bits t. (x ∷ t .0, t .1 ∙ Seq.append-snoc xs x (t .0), ap suc (t .2), (p, t .3), ap (λ k. enc x ++ k) (t .4)))
       (only-repeat n (xs ++ (x ∷ []))))
 
-  -- 'each its count and directly after it its entries'
+  -- a count, and directly behind it so many entries (FORMAT 2.3)
   pub counted-codes : (n least most : ℕ) → most < 2 ^ n → Codes (counted n least most m) (countedBits n enc) (Counted least most P)
   unfolding counted OntoList
   counted-codes n least most h =

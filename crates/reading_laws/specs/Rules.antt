@@ -154,7 +154,7 @@ equal-same noDerive noDerive twoNoDerive = refl
 
 -- ---- refusal 6
 
--- a name twice among types, a key among extensions, a word within an associate
+-- what two entries of a list may not share: types a name, extensions a key, resources of an associate a word (FORMAT 2.12)
 abbrev OneName : TypeInfo → TypeInfo → Type 0
 OneName T U = T .name ≡ U .name
 

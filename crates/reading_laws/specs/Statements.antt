@@ -49,21 +49,21 @@ ReadExactly = (bits : List Bool) (s : Sheet) (rest : List Bool) → (sheet bits 
 abbrev pub RefusedWith3Or4 : Type 0
 RefusedWith3Or4 = (bits : List Bool) (r : ℕ) → sheet bits ≡ refused r → (r ≡ 3) ⊎ (r ≡ 4)
 
--- '3 and 4 by the first field read': 4 is refused whatever follows the bits.
+-- More bits do not change a refusal 4: the first field that is not allowed decides (FORMAT 2.1).
 abbrev pub FourStays : Type 0
 FourStays = (bits more : List Bool) → sheet bits ≡ refused 4 → sheet (bits ++ more) ≡ refused 4
 
 -- ---- what 7, 5 and 6 test (Rules.antt)
 
--- 'fill not zero, or more bytes'
+-- Test 7 passes exactly if fewer than 8 bits are left and all are zero (FORMAT 2.11).
 abbrev pub FillExactly : Type 0
 FillExactly = (rest : List Bool) → (badFill rest ≡ false) ↔ ((length rest < 8) × Every (λ b. b ≡ false) rest)
 
--- 'words not ascending, or `resource` or `self` missing'
+-- Test 5 passes exactly if the words ascend and `resource` and `self` are among them (FORMAT 1.2).
 abbrev pub WordsExactly : Type 0
 WordsExactly = (ws : List (List ℕ)) → (badWords ws ≡ false) ↔ GoodWords ws
 
--- 'a name twice among types, a key among extensions, a word within an associate; two annotations of a type of one kind and equal'
+-- Test 6 passes exactly if nothing stands twice that may not (FORMAT 2.12).
 abbrev pub TwiceExactly : Type 0
 TwiceExactly = (s : Sheet) → (somethingTwice s ≡ false) ↔ NothingTwice s
 
@@ -111,7 +111,7 @@ test6 i = somethingTwice (sheetOf (readOf i))
 abbrev pub Passes : List Bool → Type 0
 Passes l = Every (λ b. b ≡ false) l
 
--- 'Tests go 1, 2, then 3 and 4 by the first field read, then 7, 5, 6': each number exactly if its test holds and none before it does
+-- Each number exactly if its test holds and none before it does, in the order of the tests (FORMAT 7.3).
 pub record ExactlyIf (i : Input) : Type 0 where
   pub one : (outcome i .answer .number ≡ 1) ↔ (test1 i ≡ true)
   pub two : (outcome i .answer .number ≡ 2) ↔ (Passes (test1 i ∷ []) × (test2 i ≡ true))

@@ -3,7 +3,7 @@ use mathlib.Core.Path.{_≡_}
 use Rattle.definitions.specs.Answer.{Input, outcome}
 use Rattle.definitions.specs.Relisted.{RelistedInputs, Alike}
 
--- 'each call that takes a sheet answers alike: refusal number, or type order and set of lines, and in any case the size'
+-- both calls answer relisted sheets alike (FORMAT 5.5)
 abbrev pub AnswersAlike : Type 0
 AnswersAlike = (i j : Input) → RelistedInputs i j → Alike i j
 

@@ -196,7 +196,7 @@ pub no-rows : (words doms : List ℕ) → annotationOf (record { kind = 0; count
 unfolding annotationOf annotationAs
 no-rows words doms = refl
 
--- 'a word within an associate' or 'two annotations'
+-- one of two tests holds of an element exactly if one of them holds of the list
 pub any-or : {A : Type 0} (f g : A → Bool) (l : List A) → any (λ x. f x || g x) l ≡ (any f l || any g l)
 any-or f g [] = refl
 any-or f g (x ∷ l) = ap (λ (b : Bool). (f x || g x) || b) (any-or f g l) ∙ swap (f x) (g x) (any f l) (any g l)

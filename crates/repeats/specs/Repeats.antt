@@ -25,7 +25,7 @@ rowsOf a = ofNames (record { count = a .count; first = a .words; second = a .dom
 abbrev pub sameWord : Resource → Resource → Bool
 sameWord u v = eqb (u .word) (v .word)
 
--- 'a word within an associate'
+-- a word stands twice within an associate (FORMAT 2.12)
 unfoldable pub repeatsWord : AnnotationOf Resource → Bool
 repeatsWord a = repeats sameWord (resourcesOf a)
 
@@ -40,7 +40,7 @@ sameContent k a b =
     (cond (eqb k 4) (sameList (sameList eqb) (rowsOf a) (rowsOf b))
     (cond (eqb k 3 || eqb k 5) (eqb (wordOfRows (rowsOf a)) (wordOfRows (rowsOf b))) true))
 
--- 'a word within an associate; two annotations of a type of one kind and equal'
+-- what may not stand twice within a type: a word in an associate, an annotation (FORMAT 2.12)
 unfoldable pub repeatsIn : List (AnnotationOf Resource) → Bool
 repeatsIn l = any repeatsWord l || repeats sameAnnotation l
 

@@ -25,7 +25,7 @@ pub record Synthesizes (s : Sheet) (ts : Types) (es : Extensions) (resource : �
   pub held : HeldMap s ts es p
   pub word : resource ≡ typeMapOf s .resource
 
--- 'the first 256 rows of their diagnosis and no other byte', 'the count of rows written and a flag set exactly if more exist'
+-- the first 256 rows are written and counted, and it is said whether there are more (FORMAT 8.2)
 pub record Written (rs : List Row) (old new : List ℕ) (count : ℕ) (more : Bool) : Type 0 where
   pub bytes : new ≡ overwrite (each rowBytes (take 256 rs)) old
   pub counted : count ≡ min 256 (length rs)

@@ -1,4 +1,4 @@
--- 'Intersection' and 'difference': into which three sets the data of two annotations falls.
+-- Intersection and difference: into which three sets the data of two annotations falls.
 use mathlib.Core.Bool.{false, not}
 use mathlib.Core.List.{List, [], _∷_}
 use mathlib.Core.Logic.{inl, inr, ⊎-elim}
@@ -60,7 +60,7 @@ three-sets us vs = record {
 
 -- ---- two annotations
 
--- 'none if empty'
+-- an associate without resources is none (FORMAT 8.8), which has no resources either
 some-associate : (us : List AssociatedResource) → resourcesIn (someIf (not (null us)) (associate us)) ≡ us
 some-associate [] = refl
 some-associate (u ∷ us) = refl

@@ -362,7 +362,7 @@ module _ (s : Sheet) where
       abbrev pub handed : TypeInfo → List Entry
       handed T = handsOf (length (m .types)) m T
 
-      -- 'a type associates r, or has an ancestor that does'
+      -- what a type hands on is what it associates and what its ancestors do
       pub handed-says : (T : TypeInfo) → In T (s .types) → (r : ℕ) (o : Option Dom) → SaysIn (handed T) r (factOf o) ↔ (Own T r o ⊎ OwnAbove T r o)
       handed-says T i r o = (hands-of (length (m .types)) T r o, hands-in (length (m .types)) T (all-deep T i) r o)
 

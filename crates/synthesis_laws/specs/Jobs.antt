@@ -1,4 +1,5 @@
--- The makings of the synthesis are those of the items: an own one for each resource of each own Associate, an inherited one for each word associated above.
+-- The makings of the synthesis are those of the items: the own ones from the resources of the own Associates, an inherited
+-- one for each word associated above.
 use mathlib.Core.Bool.{Bool, true, _||_}
 use mathlib.Core.List.{List, [], _∷_, _++_, map, append-assoc, List·Memᴰ·not-nil, Memᴰ·cast, Memᴰ·append-left, Memᴰ·append-right, Memᴰ·map, Memᴰ·of-map, List·Permᴰ, List·Permᴰ·nil, List·Permᴰ·trans, Permᴰ·symm}
 use mathlib.Core.Logic.{_↔_}

@@ -30,7 +30,7 @@ abbrev pub resourcesIn : Option AnnotationInfo → List AssociatedResource
 resourcesIn none = []
 resourcesIn (some a) = resourcesOf a
 
--- 'all data falls into three sets': no word stands in two of them, and together they have every word and every dom of us and vs
+-- three sets: no word stands in two of them, and together they have every word and every dom of us and vs
 pub record ThreeSets (us vs left both right : List AssociatedResource) : Type 0 where
   pub leftShared : (r : ℕ) → hasAssociatedWord left r ≡ true → hasAssociatedWord both r ≡ true → ⊥
   pub leftRight : (r : ℕ) → hasAssociatedWord left r ≡ true → hasAssociatedWord right r ≡ true → ⊥

@@ -40,7 +40,7 @@ classesOf doms word = classNames (domsOf doms) word
 unfoldable pub namesIn : Table → ℕ → List Name
 namesIn t ps = map (nameAt t) (below (hasBit ps) (t .count))
 
--- the first parents: the classes of an own making, P.r for each direct parent P of an inherited one
+-- the first parents: the classes of an own making; of an inherited one, P.r for the direct parents P in the row
 unfoldable pub firstsOf : Table → Row → ℕ → ℕ → List Name
 firstsOf t doms ps word = firstParents (namesIn t ps) (classesOf doms word) word
 
@@ -49,7 +49,7 @@ pub record Gathers (t : Table) (doms : Row) (word : ℕ) (r : Gathered) : Type 0
   pub virtual : r .«all_virtual» ≡ allVirtual (tableMap t) (classesOf doms word)
   pub marks : making.marksOf (r .marks) ≡ marksOf (tableMap t) (classesOf doms word)
 
--- the bounds of a making: 'parents 5', of which there are at most 17, and 'marks 9', at most 448
+-- the bounds of a making: 8 first parents and 8 of the extension, 17 with `resource`; 448 marks (FORMAT 6.2)
 pub record Fits (t : Table) (T r : ℕ) (doms : Row) (ps : ℕ) : Type 0 where
   pub place : T < t .count
   pub word : r < 255

@@ -260,7 +260,7 @@ given-grown n r f i base acc acc′ p e =
 
 -- ---- the making
 
--- 'Then follow `resource` and the extension's parents for T.r.'
+-- the first parents, `resource`, then those that the extension adds (FORMAT 4.5)
 pub parents-all : (t : Table) (n : Name) (r : ℕ) (firsts with′ all′ : List Name) → with′ ≡ firsts ++ ((t .resource ∷ []) ∷ []) →
     all′ ≡ with′ ++ givenBy n r (ofExtensions (t .extensions)) → all′ ≡ firsts ++ (t .resource ∷ []) ∷ extensionParents (tableMap t) n r
 unfolding extensionParents tableMap

@@ -41,7 +41,7 @@ body W h = do
   ms ← counted 3 0 7 mark
   pure (record { name = h .name; variant = h .variant; virtual = h .virtual; trait = h .trait; parents = ps; annotations = as′; marks = ms })
 
--- 0 domain, 1 resource, 2 other
+-- the variant of a number (FORMAT 2.6)
 abbrev pub variantOf : ℕ → Variant
 variantOf v = getD (domain ∷ resource ∷ other ∷ []) v other
 

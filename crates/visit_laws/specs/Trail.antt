@@ -25,7 +25,7 @@ unfoldable pub reachAll : (TypeInfo → List Reached → List Reached) → List 
 reachAll call [] l fs = (l, fs)
 reachAll call (P ∷ Ps) l fs = reachAll call Ps (call P l) (fs ++ ((not (seenIn l (P .name)) && seenIn (call P l) (P .name)) ∷ []))
 
--- 'Each type is interpreted the first time it is reached, ancestors before it'
+-- a type is noted when it is first reached, behind its ancestors (FORMAT 8.6)
 unfoldable pub reach : ℕ → TypeMap → TypeInfo → List Reached → List Reached
 reach zero m T l = l
 reach (suc k) m T l =
@@ -34,7 +34,7 @@ reach (suc k) m T l =
       | false ↦ let r = reachAll (reach k m) (listedParents m T) l [] in r .0 ++ (record { type = T; fresh = r .1 } ∷ [])
     ]
 
--- 'types tried in name order'
+-- the types are tried in name order (FORMAT 8.6)
 unfoldable pub reachEach : ℕ → TypeMap → List TypeInfo → List Reached → List Reached
 reachEach k m [] l = l
 reachEach k m (T ∷ Ts) l = reachEach k m Ts (reach k m T l)
@@ -59,7 +59,8 @@ abbrev pub succeeded : List Told → Name → Bool
 succeeded [] n = false
 succeeded (x ∷ l) n = (sameName n (x .name) && x .ok) || (not (sameName n (x .name)) && succeeded l n)
 
--- 'a parent that failed then passes nothing to that child at that listing'; 'listed again, it passes everything'
+-- a listing hands on what its parent has, unless it was the first to reach the parent and the parent's call failed
+-- (FORMAT 8.6)
 abbrev pub passes : List Told → Bool → TypeInfo → Bool
 passes told fresh P = not fresh || succeeded told (P .name)
 

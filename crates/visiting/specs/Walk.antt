@@ -19,7 +19,7 @@ unfoldable pub walkAll : (ℕ → List Stop → List Stop) → List Parent → L
 walkAll call [] l fs = (l, fs)
 walkAll call (q ∷ qs) l fs = walkAll call qs (call (q .place) l) (fs ++ ((not (elem (q .place) (spots l)) && elem (q .place) (spots (call (q .place) l))) ∷ []))
 
--- 'Each type is interpreted the first time it is reached, ancestors before it'
+-- a type is noted when it is first reached, behind its ancestors (FORMAT 8.6)
 unfoldable pub walk : ℕ → Parents → ℕ → List Stop → List Stop
 walk zero p t l = l
 walk (suc k) p t l =
@@ -28,7 +28,7 @@ walk (suc k) p t l =
       | false ↦ let r = walkAll (walk k p) (listed p t) l [] in r .0 ++ (record { place = t; fresh = r .1 } ∷ [])
     ]
 
--- the first n types, 'types tried in name order'
+-- the first n types, tried in name order (FORMAT 8.6)
 unfoldable pub walkEach : ℕ → Parents → ℕ → List Stop
 walkEach k p zero = []
 walkEach k p (suc n) = walk k p n (walkEach k p n)
