@@ -1,4 +1,4 @@
--- What the answers mean: number, size, row count and flag of each case; what a case does not name is 0 (FORMAT 7.4).
+-- What the answers mean: number, size, row count and flag of each case; what a case does not name is 0 (FORMAT 7.2, 7.4).
 use mathlib.Core.Bool.{false}
 use mathlib.Core.List.{List}
 use Prim.Native.Nat.{ℕ}

@@ -33,7 +33,7 @@ bad p path q = not (ltb (q .place) (p .count)) || getD path (q .place) false
 abbrev pub badKind : Parents → Parent → ℕ
 badKind p q = cond (ltb (q .place) (p .count)) 2 3
 
--- the first bad parent is the only answer; where there is none, the parents' answers follow each other
+-- the first bad parent is the only answer; where there is none, those of the parents stand one behind the other
 abbrev pub answer : Parents → ℕ → List Parent → List Row → List Row
 answer p t [] later = later
 answer p t (q ∷ qs) later = parentRow (badKind p q) p t q ∷ []

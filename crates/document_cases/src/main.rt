@@ -2,7 +2,7 @@
 ghost use mathlib.Core.Path.{_≡_};
 ghost use lib.ListN.{length};
 
-// 01's largest schedule has 239,675 bytes.
+// The largest schedule that was found has 239,675 bytes (FORMAT 6.4).
 fn space() -> [u8; 262144]
     ensures { λ r. ⌜ 262144 ≡ length r ⌝ }
 {

@@ -1,4 +1,4 @@
--- All annotations of one type: its own in their order, behind them what it inherits (FORMAT 8.7).
+-- All annotations of one type: its own in their order, behind them what it inherits (FORMAT 8.6).
 use mathlib.Core.Bool.{Bool, true, _&&_}
 use mathlib.Core.List.{List, [], _∷_, _++_, map}
 use mathlib.Core.Path.{_≡_}

@@ -148,7 +148,7 @@ fn interpret_own(
     with_entry(t, place, e, doms, s, made, buf, limit)
 }
 
-// The type's own associates one after the other, in their order (FORMAT 8.7).
+// The type's own associates one after the other, in their order (FORMAT 8.6, 8.7).
 fn interpret_owns(
     t: Table,
     place: usize,
@@ -174,7 +174,7 @@ fn interpret_owns(
     p
 }
 
-// What the type inherits, in the order in which the dedup left it (FORMAT 8.7, 8.9).
+// What the type inherits, in the order in which the dedup left it (FORMAT 8.6, 8.9).
 fn interpret_extra(
     t: Table,
     place: usize,

@@ -1,4 +1,4 @@
-// Reads the fields of a sheet (01: 'its sheet by reference'), in few functions, thin over those of the cursor.
+// Reads the fields of a sheet (01: 'its sheet by reference'), thin over the functions of the cursor.
 use bits::Cursor;
 use bits::Read;
 ghost use mathlib.Core.Path.{_≡_};
