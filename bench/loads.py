@@ -128,7 +128,7 @@ def crowd(types, parents_of):
 
 
 def largest(types):
-    """With 64 types the largest schedule, 239,675 bytes: each under the eight before it."""
+    """With 64 types the largest schedule found, 239,675 bytes: each under the eight before it."""
     return crowd(types, lambda at: range(max(0, at - 8), at))
 
 

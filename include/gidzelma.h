@@ -21,7 +21,7 @@ enum {
     GIDZELMA_DIAGNOSIS_TOO_SHORT = 2,   /* under 1,536 bytes */
     GIDZELMA_FIELD_PAST_END = 3,
     GIDZELMA_VALUE_NOT_ALLOWED = 4,
-    GIDZELMA_BAD_WORDS = 5,             /* not ascending, or `resource` or `self` missing */
+    GIDZELMA_BAD_WORDS = 5,             /* they don't ascend, or lack `resource` or `self` */
     GIDZELMA_TWICE = 6,
     GIDZELMA_BAD_FILL = 7,              /* or more bytes */
     GIDZELMA_NO_ORDER = 8,
@@ -36,8 +36,9 @@ enum {
 /*
  * gidzelma_schedule gives the access schedule of a sheet: the listing gets the count of its types in
  * 7 bits, their names in order, the count of items in 16 bits, and the items, packed. The longest
- * schedule has 239,675 bytes. gidzelma_order gives the order of the types alone: their count and
- * their names.
+ * schedule that was found has 239,675 bytes; it is proved that none is longer than 20,950,000, and a
+ * listing that is too short is answered with the size that is needed. gidzelma_order gives the order
+ * of the types alone: their count and their names.
  *
  * A call asks nothing of the values in its slices. Of the slices themselves it asks, as Rust
  * does: no pointer is null, also where its length is 0 (then any non-null pointer will do, and
@@ -55,8 +56,8 @@ enum {
  *    11       as before                 as before                      as before
  *
  * What stands in `parts` behind the first three stays. The flag is 1 exactly if there are more
- * rows than the 256 that are written at most. A row is six bytes: kind, subject (two words), other
- * name (two words), resource word; 255 for an absent word.
+ * rows than the 256 that are written at most. A row has six bytes: its kind, two for its subject,
+ * two for its other name, and a resource word; what is absent is 255.
  */
 uint32_t gidzelma_schedule(const uint8_t *sheet, size_t sheet_len,
                            uint8_t *listing, size_t listing_len,

@@ -14,7 +14,7 @@
                  Associates and eight Derives
     layers       the same eight types wide, each under all of the layer before it
     crowd        64 resources that associate each other's words, each under the eight
-                 before it: the largest schedule, 239,675 bytes
+                 before it: the largest schedule found, 239,675 bytes
     lists        64 types with twelve Associates of fifteen words drawn from 196, each
                  under the eight before it: the longest inherited lists
 """

@@ -2,7 +2,8 @@
 
 
 def largest_schedule():
-    """64 resources that associate one another, each but the first under the eight before it: 239,675 bytes."""
+    """64 resources that associate one another, each but the first under the eight before it:
+    239,675 bytes, the largest that was found."""
     words = [f"w{at:02}" for at in range(64)]
     out = []
     for at, word in enumerate(words):

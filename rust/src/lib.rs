@@ -63,7 +63,8 @@ extern "C" {
 }
 
 /// The schedule call: the order of a sheet's types and the items of its access schedule, packed. The
-/// longest schedule has 239,675 bytes.
+/// longest schedule that was found has 239,675 bytes; it is proved that none is longer than
+/// 20,950,000. A listing that is too short is answered with the size that is needed.
 pub fn schedule(sheet: &[u8], listing: &mut [u8], diagnosis: &mut [u8]) -> Answer {
     answer(gidzelma_schedule, sheet, listing, diagnosis)
 }

@@ -41,7 +41,7 @@ fn call_of(work: Work) -> Call {
 }
 
 impl Ours {
-    /// The listing takes the longest schedule, 239,675 bytes.
+    /// The listing takes the longest schedule that was found, 239,675 bytes.
     pub fn new(bytes: &[u8], work: Work) -> Ours {
         Ours {
             call: call_of(work),
