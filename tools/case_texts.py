@@ -26,23 +26,23 @@ def rows(last):
 
 
 DOCUMENT = {
-    "noTypes": case("Words `resource`, `self` alone: 17 bytes, first four 10 24 39 32; schedule 00 00 00.", ""),
-    "eachOther": case("`a`, `b` inherit each other: rows 2 b a, 2 a b.", "domain a : b\ndomain b : a"),
-    "undeclaredParent": case("`a` inherits `b`, `zz`; `b` itself: 3 a zz, 2 b b.",
+    "noTypes": case("The two words that every sheet has, and nothing else: three zero bytes.", ""),
+    "eachOther": case("Each of two types is the parent of the other.", "domain a : b\ndomain b : a"),
+    "undeclaredParent": case("A parent that is not declared, behind one that lists itself.",
                              "domain a : b zz\ndomain b : b"),
-    "selfAlone": case("`a` inherits `self`, `zz`, alone: 3 a self.", "domain a : self zz"),
-    "selfBesideFree": case("`a` inherits `self`, `zz`, beside a free `c`: 1 a self.",
+    "selfAlone": case("The parent `self` where no type is ready.", "domain a : self zz"),
+    "selfBesideFree": case("The parent `self` where another type is ready.",
                            "domain a : self zz\ndomain c"),
-    "twoWaysUp": case("`d` under `b`, `c`, both under `a`, which associates `file`: d.file inherits b.file, c.file, resource.",
+    "twoWaysUp": case("Two ways up to one associate: one making, under the resources of both parents.",
                       "domain d : b c\ndomain b : a\ndomain c : a\ndomain a\n  associate file\n"
                       "resource file : resource\nresource resource"),
-    "parentAndChild": case("`a` and its child `b` both associate `file`: two b.file, one line for `b`.",
+    "parentAndChild": case("A type associates what its parent does: an own and an inherited making, one extension line.",
                            "domain a\n  associate file\ndomain b : a\n  associate file\nresource file"),
     "types64": case("64 types pass.", types(64)),
     "types65": case("65 types give 4.", types(65)),
     "parents8": case("8 parents pass.", "domain p\ndomain a :" + " p" * 8),
     "parents9": case("9 parents give 4.", "domain p\ndomain a :" + " p" * 9),
-    "nested": case("Nested p.file in `p`, child `b`: b.file under p.file, none made for `p`.",
+    "nested": case("A NestAssociate makes a resource for the child, and none for its own type.",
                    "domain p\n  nest p.file\ndomain b : p\nresource p.file"),
     "worked": case("The worked example of the schedule program.",
                    "domain base\n  associate file\nresource file virtual : resource\n  mark makelist\n"
@@ -72,15 +72,15 @@ def raw(what, data, **more):
 ORDER, SCHEDULE = {"calls": ["order"]}, {"calls": ["schedule"]}
 
 REFUSALS = {
-    "refusal1": raw("1: 40,961 zeros", bytes(40961), listing=4, diagnosis=1536),
+    "refusal1": raw("1: 40,961 zero bytes", bytes(40961), listing=4, diagnosis=1536),
     "refusal2": case("2: a diagnosis slice of 1,535 bytes", GOOD, listing=64, diagnosis=1535),
     "refusal3": raw("3: the empty sheet", b""),
     "refusal4": case("4: version 2", "version 2"),
     "refusal5": case("5: words `self`, `resource`", "words! self resource"),
-    "refusal6": case("6: type `a` twice", "domain a\ndomain a"),
-    "refusal7": raw("7: a good sheet and 00", sheet_of(GOOD) + b"\0"),
-    "refusal8": case("8: `a` inherits `a`", "domain a : a"),
-    "refusal9": case("9: `a` associates undeclared `b`; the order-only call never gives 9",
+    "refusal6": case("6: two types `a`", "domain a\ndomain a"),
+    "refusal7": raw("7: a sheet that would pass, and a zero byte", sheet_of(GOOD) + b"\0"),
+    "refusal8": case("8: `a` is its own parent", "domain a : a"),
+    "refusal9": case("9: `a` associates `b`, which is not declared; the order-only call accepts it",
                      "domain a\n  associate b"),
     "refusal10": case("10: a listing of 0 bytes", GOOD, listing=0, diagnosis=1536),
 }
@@ -162,13 +162,13 @@ TWICE = {
 
 ORDERS = {
     "againstNames": case("a chain against the order of names", "domain a : b\ndomain b : c\ndomain c", **ORDER),
-    "nextRound": case("a type ready in its parent's round waits for the next one", "domain a\ndomain b : a\ndomain c", **ORDER),
+    "nextRound": case("a type whose parent is placed in this round waits for the next one", "domain a\ndomain b : a\ndomain c", **ORDER),
     "oneWordFirst": case("one word before two", "domain b\ndomain a.b\ndomain a", **ORDER),
     "longestChain": case("the longest chain counts", "domain a : d b\ndomain b : c\ndomain c : d\ndomain d", **ORDER),
     "selfTwice": case("each listing of `self` is a row", "domain a : self self", **ORDER),
     "selfWaiting": case("also of a type that waits, types in name order", "domain b : a self\ndomain a : c self\ndomain c", **ORDER),
     "selfDeclared": case("`self` declared: a row of kind 1 where a type is ready", "domain self\ndomain a : self", **ORDER),
-    "selfReplaced": case("no type ready: the cycle diagnosis replaces kind 1, and `self` is looked up like any name",
+    "selfReplaced": case("no type ready: no row of kind 1, and `self` is looked up like any name",
                          "domain a : self b\ndomain b : a\ndomain self : a", **ORDER),
     "selfInTwoWords": case("a two-word name is not `self`", "domain c\ndomain a : self.c", **ORDER),
     "firstBadParent": case("the first bad parent is the only answer, also behind a good one",
@@ -181,7 +181,7 @@ ORDERS = {
 }
 
 SYNTHESIS = {
-    "twoDoms": case("two doms of one word from two ancestors: classes none first, then ascending; marks in turn",
+    "twoDoms": case("no dom and two doms of one word, from three ancestors: the classes and their marks go in the order of doms",
                     "domain a\n  nest y.f\ndomain b\n  nest x.f\ndomain c\n  nest f\ndomain d : a b c\n"
                     "resource f\n  mark derive 1\nresource x.f\n  mark derive 2\nresource y.f\n  mark derive 3\n  mark makelist", **SCHEDULE),
     "farDoms": case("doms of ancestors that are no direct parents",
@@ -196,7 +196,7 @@ SYNTHESIS = {
     "ownSorted": case("own resources by ascending class name, whichever annotation gives them",
                       "resource f\nresource d.f\nresource g\ndomain a\n  associate f\n  associate d.f g", **SCHEDULE),
     "virtual": case("virtual: the type and all its classes", "resource f virtual\nresource g\ndomain a virtual trait\n  associate f g\ndomain b\n  associate f", **SCHEDULE),
-    "repeatedMarks": case("marks of the classes in turn, repeats kept",
+    "repeatedMarks": case("marks class by class, also those that are repeated",
                           "resource f\n  mark makelist\n  mark makelist\nresource d.f\n  mark makelist\n"
                           "domain a\n  nest f\ndomain b\n  nest d.f\ndomain c : a b", **SCHEDULE),
     "otherKinds": case("the other kinds of annotation, and Inherit, change nothing",
@@ -214,7 +214,7 @@ SYNTHESIS = {
 ROWS9 = {
     "failedParent": case("a parent call that fails passes nothing at that listing: a refused type without a row",
                          "resource f\ndomain p\n  associate f\n  associate zz\ndomain c : p", **SCHEDULE),
-    "listedAgain": case("listed again, it passes everything", "resource f\ndomain p\n  associate f\n  associate zz\ndomain c : p p", **SCHEDULE),
+    "listedAgain": case("listed again, the parent passes everything", "resource f\ndomain p\n  associate f\n  associate zz\ndomain c : p p", **SCHEDULE),
     "failsThrough": case("the child of a failed call fails too", "resource f\ndomain p\n  associate f\n  associate zz\ndomain b : c c\ndomain c : p", **SCHEDULE),
     "rowUnrefused": case("a type that is not refused can get a row: `q` fails, so `p.f` alone stands above a.f",
                          "resource f\nresource g\nresource p.f\nresource q.g\ndomain p\n  nest f\n"
@@ -223,17 +223,17 @@ ROWS9 = {
     "after5": case("after a 5 the next word ends the annotation, though it adds no row", "domain d\nresource f\ndomain a\n  associate d f zz", **SCHEDULE),
     "after5Unknown": case("after a 5 the next word adds its unknown classes", "domain d\nresource f\ndomain a\n  associate d zz", **SCHEDULE),
     "after6Unknown": case("after a 6 too", "resource d\nresource a.d\ndomain a\n  associate d zz", **SCHEDULE),
-    "not6Where5": case("6 is not given where 5 is", "domain f\nresource a.f\ndomain a\n  associate f", **SCHEDULE),
-    "firstNoResource": case("5 names the first class that is no resource", "domain f\ndomain x.f\ndomain a\n  nest x.f\ndomain b\n  nest f\ndomain c : a b", **SCHEDULE),
+    "not6Where5": case("5 goes before 6", "domain f\nresource a.f\ndomain a\n  associate f", **SCHEDULE),
+    "firstNoResource": case("5 names the first class that does not fit", "domain f\ndomain x.f\ndomain a\n  nest x.f\ndomain b\n  nest f\ndomain c : a b", **SCHEDULE),
     "otherVariant": case("the variant `other` is no resource", "other f\ndomain a\n  associate f", **SCHEDULE),
-    "wordLists": case("Associates by ascending word list", "domain a\n  associate m zz\n  associate k yy", **SCHEDULE),
-    "dedupOrder": case("of each earlier entry its rest, then what it shares, and last the newcomer's rest",
+    "wordLists": case("Associates go by their word lists", "domain a\n  associate m zz\n  associate k yy", **SCHEDULE),
+    "dedupOrder": case("the dedup splits an earlier entry into its rest and what it shares; a newcomer's own rest goes last",
                        "domain p\n  nest m z\ndomain q\n  nest a m\ndomain t : p q", **SCHEDULE),
     "dedupTurned": case("newcomers by listing", "domain p\n  nest m z\ndomain q\n  nest a m\ndomain t : q p", **SCHEDULE),
     "identicalOwn": case("two identical own makings", "resource f\nresource g\ndomain a\n  associate f\n  associate f g", **SCHEDULE),
     "identicalAbove": case("an own making of class P.r identical to the inherited one", "resource p.f\nresource q.f\ndomain p\n  nest q.f\ndomain t : p\n  associate p.f", **SCHEDULE),
     "marksDiffer": case("unlike marks: two makings", "resource p.f\n  mark makelist\nresource q.f\ndomain p\n  nest q.f\ndomain t : p\n  associate p.f", **SCHEDULE),
-    "declaredName": case("T.r is a declared type", "resource f\nresource a.f\ndomain a\n  associate f", **SCHEDULE),
+    "declaredName": case("a type of the name T.r is declared", "resource f\nresource a.f\ndomain a\n  associate f", **SCHEDULE),
 }
 
 CORNERS = {**REFUSALS, **LENT, **READING, **TWICE, **ORDERS, **SYNTHESIS, **ROWS9}

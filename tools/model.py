@@ -87,7 +87,7 @@ def read_sheet(data):
 
     def annotation(type_name):
         kind = take(3, 0, 6)
-        # 'A two-word type has no NestAssociate.'
+        # No NestAssociate stands in a two-word type (FORMAT 2.7).
         if kind == NEST_ASSOCIATE and len(type_name) == 2:
             raise Refused(4)
         payload = None
@@ -114,14 +114,14 @@ def read_sheet(data):
     types = [type_info() for _ in range(take(7, 0, 64))]
     extensions = [((name(), word()), names(1, 8)) for _ in range(take(6, 0, 32))]
 
-    # 7: fill not zero, or more bytes.
+    # 7: something other than zero bits to the end of the byte (FORMAT 2.11).
     rest = fields.size - fields.at
     if rest >= 8 or take(rest):
         raise Refused(7)
-    # 5: words not ascending, or `resource` or `self` missing.
+    # 5: the words don't ascend, or lack `resource` or `self` (FORMAT 1.2).
     if any(a >= b for a, b in zip(words, words[1:])) or not {b"resource", b"self"} <= set(words):
         raise Refused(5)
-    # 6: repeats.
+    # 6: something stands twice (FORMAT 2.12).
     if repeats(t.name for t in types) or repeats(key for key, _ in extensions):
         raise Refused(6)
     for info in types:
@@ -150,7 +150,7 @@ def equal_part(ann):
 
 
 def own_order(annotations):
-    """'in kind order, Associates by ascending word list'; in an associate words ascend."""
+    """By kind, associates by their word lists (FORMAT 8.7); within one the words ascend."""
     out = [(kind, tuple(sorted(payload)) if kind in (ASSOCIATE, NEST_ASSOCIATE) else payload)
            for kind, payload in annotations]
     return sorted(out, key=lambda ann: (ann[0], words_of(ann)))
@@ -170,7 +170,8 @@ def organize_type_map(types, limit=ROWS):
               for t in waiting.values() for p in t.parents if p == (types.self_word,)]
     while waiting:
         placed = set(out)
-        # 'A placed type counts only from the next round.' `self` holds no type back.
+        # What this round places counts from the next one on; `self` holds no type back
+        # (FORMAT 3.4).
         ready = [t.name for t in waiting.values()
                  if all(p in placed or p == (types.self_word,) for p in t.parents)]
         if not ready:
@@ -201,7 +202,7 @@ def cycles(types, waiting, name, path):
 
 
 def rounds(types, names):
-    """'Round of a type: the longest chain of parents above it.'"""
+    """The round of each type: how long its longest chain of parents is (FORMAT 3.3)."""
     out = {}
     for name in names:
         out[name] = max((out[p] + 1 for p in types.types[name].parents), default=0)
@@ -250,7 +251,7 @@ class Inherited:
 
 
 def dedup_inherited_annotations(entries):
-    """'of each earlier entry its rest, then what it shares, and last the newcomer's rest'"""
+    """The entries join a list one after the other (FORMAT 8.9)."""
     out = []
     for entry in entries:
         out = dedup_inherited_annotations_one(out, entry)
@@ -258,7 +259,8 @@ def dedup_inherited_annotations(entries):
 
 
 def dedup_inherited_annotations_one(existing, new):
-    """The list with a newcomer included."""
+    """The list with a newcomer: each entry that it meets is split into its rest and
+    what it shares, and what is left of the newcomer stands last."""
     out = []
     for at, old in enumerate(existing):
         if old.apart(new):
@@ -308,8 +310,8 @@ class Synthesis:
 
     def visit(self, name):
         """The first call of inherit_annotations for a type: whether it succeeds.
-        'a parent that failed then, itself or through a parent, passes nothing
-        to that child at that listing, and the child fails too'"""
+        Where the call of a parent fails, that listing hands on nothing, and the
+        type's own call fails as well (FORMAT 8.6)."""
         info, got, succeeds = self.types.types[name], [], True
         for parent in info.parents:
             if parent in self.interpreted or self.visit(parent):
@@ -319,7 +321,7 @@ class Synthesis:
         self.interpreted.add(name)
         before = len(self.rows)
         nobody = frozenset()
-        # 'Own annotations go first ...; then the inherited ones as the dedup leaves them'
+        # Its own Associates, then what it got, in the order of the dedup (FORMAT 8.6).
         for entry in ([Inherited(ann, nobody) for ann in info.annotations]
                       + dedup_inherited_annotations(got)):
             if entry.annotation[0] == ASSOCIATE:
@@ -327,9 +329,8 @@ class Synthesis:
         return succeeds and len(self.rows) == before
 
     def interpret_associate(self, info, entry):
-        """'A word's unknown classes each add a row and then end the annotation;
-        after a class that is no resource, or a duplicate, the annotation's next
-        word adds only its unknown classes, and there it ends.'"""
+        """The words of an annotation, ascending (FORMAT 8.10). Unknown classes have
+        a row each. With such a row, or a row of an earlier word, it ends."""
         before = len(self.rows)
         for word, doms in entry.annotation[1]:
             classes = class_names(word, doms)
@@ -354,14 +355,14 @@ class Synthesis:
 
 
 def class_names(word, doms):
-    """The classes `r` and `dom.r`: 'none first, then ascending'."""
+    """The classes `r` and `dom.r`, in the order of doms (FORMAT 1.6, 4.2)."""
     return [(word,) if dom == 0 else (dom - 1, word)
             for dom in range(doms.bit_length()) if doms >> dom & 1]
 
 
 def making(types, info, word, first_parents, classes):
-    """T.r: 'Then follow `resource` and the extension's parents for T.r. Virtual: T
-    and all its classes are. Marks: those of the classes in turn, repeats kept.'"""
+    """T.r with its parents (FORMAT 4.5), virtual where T and its classes all are
+    (FORMAT 4.6), with the marks of the classes (FORMAT 4.7)."""
     found = [types.types[c] for c in classes]
     parents = tuple(first_parents) + ((types.resource,),) + types.extensions.get((info.name, word), ())
     return Making(info.name, word, int(info.is_virtual and all(c.is_virtual for c in found)),
@@ -371,7 +372,7 @@ def making(types, info, word, first_parents, classes):
 # ------------------------------------------------- the lines, from ancestors
 
 def ancestors(types, names):
-    """'A proper ancestor of T is a parent of T or a proper ancestor of one.'"""
+    """The proper ancestors of each type: its parents and theirs (FORMAT 3.1)."""
     out = {}
     for name in names:
         parents = set(types.types[name].parents)
@@ -412,8 +413,8 @@ def items_of(types, names):
                 for row in inherited:
                     doms |= row
                 made.append(([p + (word,) for p in passing], class_names(word, doms)))
-            # 'T is refused if a class is undeclared or no resource, T.r is a
-            # declared type, or two of its makings are identical.'
+            # T is refused by its classes, by a declared T.r, or by makings that
+            # are identical (FORMAT 4.9).
             classes = {c for _, some in made for c in some}
             if (any(c not in types.types or types.types[c].variant != RESOURCE for c in classes)
                     or info.name + (word,) in types.types):
@@ -441,14 +442,14 @@ class Bits:
         self.value, self.size = self.value << width | value, self.size + width
 
     def put_name(self, name):
-        """A word, a flag, and a second word if the flag is 1."""
+        """A word, a flag, and a second word where there is one (FORMAT 2.5)."""
         self.put(8, name[0])
         self.put(1, len(name) - 1)
         for word in name[1:]:
             self.put(8, word)
 
     def data(self):
-        """The bytes, 'the fill zero'."""
+        """The bytes, the last one filled with zero bits."""
         fill = -self.size % 8
         return (self.value << fill).to_bytes((self.size + fill) // 8, "big")
 
@@ -502,7 +503,7 @@ def pack_item(bits, item):
 
 
 def row_bytes(row):
-    """'kind, subject name, other name, resource word; 255 for an absent word'"""
+    """The six bytes of a row; an absent word is 255 (FORMAT 8.1)."""
     def two(name):
         return (tuple(name or ()) + (255, 255))[:2]
     return bytes((row.kind,) + two(row.subject) + two(row.other)
@@ -549,7 +550,7 @@ def schedule(sheet, listing, diagnosis, rows=ROWS):
 
 
 def order(sheet, listing, diagnosis, rows=ROWS):
-    """The order-only call, answering alike; it 'never gives 9'."""
+    """The order-only call, answering likewise; it makes no test 9 (FORMAT 7.3)."""
     return answer(sheet, listing, diagnosis, rows, False)
 
 

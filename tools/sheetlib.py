@@ -20,7 +20,7 @@ begins a comment; blank lines are ignored.
       noderive
       mark makelist           its marks, in the order given
       mark derive 7
-    extend base file : p q    an extension: type name, resource word, parents
+    extend base file : p q    an extension: its type, its word and, after `:`, parents
 
 For damaged sheets: `@N` stands for the word number N, `""` for a word without
 bytes, `variant3` for the variant 3 and `kind7` for the annotation kind 7.
@@ -317,7 +317,7 @@ def _where(record, what):
 
 
 def encode(type_map):
-    """The bytes of a type map (01, 'The sheet, bit by bit')."""
+    """The bytes of a type map (FORMAT 2)."""
     out = Writer()
     words = type_map.word_list()
     number = {word: at for at, word in reversed(list(enumerate(words)))}

@@ -36,7 +36,7 @@ def number(text, call="schedule", **options):
 
 
 class PCases(unittest.TestCase):
-    """01, 'Sheets to try': the cases marked (p), and the worked example."""
+    """The cases that 01 marks (p), and the worked example."""
 
     def test_no_types(self):
         sheet = sheet_of("")
@@ -117,7 +117,7 @@ GOOD = "domain a\n  associate f\nresource f\n"
 
 
 class RefusalTable(unittest.TestCase):
-    """01, 'Ten ways to be turned back': the examples, and the order of the tests."""
+    """The ten refusals: the examples (FORMAT 7.2), and the order of the tests (FORMAT 7.3)."""
 
     def check(self, sheet, want, call, listing=LISTING, diagnosis=DIAGNOSIS, size=0):
         result = CALLS[call](sheet, listing, diagnosis)
@@ -295,7 +295,7 @@ class Diagnosis8(unittest.TestCase):
     def test_placed_types(self):
         self.check("domain a : b c\ndomain b\ndomain c : c b", "2 c c -", "2 c c -")
         self.assertEqual(run("domain c : b\ndomain b : a\ndomain a", "order"), ["T a", "T b", "T c"])
-        # A type ready in its parent's round waits for the next one.
+        # A type whose parent is placed in this round waits for the next one.
         self.assertEqual(run("domain a\ndomain b : a\ndomain c", "order"), ["T a", "T c", "T b"])
 
     def test_row_limit(self):
@@ -330,7 +330,7 @@ class Synthesis(unittest.TestCase):
         self.assertEqual([line for line in run(text) if line[0] != "T"], list(lines))
 
     def refused(self, text):
-        """The types that 01 calls refused."""
+        """The types that are refused (FORMAT 4.9)."""
         types = model.read_sheet(sheet_of(text))
         names = model.items_of(types, model.organize_type_map(types))[1]
         return {".".join(types.words[w].decode() for w in name) for name in names}
@@ -365,9 +365,9 @@ class Synthesis(unittest.TestCase):
         self.rows("resource d\nresource a.d\ndomain e\ndomain a\n  associate d e", "6 a - d")
         self.rows("domain a\n  associate zz\n  associate yy", "4 a yy yy", "4 a zz zz")
         self.rows("domain a\n  associate m zz\n  associate k yy", "4 a k k", "4 a m m")
-        # Kind 6 is not given where 5 is.
+        # Kind 5 goes before kind 6.
         self.rows("domain f\nresource a.f\ndomain a\n  associate f", "5 a f f")
-        # A word's unknown classes each add a row; the first class that is no resource one.
+        # Kind 4 for each unknown class; kind 5 for the first that is no resource alone.
         self.rows("domain a\n  nest x.f y.g\ndomain b\n  nest y.f x.g\ndomain c : a b",
                   "4 c x.f f", "4 c y.f f")
         self.rows("domain f\ndomain x.f\ndomain a\n  nest x.f\ndomain b\n  nest f\ndomain c : a b",
@@ -435,7 +435,7 @@ class Synthesis(unittest.TestCase):
                          [([1], "p"), ([3], "pr"), ([2], "pq"), ([5], "qr"), ([6], "r")])
 
     def test_pairs_of_kinds(self):
-        """'Intersection' and 'Difference' for the seven kinds."""
+        """Intersection and difference for the seven kinds (FORMAT 8.8)."""
         both, less = model.intersection, model.difference
         samples = [(0, None), (1, ((1, 1), (2, 1))), (2, ((1, 2),)), (3, 4), (4, ((1,),)), (5, 7),
                    (6, None)]

@@ -1,4 +1,4 @@
--- The examples of the table of refusals (FORMAT 7.2) and the corners of the rules in one list, and the theorem that they come out.
+-- The examples of the refusals (FORMAT 7.2) and the corners of the rules in one list, and the theorem that they come out.
 -- Made by tools/cases. Above each sheet stands its readable text, and behind `=>` what the schedule program prints for it, or
 -- the order program where only the order-only call is tried.
 use mathlib.Core.Bool.{true, false}
@@ -9,7 +9,7 @@ use lib.ListN.{replicate}
 use Rattle.definitions.specs.Answer.{schedule, order}
 use Rattle.definitions.specs.Cases.{Case, ComesOut, AllComeOut, _also_, run, hex, times, accepts, refuses, diagnoses, needs}
 
--- 1: 40,961 zeros
+-- 1: 40,961 zero bytes
 abbrev refusal1 : List ℕ
 refusal1 = replicate 40961 0
 
@@ -107,7 +107,7 @@ refusal5-order-comes-out : ComesOut refusal5-order
 unfolding run
 refusal5-order-comes-out = refl
 
--- 6: type `a` twice
+-- 6: two types `a`
 --     domain a
 --     domain a
 --   => refused 6
@@ -128,7 +128,7 @@ refusal6-order-comes-out : ComesOut refusal6-order
 unfolding run
 refusal6-order-comes-out = refl
 
--- 7: a good sheet and 00
+-- 7: a sheet that would pass, and a zero byte
 --   => refused 7
 abbrev refusal7 : List ℕ
 refusal7 = hex 29 0x1040b085990e4cae6deeae4c6ca473656c660400001220200240000000
@@ -147,7 +147,7 @@ refusal7-order-comes-out : ComesOut refusal7-order
 unfolding run
 refusal7-order-comes-out = refl
 
--- 8: `a` inherits `a`
+-- 8: `a` is its own parent
 --     domain a : a
 --   => refused 8; D 2 a a -
 abbrev refusal8 : List ℕ
@@ -167,7 +167,7 @@ refusal8-order-comes-out : ComesOut refusal8-order
 unfolding run
 refusal8-order-comes-out = refl
 
--- 9: `a` associates undeclared `b`; the order-only call never gives 9
+-- 9: `a` associates `b`, which is not declared; the order-only call accepts it
 --     domain a
 --       associate b
 --   => refused 9; D 4 a b b
@@ -1086,7 +1086,7 @@ againstNames-order-comes-out : ComesOut againstNames-order
 unfolding run
 againstNames-order-comes-out = refl
 
--- a type ready in its parent's round waits for the next one
+-- a type whose parent is placed in this round waits for the next one
 --     domain a
 --     domain b : a
 --     domain c
@@ -1174,7 +1174,7 @@ selfDeclared-order-comes-out : ComesOut selfDeclared-order
 unfolding run
 selfDeclared-order-comes-out = refl
 
--- no type ready: the cycle diagnosis replaces kind 1, and `self` is looked up like any name
+-- no type ready: no row of kind 1, and `self` is looked up like any name
 --     domain a : self b
 --     domain b : a
 --     domain self : a
@@ -1307,7 +1307,7 @@ rows257-order-comes-out : ComesOut rows257-order
 unfolding run
 rows257-order-comes-out = refl
 
--- two doms of one word from two ancestors: classes none first, then ascending; marks in turn
+-- no dom and two doms of one word, from three ancestors: the classes and their marks go in the order of doms
 --     domain a
 --       nest y.f
 --     domain b
@@ -1446,7 +1446,7 @@ virtual-schedule-comes-out : ComesOut virtual-schedule
 unfolding run
 virtual-schedule-comes-out = refl
 
--- marks of the classes in turn, repeats kept
+-- marks class by class, also those that are repeated
 --     resource f
 --       mark makelist
 --       mark makelist
@@ -1600,7 +1600,7 @@ failedParent-schedule-comes-out : ComesOut failedParent-schedule
 unfolding run
 failedParent-schedule-comes-out = refl
 
--- listed again, it passes everything
+-- listed again, the parent passes everything
 --     resource f
 --     domain p
 --       associate f
@@ -1720,7 +1720,7 @@ after6Unknown-schedule-comes-out : ComesOut after6Unknown-schedule
 unfolding run
 after6Unknown-schedule-comes-out = refl
 
--- 6 is not given where 5 is
+-- 5 goes before 6
 --     domain f
 --     resource a.f
 --     domain a
@@ -1736,7 +1736,7 @@ not6Where5-schedule-comes-out : ComesOut not6Where5-schedule
 unfolding run
 not6Where5-schedule-comes-out = refl
 
--- 5 names the first class that is no resource
+-- 5 names the first class that does not fit
 --     domain f
 --     domain x.f
 --     domain a
@@ -1770,7 +1770,7 @@ otherVariant-schedule-comes-out : ComesOut otherVariant-schedule
 unfolding run
 otherVariant-schedule-comes-out = refl
 
--- Associates by ascending word list
+-- Associates go by their word lists
 --     domain a
 --       associate m zz
 --       associate k yy
@@ -1785,7 +1785,7 @@ wordLists-schedule-comes-out : ComesOut wordLists-schedule
 unfolding run
 wordLists-schedule-comes-out = refl
 
--- of each earlier entry its rest, then what it shares, and last the newcomer's rest
+-- the dedup splits an earlier entry into its rest and what it shares; a newcomer's own rest goes last
 --     domain p
 --       nest m z
 --     domain q
@@ -1873,7 +1873,7 @@ marksDiffer-schedule-comes-out : ComesOut marksDiffer-schedule
 unfolding run
 marksDiffer-schedule-comes-out = refl
 
--- T.r is a declared type
+-- a type of the name T.r is declared
 --     resource f
 --     resource a.f
 --     domain a

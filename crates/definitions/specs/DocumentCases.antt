@@ -8,7 +8,7 @@ use Prim.Native.Nat.{ℕ}
 use Rattle.definitions.specs.Answer.{schedule, order}
 use Rattle.definitions.specs.Cases.{Case, ComesOut, AllComeOut, _also_, run, hex, accepts, refuses, diagnoses}
 
--- Words `resource`, `self` alone: 17 bytes, first four 10 24 39 32; schedule 00 00 00.
+-- The two words that every sheet has, and nothing else: three zero bytes.
 --   => nothing
 abbrev noTypes : List ℕ
 noTypes = hex 17 0x10243932b9b7bab931b291cd95b1980000
@@ -27,7 +27,7 @@ noTypes-order-comes-out : ComesOut noTypes-order
 unfolding run
 noTypes-order-comes-out = refl
 
--- `a`, `b` inherit each other: rows 2 b a, 2 a b.
+-- Each of two types is the parent of the other.
 --     domain a : b
 --     domain b : a
 --   => refused 8; D 2 b a -; D 2 a b -
@@ -48,7 +48,7 @@ eachOther-order-comes-out : ComesOut eachOther-order
 unfolding run
 eachOther-order-comes-out = refl
 
--- `a` inherits `b`, `zz`; `b` itself: 3 a zz, 2 b b.
+-- A parent that is not declared, behind one that lists itself.
 --     domain a : b zz
 --     domain b : b
 --   => refused 8; D 3 a zz -; D 2 b b -
@@ -69,7 +69,7 @@ undeclaredParent-order-comes-out : ComesOut undeclaredParent-order
 unfolding run
 undeclaredParent-order-comes-out = refl
 
--- `a` inherits `self`, `zz`, alone: 3 a self.
+-- The parent `self` where no type is ready.
 --     domain a : self zz
 --   => refused 8; D 3 a self -
 abbrev selfAlone : List ℕ
@@ -89,7 +89,7 @@ selfAlone-order-comes-out : ComesOut selfAlone-order
 unfolding run
 selfAlone-order-comes-out = refl
 
--- `a` inherits `self`, `zz`, beside a free `c`: 1 a self.
+-- The parent `self` where another type is ready.
 --     domain a : self zz
 --     domain c
 --   => refused 8; D 1 a self -
@@ -110,7 +110,7 @@ selfBesideFree-order-comes-out : ComesOut selfBesideFree-order
 unfolding run
 selfBesideFree-order-comes-out = refl
 
--- `d` under `b`, `c`, both under `a`, which associates `file`: d.file inherits b.file, c.file, resource.
+-- Two ways up to one associate: one making, under the resources of both parents.
 --     domain d : b c
 --     domain b : a
 --     domain c : a
@@ -136,7 +136,7 @@ twoWaysUp-order-comes-out : ComesOut twoWaysUp-order
 unfolding run
 twoWaysUp-order-comes-out = refl
 
--- `a` and its child `b` both associate `file`: two b.file, one line for `b`.
+-- A type associates what its parent does: an own and an inherited making, one extension line.
 --     domain a
 --       associate file
 --     domain b : a
@@ -369,7 +369,7 @@ parents9-order-comes-out : ComesOut parents9-order
 unfolding run
 parents9-order-comes-out = refl
 
--- Nested p.file in `p`, child `b`: b.file under p.file, none made for `p`.
+-- A NestAssociate makes a resource for the child, and none for its own type.
 --     domain p
 --       nest p.file
 --     domain b : p
