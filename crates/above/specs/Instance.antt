@@ -1,4 +1,5 @@
--- A map and its tables: what the laws ask is no empty demand. Type `a` associates the word 0 without a dom, type `b` under `a` nests 0 with the dom 199.
+-- A map and its tables: what the laws ask is no empty demand. Type `a` associates the word 0 without a dom, type `b` under
+-- `a` nests 0 with the dom 199.
 use mathlib.Core.Bool.{Bool, true, false, _||_, or-false}
 use mathlib.Core.List.{List, [], _∷_, _++_, List·Memᴰ·not-nil}
 use mathlib.Core.Path.{_≡_, refl, sym, ap, _∙_}

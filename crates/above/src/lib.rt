@@ -1,6 +1,6 @@
 // What a type has from above, for a type and a word, over tables of rows that are lent as slices of numbers.
-// A table has 804 numbers to a type, types in name order: the row of the words that the type gives, and then for each word the row of the doms that it gives
-// that word, 0 for none and d + 1 for the word d.
+// A table has 804 numbers to a type, types in name order: the row of the words that the type gives, and then for each word
+// the row of the doms that it gives that word, 0 for none and d + 1 for the word d.
 use rows::Row;
 ghost use mathlib.Core.Path.{_≡_};
 ghost use Prim.Native.Nat.{_<_, _≤_, _*_, _+_};

@@ -123,7 +123,8 @@ fn end_synthesis(
     answer_for(listed)
 }
 
-// Writes the schedule, if there is one: 8, 9, 10 or acceptance. The synthesis runs where the quick test can't tell that no type is refused.
+// Writes the schedule, if there is one: 8, 9, 10 or acceptance. The synthesis runs where the quick test can't tell that no
+// type is refused.
 fn end_schedule(
     types: Types,
     extensions: Extensions,

@@ -9,7 +9,8 @@ ghost use Rattle.synthetic.specs.Made.{classesOf};
 ghost use Rattle.interpretation.specs.Judged.{isUnknown};
 ghost use Rattle.associates.specs.Step.{reached, Ready, Stepped};
 
-// How far an annotation is: whether a row 5 or 6 stands, whether it ended, the count of rows, and that of the makings of its type.
+// How far an annotation is: whether a row 5 or 6 stands, whether it ended, the count of rows, and that of the makings of its
+// type.
 pub struct Progress {
     pub failed: bool,
     pub ended: bool,

@@ -1,5 +1,5 @@
-// Prints what the programs print, for many sheets. Each stands on standard input behind a head of four bytes, the call (0: the order) and its length; each answer ends with a
-// line that holds a dot.
+// Prints what the programs print, for many sheets. Each stands on standard input behind a head of four bytes, the call (0:
+// the order) and its length; each answer ends with a line that holds a dot.
 ghost use Prim.Native.Nat.{_<_};
 
 fn wide(b: u8) -> usize

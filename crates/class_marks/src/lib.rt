@@ -19,8 +19,8 @@ ghost use Rattle.facts.specs.Facts.{tableIn, marksIn, byteAt};
 ghost use Rattle.packing.specs.Room.{Room};
 ghost use Rattle.class_marks.specs.Classes.{Gives, Adds, OneClass};
 
-// What the classes give: whether all are virtual, how many marks they have, and how many bits these have. And where a class is declared: its place if there is one
-// alone, 255 if there is none, 254 if there are more.
+// What the classes give: whether all are virtual, how many marks they have, and how many bits these have. And where a class
+// is declared: its place if there is one alone, 255 if there is none, 254 if there are more.
 pub struct Classes {
     pub all_virtual: bool,
     pub marks: usize,

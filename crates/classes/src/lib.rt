@@ -1,6 +1,6 @@
 // The names that types declare, as rows of bits, so that a class is found by its word and its dom.
-// 1600 numbers are 400 rows. Row w has the classes of the word w that are declared as resources, by their doms: 0 for none, d + 1 for the word d. Row 200 + a has
-// the words w such that a.w is declared.
+// 1600 numbers are 400 rows. Row w has the classes of the word w that are declared as resources, by their doms: 0 for none,
+// d + 1 for the word d. Row 200 + a has the words w such that a.w is declared.
 use rows::Row;
 ghost use mathlib.Core.Path.{_≡_};
 ghost use Prim.Native.Nat.{_<_};

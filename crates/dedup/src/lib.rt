@@ -228,7 +228,8 @@ fn search_from(first: Entry, count: usize) -> usize
     0
 }
 
-// The entries of a parent join a list, one after the other, under that parent. Most stand there, from another parent, and are found in their place.
+// The entries of a parent join a list, one after the other, under that parent. Most stand there, from another parent, and are
+// found in their place.
 pub fn joined_entries(l: Entries, p: Entries, parent: u64) -> Entries
     requires { ⌜ Kept l ⌝ }
     requires { ⌜ Kept p ⌝ }

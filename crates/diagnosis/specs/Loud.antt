@@ -1,5 +1,5 @@
--- Each type that is not placed has a row, from every path that leads to it. So each step of the search belongs to a row: the search enters such types alone,
--- goes at most as deep as there are types, and ends at the row past the limit.
+-- Each type that is not placed has a row, from every path that leads to it. So each step of the search belongs to a row: the
+-- search enters such types alone, goes at most as deep as there are types, and ends at the row past the limit.
 use mathlib.Core.Bool.{Bool, true, false, not}
 use mathlib.Core.List.{List, [], _∷_, cons≢nil}
 use mathlib.Core.Path.{_≡_, refl, ap}

@@ -1,4 +1,5 @@
--- The diagnosis of refusal 8 over places: its rows as the bytes that are written. A path is a list of flags, one for each type, of those that are on it.
+-- The diagnosis of refusal 8 over places: its rows as the bytes that are written. A path is a list of flags, one for each
+-- type, of those that are on it.
 use mathlib.Core.Bool.{Bool, true, false, _&&_, _||_, not, cond}
 use mathlib.Core.List.{List, [], _∷_, map}
 use Prim.Native.Nat.{ℕ, zero, suc}

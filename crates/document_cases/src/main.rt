@@ -1,4 +1,5 @@
-// Runs the calls on the sheets of document 01's (p) cases and of its corners, and compares every byte. Prints a line for each: its name, and `ok` or `differs`.
+// Runs the calls on the sheets of document 01's (p) cases and of its corners, and compares every byte. Prints a line for
+// each: its name, and `ok` or `differs`.
 ghost use mathlib.Core.Path.{_≡_};
 ghost use lib.ListN.{length};
 

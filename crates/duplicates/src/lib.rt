@@ -14,8 +14,9 @@ ghost use Rattle.making.specs.Making.{itemOf};
 ghost use Rattle.table.specs.Table.{nameAt, declarationAt, tableMap, Sound};
 ghost use Rattle.duplicates.specs.Held.{makingsIn, heldItems, Holding, Keeps};
 
-// The makings of one type are lent as numbers, as they were made, six to a making: its word, the four of its doms, and the direct parents that it comes from. An own
-// word is made at most once for each of 12 annotations of 15 words, an inherited one once, so that there are at most 380.
+// The makings of one type are lent as numbers, as they were made, six to a making: its word, the four of its doms, and the
+// direct parents that it comes from. An own word is made at most once for each of 12 annotations of 15 words, an inherited
+// one once, so that there are at most 380.
 // One making more, behind the first count.
 pub fn put_making(made: &mut [u64; 2280], count: usize, word: u8, doms: Row, parents: u64)
     requires { ⌜ count < 380 ⌝ }

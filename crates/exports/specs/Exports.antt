@@ -1,4 +1,5 @@
--- What the exported calls answer: the number is returned, and the size, the count of rows and the flag go into a lent slice of three numbers.
+-- What the exported calls answer: the number is returned, and the size, the count of rows and the flag go into a lent slice
+-- of three numbers.
 use mathlib.Core.Bool.{Bool, true, false, cond}
 use mathlib.Core.List.{List, [], _∷_}
 use Prim.Native.Nat.{ℕ, _^_, _<_}

@@ -41,7 +41,8 @@ extensionIn f j = record {
 unfoldable pub extensionsIn : List ℕ → Extensions
 extensionsIn f = record { count = byteAt f 1942; items = tabulate (extensionIn f) 32 }
 
--- The table. The type i stands at 20 * i: the two words of its name, its variant, whether it is virtual, whether it is a trait, and its marks.
+-- The table. The type i stands at 20 * i: the two words of its name, its variant, whether it is virtual, whether it is a
+-- trait, and its marks.
 -- The number of the word `resource` stands at 1940, the count of the types at 1941, that of the extensions at 1942.
 unfoldable pub tableIn : List ℕ → Table
 tableIn f = record {

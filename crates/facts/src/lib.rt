@@ -1,4 +1,5 @@
-// What the schedule looks up of the types and the extensions, in one array of bytes: a lent array costs nothing to pass, however often.
+// What the schedule looks up of the types and the extensions, in one array of bytes: a lent array costs nothing to pass,
+// however often.
 use fields::Name;
 use records::Marks;
 use types::Extension;

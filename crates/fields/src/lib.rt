@@ -1,5 +1,5 @@
-// The fields of a sheet: counts, words, names and lists of names. A function at a cursor answers what its parser in the definitions gives for the bits from there
-// on, refusals 3 and 4 included.
+// The fields of a sheet: counts, words, names and lists of names. A function at a cursor answers what its parser in the
+// definitions gives for the bits from there on, refusals 3 and 4 included.
 use bits::Cursor;
 use bits::Read;
 ghost use mathlib.Core.Bool.{false};

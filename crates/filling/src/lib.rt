@@ -1,4 +1,5 @@
-// The rows of what a type gives, put into the table of all types: 804 numbers to a type, the row of its words and then a row of doms for each word.
+// The rows of what a type gives, put into the table of all types: 804 numbers to a type, the row of its words and then a row
+// of doms for each word.
 use records::Annotation;
 use types::TypeInfo;
 ghost use mathlib.Core.Bool.{true};

@@ -1,4 +1,5 @@
--- A type at the edges of the bounds: it associates the word 199 with the dom 199 and the word 0 without a dom, and nests 0 with the dom 0. Its Alias gives nothing.
+-- A type at the edges of the bounds: it associates the word 199 with the dom 199 and the word 0 without a dom, and nests 0
+-- with the dom 0. Its Alias gives nothing.
 use mathlib.Core.Bool.{false}
 use mathlib.Core.List.{List, [], _∷_, List·Memᴰ·not-nil}
 use mathlib.Core.Path.{_≡_, refl, sym, ap, _∙_}

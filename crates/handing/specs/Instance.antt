@@ -1,4 +1,5 @@
--- 01's example meets what `keep_inherited` requires: `file`, the second type, lists `resource`, which inherits nothing, and a store of zeros says so.
+-- 01's example meets what `keep_inherited` requires: `file`, the second type, lists `resource`, which inherits nothing, and a
+-- store of zeros says so.
 use mathlib.Core.Bool.{true}
 use mathlib.Core.List.{List, [], List·Memᴰ·not-nil}
 use mathlib.Core.Path.{_≡_, refl, sym, ap, _∙_}

@@ -1,4 +1,5 @@
-// What a type inherits from its listed parents: from each its own associates, then what it inherits itself, which is kept in a store of all types.
+// What a type inherits from its listed parents: from each its own associates, then what it inherits itself, which is kept in
+// a store of all types.
 use dedup::Inherited;
 use ordering::Parents;
 use types::TypeInfo;

@@ -1,4 +1,5 @@
--- What follows from `HeldMap s ts es p`: how many types there are, which stand at which place, their names and their parents, and that there is an order.
+-- What follows from `HeldMap s ts es p`: how many types there are, which stand at which place, their names and their parents,
+-- and that there is an order.
 use mathlib.Core.Bool.{true, false}
 use mathlib.Core.List.{List, map, Memᴰ·map}
 use mathlib.Core.Path.{_≡_, sym, ap, _∙_, subst}

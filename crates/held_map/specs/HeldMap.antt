@@ -1,4 +1,5 @@
--- The map of a sheet that none of 3 to 8 refuses, as the code holds it: the types in name order, the extensions as listed, and the parents by places.
+-- The map of a sheet that none of 3 to 8 refuses, as the code holds it: the types in name order, the extensions as listed,
+-- and the parents by places.
 use mathlib.Core.Bool.{true}
 use mathlib.Core.Path.{_≡_}
 use Rattle.definitions.specs.Records.{Sheet}

@@ -12,7 +12,8 @@ ghost use Rattle.definitions.specs.Making.{sameItem, sameMark};
 ghost use Rattle.definitions.specs.Comparisons.{sameName};
 ghost use Rattle.making.specs.Making.{parentOf, parentAt, parentsOf, markAs, marksOf, itemOf};
 
-// The second word of a parent. A parent of two words is held as `a.b`, or as the resource b of a one-word a: its words are the same.
+// The second word of a parent. A parent of two words is held as `a.b`, or as the resource b of a one-word a: its words are
+// the same.
 fn second_of(p: Parent) -> u8
     ensures { λ r. ⌜ r ≡ cond (eqb (p .second) 255) (p .third) (p .second) ⌝ }
 {

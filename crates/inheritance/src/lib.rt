@@ -1,4 +1,5 @@
-// What a type inherits from one parent: the parent's own associates, then what the parent itself inherits, after `inherit_annotations`.
+// What a type inherits from one parent: the parent's own associates, then what the parent itself inherits, after
+// `inherit_annotations`.
 use annotations::AnnotationInfo;
 use dedup::Entry;
 use dedup::Inherited;

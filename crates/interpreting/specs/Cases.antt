@@ -246,7 +246,8 @@ entry-ready =
 
 -- ---- what it comes to
 
--- the unknown classes of 199 end the own Associate, and then the inherited one: `file` is made twice, from its class and from two parents
+-- the unknown classes of 199 end the own Associate, and then the inherited one: `file` is made twice, from its class and from
+-- two parents
 pub rows-of : interpretedAt example 0 owns inherited .rows
     ≡ classRow 4 (declarationAt example 0) 199 (199 ∷ [])
     ∷ classRow 4 (declarationAt example 0) 199 (199 ∷ 199 ∷ [])

@@ -1,5 +1,5 @@
--- The orders that 01 sorts by are strict, names are looked up as 01 says, and the type map has the sheet's types in name order. What follows cites these laws
--- and not the text of the definitions.
+-- The orders that 01 sorts by are strict, names are looked up as 01 says, and the type map has the sheet's types in name
+-- order. What follows cites these laws and not the text of the definitions.
 use mathlib.Core.Bool.{true, false, _||_}
 use mathlib.Core.List.{List, map, Memᴰ·cast, Memᴰ·map, Memᴰ·of-map, List·Permᴰ}
 use mathlib.Core.Logic.{_↔_}

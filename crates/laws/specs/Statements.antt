@@ -1,4 +1,5 @@
--- What is proved about the definitions. Each statement is a type of its own; its proof stands in the file that is named beside it.
+-- What is proved about the definitions. Each statement is a type of its own; its proof stands in the file that is named
+-- beside it.
 use mathlib.Core.Bool.{true, false, _&&_, not}
 use mathlib.Core.List.{List, [], _∷_, map}
 use mathlib.Core.Logic.{_↔_}
@@ -39,8 +40,8 @@ OrderIsNames = (s : Sheet) → WellNamed s → HasOrder s → (l : List TypeInfo
 
 -- ---- the diagnosis of refusal 8 (Diagnosis.antt)
 
--- the walk of `find_cycles_or_bad_types` reaches T by a path: it starts at the types that wait, with no path, and goes on to the types declared under a parent
--- that is not bad. The path has the names of the types left behind, the last one first.
+-- the walk of `find_cycles_or_bad_types` reaches T by a path: it starts at the types that wait, with no path, and goes on to
+-- the types declared under a parent that is not bad. The path has the names of the types left behind, the last one first.
 pub data Reaches (m : TypeMap) : List Name → TypeInfo → Type 0 where
   start : {T : TypeInfo} → In T (lastPass m .waiting) → Reaches m [] T
   onward : {path : List Name} {T U : TypeInfo} {p : Name} → Reaches m path T → In p (T .parents) → isBad m (T .name ∷ path) p ≡ false → In U (typeNamed m p)

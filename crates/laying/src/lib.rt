@@ -7,8 +7,8 @@ ghost use lib.ListN.{length};
 ghost use Rattle.associations.specs.Associations.{TypesHeld, Blanks};
 ghost use Rattle.laying.specs.Laying.{Unmarked, OwnRoom, Lays};
 
-// What each type gives goes into the table, 804 numbers a type; what is looked up of it into the facts; its name into the classes; its own resources into `own`,
-// 361 bytes a type. `table` and `classes` were empty.
+// What each type gives goes into the table, 804 numbers a type; what is looked up of it into the facts; its name into the
+// classes; its own resources into `own`, 361 bytes a type. `table` and `classes` were empty.
 pub fn lay_types(
     table: &mut [u64],
     facts: &mut [u8; 1944],

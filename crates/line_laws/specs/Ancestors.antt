@@ -1,4 +1,5 @@
--- The computed ancestors are the ancestors: rounds add types until none is added, and no chain needs more rounds than there are types.
+-- The computed ancestors are the ancestors: rounds add types until none is added, and no chain needs more rounds than there
+-- are types.
 use mathlib.Core.Bool.{Bool, true, _||_}
 use mathlib.Core.List.{List, Memᴰ·cast}
 use mathlib.Core.Logic.{_⊎_, inl, inr, ⊎-elim, _↔_}

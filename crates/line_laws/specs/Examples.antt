@@ -67,7 +67,8 @@ sheetOf ts = record { words = words; types = ts; extensions = record { name = b;
 
 -- ---- an accepted map
 
--- `c` under `b` under `a`; `a` associates `file`, `b` nests `resource.file`, `c` associates `file`; `b.file` has an extension record
+-- `c` under `b` under `a`; `a` associates `file`, `b` nests `resource.file`, `c` associates `file`; `b.file` has an extension
+-- record
 abbrev typeA : TypeInfo
 typeA = domainType 0 [] (associate (file [] ∷ []) ∷ [])
 

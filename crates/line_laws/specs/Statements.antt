@@ -1,4 +1,5 @@
--- What is proved about the lines of a map. Each statement is a type of its own; its proof stands in the file that is named beside it.
+-- What is proved about the lines of a map. Each statement is a type of its own; its proof stands in the file that is named
+-- beside it.
 use mathlib.Core.Bool.{Bool, true, false, _||_, not}
 use mathlib.Core.List.{List, _∷_, _++_, map}
 use mathlib.Core.Logic.{_⊎_, _↔_}
@@ -78,7 +79,8 @@ ClassesDeclared s = (T : TypeInfo) → In T (s .types) → (c : Name) → ClassO
 abbrev pub ItemsAreLines : Type 0
 ItemsAreLines = (s : Sheet) → Readable s → Accepted s → (x : Item) → In x (itemsOf (lineMap s)) ↔ LineOf s x
 
--- A line is an item on every map. An item is a line where every class is declared; an undeclared class has no marks, and what it makes is no line.
+-- A line is an item on every map. An item is a line where every class is declared; an undeclared class has no marks, and what
+-- it makes is no line.
 abbrev pub LinesAreItems : Type 0
 LinesAreItems = (s : Sheet) → Readable s → (x : Item) → LineOf s x → In x (itemsOf (lineMap s))
 
@@ -151,7 +153,8 @@ RelistedLines = (s t : Sheet) → Readable s → Readable t → Relisted s t →
 abbrev pub ReadIsWithin : Type 0
 ReadIsWithin = (bits rest : List Bool) (s : Sheet) → sheet bits ≡ done s rest → Within s
 
--- 64 types, each with 12 annotations of 15 resources; one inherited resource and one line for each of 200 words. On a refused map too.
+-- 64 types, each with 12 annotations of 15 resources; one inherited resource and one line for each of 200 words. On a refused
+-- map too.
 abbrev pub ItemsAtMost : Type 0
 ItemsAtMost = (s : Sheet) → Readable s → Within s → length (itemsOf (lineMap s)) ≤ 64 * (12 * 15 + 200 + 200)
 

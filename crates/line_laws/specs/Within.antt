@@ -62,7 +62,8 @@ pub record Within (s : Sheet) : Type 0 where
 
 -- ---- items
 
--- how much there is of one type T: words with a making, own classes of a word, doms of an inherited word, parents that pass it on, and items
+-- how much there is of one type T: words with a making, own classes of a word, doms of an inherited word, parents that pass
+-- it on, and items
 pub record CountsWithin (s : Sheet) (T : TypeInfo) : Type 0 where
   pub words : length (wordsMade (lineTypeOf T) (ancestors (lineMapOf (typeMapOf s)) (lineTypeOf T))) ≤ 200
   pub owns : (r : ℕ) → length (ownClasses (lineTypeOf T) r) ≤ 12

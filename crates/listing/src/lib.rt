@@ -16,7 +16,8 @@ ghost use Rattle.associations.specs.Associations.{Blanks};
 ghost use Rattle.facts.specs.Facts.{tableIn};
 ghost use Rattle.listing.specs.Schedules.{Schedulable, TriesSchedule};
 
-// What became of a schedule. It is not decided where the quick test can't tell that no type is refused; then nothing was written.
+// What became of a schedule. It is not decided where the quick test can't tell that no type is refused; then nothing was
+// written.
 pub struct Tried {
     pub decided: bool,
     pub listed: Listed,
@@ -202,7 +203,8 @@ fn list_if(
     }
 }
 
-// The schedule, with what each type associates in the table, 804 numbers a type, and its own resources in `own`, 361 bytes a type.
+// The schedule, with what each type associates in the table, 804 numbers a type, and its own resources in `own`, 361 bytes a
+// type.
 fn list_with(
     listing: &mut [u8],
     table: &mut [u64],
@@ -323,8 +325,8 @@ fn list_most(
     )
 }
 
-// The schedule of the types, which are in name order, and the extensions. `resource` is the number of that word, `p` has the parents of the types, and `o` is their
-// order.
+// The schedule of the types, which are in name order, and the extensions. `resource` is the number of that word, `p` has the
+// parents of the types, and `o` is their order.
 pub fn write_schedule(
     listing: &mut [u8],
     known: bool,

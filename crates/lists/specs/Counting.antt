@@ -26,7 +26,8 @@ pigeonhole (x ∷ l) k d h =
     (List·Memᴰ·append-cases (r .0) (subst (In y) (r .2) (h y (List·Memᴰ·tail i))))) in
     omega (arith, ap length (r .2), length-append (r .0) (x ∷ r .1), length-append (r .0) (r .1))
 
--- where each member of a list has another above it, by a relation that is transitive and that no element has to itself, the list has no member
+-- where each member of a list has another above it, by a relation that is transitive and that no element has to itself, the
+-- list has no member
 module _ {A : Type 0} (R : A → A → Type 0) (transitive : (x y z : A) → R x y → R y z → R x z) (irreflexive : (x : A) → R x x → ⊥)
     (k : List A) (next : (x : A) → In x k → (y : A) × In y k × R y x) where
   climb : (x : A) → In x k → (n : ℕ) → (y : A) × (l : List A) × Sorted R (y ∷ l) × ((z : A) → In z (y ∷ l) → In z k) × (length l ≡ n)

@@ -66,7 +66,8 @@ filter-one f x (y ∷ l) d i p h =
 
 -- ---- lists without repeats
 
--- what f makes of a list without repeats has none, where each list that f makes has none and an element comes from one list alone
+-- what f makes of a list without repeats has none, where each list that f makes has none and an element comes from one list
+-- alone
 pub distinct-each : {A B : Type 0} (f : A → List B) (l : List A) → Distinct l → ((x : A) → In x l → Distinct (f x))
     → ((x y : A) (z : B) → In x l → In y l → In z (f x) → In z (f y) → x ≡ y) → Distinct (each f l)
 distinct-each f [] d h k = tt

@@ -1,4 +1,5 @@
--- Laws of tests, and of tests over lists: what `any`, `all`, `filter`, `each`, `firstOf` and `placeOf` say of the members of a list.
+-- Laws of tests, and of tests over lists: what `any`, `all`, `filter`, `each`, `firstOf` and `placeOf` say of the members of
+-- a list.
 use mathlib.Core.Bool.{Bool, true, false, _&&_, _||_, or-true}
 use mathlib.Core.List.{List, [], _∷_, cons≢nil, List·Memᴰ·head, List·Memᴰ·tail, List·Memᴰ·not-nil, List·Memᴰ·cases-cons, Memᴰ·append-left, Memᴰ·append-right, List·Memᴰ·append-cases}
 use mathlib.Core.Logic.{_⊎_, inl, inr, ⊎-elim, _↔_}

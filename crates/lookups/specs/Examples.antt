@@ -22,7 +22,8 @@ use Rattle.lookups.specs.TableOf.{TableOf}
 use Rattle.lookups.specs.Listable.{Listable}
 use Rattle.lookups.specs.Fitting.{fits-own}
 
--- `base` (domain, Associate of `file`), `file` (virtual resource, mark makelist) and `resource`: the words 0, 1 and 2; 3 is `self`
+-- `base` (domain, Associate of `file`), `file` (virtual resource, mark makelist) and `resource`: the words 0, 1 and 2; 3 is
+-- `self`
 abbrev pub exampleTypes : List TypeInfo
 exampleTypes =
     record { name = 0 ∷ []; variant = domain; virtual = false; trait = false; parents = []; annotations = associate (record { word = 1; dom = [] } ∷ []) ∷ []; marks = [] }

@@ -63,7 +63,8 @@ pub record WithInherited (count : ℕ) (own : List ℕ) (table passed : List ℕ
   pub doms : inherited ≡ true → United table (word + 1) row types (x .doms)
   pub passing : inherited ≡ true → PassingIn parents passed word (x .parents)
 
--- x is what is made for a type and the word, if it is inherited as asked: of every type whose own resources, ancestors and direct parents these are
+-- x is what is made for a type and the word, if it is inherited as asked: of every type whose own resources, ancestors and
+-- direct parents these are
 pub record Makes (n : ℕ) (words doms table passed : List ℕ) (row parents types word : ℕ) (inherited : Bool) (x : Made) : Type 0 where
   pub made : (s : Sheet) (ts : Types) (es : Extensions) (p : Parents) (t : ℕ) → Tables s ts es p table passed row t → p .count ≡ types → t < types → Direct p t parents
       → ownedTo words doms n ≡ owned (declarationAt (typeMapOf s) t) → inherited ≡ associateWord (ancestorsAt s t) word

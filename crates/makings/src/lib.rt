@@ -87,8 +87,8 @@ fn with_inherited(
     }
 }
 
-// What is made for a type and the word. The first n words and doms are those of its own Associates, `row` has its ancestors and `parents` its direct
-// parents. `inherited` says whether a proper ancestor gives the word.
+// What is made for a type and the word. The first n words and doms are those of its own Associates, `row` has its ancestors
+// and `parents` its direct parents. `inherited` says whether a proper ancestor gives the word.
 pub fn made_at<'a>(
     n: usize,
     words: &'a [u8; 180],

@@ -1,5 +1,6 @@
 -- A map and the compact form that reads it, computed.
--- Words `a`, `b`, `resource`, `self`, `zz`. Type `a` inherits `self` and `zz`, type `b` inherits `b.a`, `a` and itself, type `b.a` nothing.
+-- Words `a`, `b`, `resource`, `self`, `zz`. Type `a` inherits `self` and `zz`, type `b` inherits `b.a`, `a` and itself, type
+-- `b.a` nothing.
 use mathlib.Core.Bool.{false}
 use mathlib.Core.List.{List, [], _∷_, _++_}
 use mathlib.Core.Path.{refl}

@@ -17,7 +17,8 @@ use Rattle.ordering.specs.declared.Order.{Order}
 abbrev pub placesIn : Order → List ℕ
 placesIn r = take (r .count) (r .items)
 
--- an order is found exactly if the map has one; the names at its places are then that order's. Each place is that of a type, and the places are those that all rounds place.
+-- an order is found exactly if the map has one; the names at its places are then that order's. Each place is that of a type,
+-- and the places are those that all rounds place.
 pub record Organized (p : Parents) (r : Order) : Type 0 where
   pub most : r .count ≤ p .count
   pub within : all (λ t. ltb t (p .count)) (placesIn r) ≡ true

@@ -1,4 +1,5 @@
--- A type at the edges of the bounds: three Associates have the word 0, twice with the dom 199 and once without; a NestAssociate has it too, and gives no own class.
+-- A type at the edges of the bounds: three Associates have the word 0, twice with the dom 199 and once without; a
+-- NestAssociate has it too, and gives no own class.
 use mathlib.Core.Bool.{Bool, false}
 use mathlib.Core.List.{List, [], _∷_, map, List·Memᴰ·not-nil}
 use mathlib.Core.Logic.{inl, inr}

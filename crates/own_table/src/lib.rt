@@ -1,4 +1,5 @@
-// The own resources of all types as one lent array of bytes: 361 to a type, how many there are, then room for 180 words and for 180 doms.
+// The own resources of all types as one lent array of bytes: 361 to a type, how many there are, then room for 180 words and
+// for 180 doms.
 // What is lent goes through every layer of the listing, where the types themselves would be copied at each call.
 use own_classes::Owned;
 use types::TypeInfo;

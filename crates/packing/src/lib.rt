@@ -1,4 +1,5 @@
-// The schedule's bits. Each part has its number of bits, found before anything is written, and a writer at a cursor whose contract is the definitions' list of bits.
+// The schedule's bits. Each part has its number of bits, found before anything is written, and a writer at a cursor whose
+// contract is the definitions' list of bits.
 use bits::Cursor;
 use fields::Name;
 use making::Line;
@@ -195,7 +196,8 @@ pub fn write_line(buf: &mut [u8], c: Cursor, l: Line) -> Cursor
     c4.write(buf, 8, l.word as usize)
 }
 
-// The name of type t. Past the arrays both words are 0, as in the definition of the names, so that callers need not show that t is a type.
+// The name of type t. Past the arrays both words are 0, as in the definition of the names, so that callers need not show that
+// t is a type.
 fn name_at(firsts: [u8; 64], seconds: [u8; 64], t: usize) -> Name
     ensures { λ r. ⌜ nameOf r ≡ nameAt firsts seconds t ⌝ }
 {

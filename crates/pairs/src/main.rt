@@ -1,6 +1,7 @@
-// Intersection and difference of given pairs of annotations. Each annotation stands on standard input as its kind, its tag, how many words it has, and for each of these the
-// word and two bytes of its dom set, bit 0 for none; the names of an Inherit stand there as in crates/annotations. A line of output holds both results in the same numbers,
-// or `none`, with a bar between them.
+// Intersection and difference of given pairs of annotations. Each annotation stands on standard input as its kind, its tag,
+// how many words it has, and for each of these the word and two bytes of its dom set, bit 0 for none; the names of an Inherit
+// stand there as in crates/annotations. A line of output holds both results in the same numbers, or `none`, with a bar
+// between them.
 use annotations::AnnotationInfo;
 use annotations::Part;
 use rows::Row;

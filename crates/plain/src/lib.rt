@@ -130,7 +130,8 @@ fn with_bytes(before: Row, count: usize, bytes: [u8; 15]) -> Row
     out
 }
 
-// What is asked of an annotation, `own` being of the Associates before it: of an Associate (1) all, of a NestAssociate (2) its classes.
+// What is asked of an annotation, `own` being of the Associates before it: of an Associate (1) all, of a NestAssociate (2)
+// its classes.
 fn is_plain(classes: &[u64; 1600], a: Annotation, own: Own, above: Row, parents: Row) -> bool
     requires { ⌜ Fit a ⌝ }
     ensures { λ r. ⌜ PlainIn (now (classes .entry)) a own above parents r ⌝ }

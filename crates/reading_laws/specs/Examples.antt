@@ -149,7 +149,8 @@ pub everything-legal : Legal everything
 unfolding setOf include badWords bytesBefore namesTwice keysTwice wordsTwice sameAnnotation annotationsTwice somethingTwice
 everything-legal = read-legal everything everything-read refl refl
 
--- ---- every count at its limit: 200 words, one of 31 bytes; 64 types, one with 8 parents, 12 annotations and 7 marks; 32 extensions, one with 8 parents
+-- ---- every count at its limit: 200 words, one of 31 bytes; 64 types, one with 8 parents, 12 annotations and 7 marks; 32
+-- extensions, one with 8 parents
 
 -- n numbers from k on
 abbrev from : ℕ → ℕ → List ℕ

@@ -1,4 +1,5 @@
--- What is proved about reading a sheet and about the refusals. Each statement is a type of its own; its proof stands in the file that is named beside it.
+-- What is proved about reading a sheet and about the refusals. Each statement is a type of its own; its proof stands in the
+-- file that is named beside it.
 use mathlib.Core.Bool.{Bool, true, false}
 use mathlib.Core.List.{List, [], _∷_, _++_}
 use mathlib.Core.Logic.{_⊎_, _↔_}
@@ -23,7 +24,8 @@ Bytes l = Every (λ b. b < 256) l
 
 -- ---- reading (RoundTrip.antt)
 
--- Nothing legal is refused: the bytes of a legal map are read to it, nothing but zero bits fills the last byte, and neither 1 nor 5 nor 6 turns it back.
+-- Nothing legal is refused: the bytes of a legal map are read to it, nothing but zero bits fills the last byte, and neither 1
+-- nor 5 nor 6 turns it back.
 abbrev pub NothingLegalIsRefused : Type 0
 NothingLegalIsRefused = (s : Sheet) → Legal s → Holds (encode s) s × Bytes (encode s)
 
@@ -73,7 +75,8 @@ TwiceExactly = (s : Sheet) → (somethingTwice s ≡ false) ↔ NothingTwice s
 abbrev pub NoneHolds : List Refusal → Type 0
 NoneHolds l = Every (λ (q : Refusal). q .holds tt ≡ false) l
 
--- Each exactly on its condition: the number at place k of the list of refusals is answered exactly if that one holds and none before it does.
+-- Each exactly on its condition: the number at place k of the list of refusals is answered exactly if that one holds and none
+-- before it does.
 abbrev pub EachOnItsCondition : Type 0
 EachOnItsCondition =
     (i : Input) (k : ℕ) (r : Refusal) → At r k (refusals i) → (outcome i .answer .number ≡ r .number) ↔ (NoneHolds (take k (refusals i)) × (r .holds tt ≡ true))
@@ -124,7 +127,8 @@ pub record ExactlyIf (i : Input) : Type 0 where
 abbrev pub FirstSevenExactly : Type 0
 FirstSevenExactly = (i : Input) → ExactlyIf i
 
--- A legal map passes the first seven tests, in each call that lends a diagnosis slice that is long enough: what it answers is decided by 8, 9 and 10.
+-- A legal map passes the first seven tests, in each call that lends a diagnosis slice that is long enough: what it answers is
+-- decided by 8, 9 and 10.
 abbrev pub LegalPassesSeven : Type 0
 LegalPassesSeven = (i : Input) (s : Sheet) → Legal s → i .sheet ≡ encode s → 6 * i .settings .rows ≤ length (i .diagnosis) → outcome i ≡ firstRefusal i (drop 7 (refusals i))
 

@@ -1,5 +1,6 @@
-// Answers for each sheet of standard input: with its refusal by 3 to 7, 0 for none, of the sheet alone, or also of the sheet cut to each shorter length and with
-// each single bit flipped; or with what the order program prints for it. tools/damage makes the input, and by a model of its own what must come out.
+// Answers for each sheet of standard input: with its refusal by 3 to 7, 0 for none, of the sheet alone, or also of the sheet
+// cut to each shorter length and with each single bit flipped; or with what the order program prints for it. tools/damage
+// makes the input, and by a model of its own what must come out.
 use access::Answer;
 ghost use Prim.Native.Nat.{_+_, _≤_, _<_};
 ghost use lib.ListN.{length};
@@ -58,7 +59,8 @@ fn print_all_flipped(sheet: &mut [u8]) {
     }
 }
 
-// One record: by its mode what the order program prints, or the sheet's refusal, and where it is asked for those of the damaged sheet.
+// One record: by its mode what the order program prints, or the sheet's refusal, and where it is asked for those of the
+// damaged sheet.
 fn answer(sheet: &mut [u8], mode: u8) {
     if mode == 2 {
         printing::print_order(sheet);

@@ -1,4 +1,5 @@
--- Relisted sheets leave rows in the synthesis alike, since rows and refused types agree for the whole map; so the schedule call answers alike.
+-- Relisted sheets leave rows in the synthesis alike, since rows and refused types agree for the whole map; so the schedule
+-- call answers alike.
 use mathlib.Core.Bool.{true}
 use mathlib.Core.List.{List}
 use mathlib.Core.Path.{_≡_, refl, sym, ap, _∙_}

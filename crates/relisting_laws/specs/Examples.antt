@@ -1,5 +1,5 @@
--- Pairs of different bytes that are relisted, through both calls: accepted, and refused by 2, 8, 9 and 10. In the pairs of 8 and 9 the rows differ: they aren't
--- compared.
+-- Pairs of different bytes that are relisted, through both calls: accepted, and refused by 2, 8, 9 and 10. In the pairs of 8
+-- and 9 the rows differ: they aren't compared.
 use mathlib.Core.Bool.{true, false}
 use mathlib.Core.List.{List, [], _∷_, List·Permᴰ·nil, List·Permᴰ·cons, List·Permᴰ·swap, List·Permᴰ·trans}
 use mathlib.Core.Path.{_≡_, refl}

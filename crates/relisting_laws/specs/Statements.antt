@@ -1,4 +1,5 @@
--- Demand 3, as it is proved: from bytes to answers, for both calls and every length of the lent slices. The proofs are in Alike.antt.
+-- Demand 3, as it is proved: from bytes to answers, for both calls and every length of the lent slices. The proofs are in
+-- Alike.antt.
 use mathlib.Core.Path.{_≡_}
 use Rattle.definitions.specs.Answer.{Input, outcome}
 use Rattle.definitions.specs.Relisted.{RelistedInputs, Alike}

@@ -1,4 +1,5 @@
-// What all types inherit, in one lent slice of numbers: 1801 to a type, its count of entries, then five numbers to an entry, then four to the dom set of a word.
+// What all types inherit, in one lent slice of numbers: 1801 to a type, its count of entries, then five numbers to an entry,
+// then four to the dom set of a word.
 use dedup::Entries;
 use dedup::Entry;
 use dedup::Inherited;

@@ -1,4 +1,5 @@
-// The synthesis of a map that has an order, and the rows of refusal 9, after `inherit_annotations` and `apply_associate_annotations` of compile.rs.
+// The synthesis of a map that has an order, and the rows of refusal 9, after `inherit_annotations` and
+// `apply_associate_annotations` of compile.rs.
 use dedup::Inherited;
 use hearing::Flags;
 use ordering::Parents;
@@ -28,7 +29,8 @@ pub struct Played {
     pub rows: usize,
 }
 
-// What type t gets from the listings with a flag. What it inherits where all hand on is kept for its children: it is the same where no call failed.
+// What type t gets from the listings with a flag. What it inherits where all hand on is kept for its children: it is the same
+// where no call failed.
 fn receive(p: Parents, types: Types, store: &mut [u64], t: usize, flags: Flags) -> Inherited
     requires { ⌜ Ready p types (now store) t 255 ⌝ }
     requires { ⌜ Flagged p t flags ⌝ }
@@ -42,7 +44,8 @@ fn receive(p: Parents, types: Types, store: &mut [u64], t: usize, flags: Flags) 
     got
 }
 
-// Type t, of this record, takes what its parents hand on and is interpreted; its parents were, in the loop that calls this and not by recursion.
+// Type t, of this record, takes what its parents hand on and is interpreted; its parents were, in the loop that calls this
+// and not by recursion.
 fn inherit_annotations(
     table: Table,
     types: Types,

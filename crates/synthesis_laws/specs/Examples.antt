@@ -1,4 +1,5 @@
--- For each theorem a concrete instance that meets what it asks, computed; and the two sheets that show why rows and refused types agree only for the whole map.
+-- For each theorem a concrete instance that meets what it asks, computed; and the two sheets that show why rows and refused
+-- types agree only for the whole map.
 use mathlib.Core.Bool.{true, false}
 use mathlib.Core.List.{List, [], _∷_, _++_, List·Memᴰ·head, List·Memᴰ·tail, List·Memᴰ·not-nil, List·Permᴰ, map}
 use mathlib.Core.Option.{Option, none, some}

@@ -1,4 +1,5 @@
--- Interpreting a type adds no row exactly if each of its makings is fit and no two are identical; then it makes these and a line for each word, each once.
+-- Interpreting a type adds no row exactly if each of its makings is fit and no two are identical; then it makes these and a
+-- line for each word, each once.
 use mathlib.Core.Bool.{Bool, true, false, not}
 use mathlib.Core.List.{List, [], _∷_, _++_, map, cons≢nil, List·Memᴰ·head, List·Memᴰ·tail, List·Memᴰ·not-nil, List·Memᴰ·eq-of-singleton, Memᴰ·cast, Memᴰ·append-left, Memᴰ·append-right, List·Memᴰ·append-cases, Memᴰ·map, Memᴰ·of-map}
 use mathlib.Core.Logic.{_⊎_, inl, inr, ⊎-elim, _↔_}

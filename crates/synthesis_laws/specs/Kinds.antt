@@ -1,4 +1,5 @@
--- The other kinds do not matter to the Associates: the dedup of a list of all kinds has the Associates that the dedup of its Associates has.
+-- The other kinds do not matter to the Associates: the dedup of a list of all kinds has the Associates that the dedup of its
+-- Associates has.
 use mathlib.Core.Bool.{Bool, true, false, not}
 use mathlib.Core.List.{List, [], _∷_, _++_}
 use mathlib.Core.Logic.{⊎-elim}

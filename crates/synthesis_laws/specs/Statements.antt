@@ -38,9 +38,9 @@ pub record ThreeSets (us vs left both right : List AssociatedResource) : Type 0 
   pub words : (r : ℕ) → ((hasAssociatedWord us r ≡ true) ⊎ (hasAssociatedWord vs r ≡ true)) ↔ ((hasAssociatedWord left r ≡ true) ⊎ ((hasAssociatedWord both r ≡ true) ⊎ (hasAssociatedWord right r ≡ true)))
   pub doms : (r : ℕ) (d : Dom) → (In d (domsIn us r) ⊎ In d (domsIn vs r)) ↔ (In d (domsIn left r) ⊎ (In d (domsIn both r) ⊎ In d (domsIn right r)))
 
--- What becomes of two annotations. Two Associates, or two NestAssociates, part by word. Equal MakeLists, Aliases or NoDerives are shared whole. All else stays on
--- its side: so of two equal Inherits (kind 4) or Derives (kind 5) each side keeps its own, and there the three sets are not disjoint; nor are they where an
--- Associate and a NestAssociate have a word in common.
+-- What becomes of two annotations. Two Associates, or two NestAssociates, part by word. Equal MakeLists, Aliases or NoDerives
+-- are shared whole. All else stays on its side: so of two equal Inherits (kind 4) or Derives (kind 5) each side keeps its
+-- own, and there the three sets are not disjoint; nor are they where an Associate and a NestAssociate have a word in common.
 pub data Parted (a b : AnnotationInfo) : Type 0 where
   byWord : (us vs : List AssociatedResource) → ((a ≡ associate us) × (b ≡ associate vs)) ⊎ ((a ≡ nestAssociate us) × (b ≡ nestAssociate vs))
       → ThreeSets us vs (resourcesIn (difference a b)) (resourcesIn (intersection a b)) (resourcesIn (difference b a)) → Parted a b
@@ -79,8 +79,8 @@ domsGiven l r = setOf domBefore (each (λ (e : InheritedAnnotation). domsIn (res
 abbrev pub parentsGiven : List InheritedAnnotation → ℕ → List Name
 parentsGiven l r = setOf nameBefore (each (λ (e : InheritedAnnotation). e .parents) (filter (λ (e : InheritedAnnotation). entryHas e r) l))
 
--- what the dedup makes of l: entries of the same form, of which no two have a word in common; the same words, each with all doms that l gives it and from all
--- parents; and no more entries than words, but that one entry without words may stand alone
+-- what the dedup makes of l: entries of the same form, of which no two have a word in common; the same words, each with all
+-- doms that l gives it and from all parents; and no more entries than words, but that one entry without words may stand alone
 pub record Deduped (l k : List InheritedAnnotation) : Type 0 where
   pub form : AllAssociates k
   pub apart : Sorted (λ a b. (r : ℕ) → entryHas a r ≡ true → entryHas b r ≡ true → ⊥) k
@@ -139,8 +139,8 @@ HandedStep = (s : Sheet) → Ordered s → (T : TypeInfo) → In T (s .types)
     ≡ map (λ a. under (T .name) (asAssociate a)) (ownAssociates T)
     ++ map (λ (e : InheritedAnnotation). under (T .name) (e .annotation)) (inheritedBy (typeMapOf s) T)
 
--- T inherits each word associated above, with the doms that are given above and from the parents that pass it, as 01 states them; so what is made of it is the
--- inherited resource
+-- T inherits each word associated above, with the doms that are given above and from the parents that pass it, as 01 states
+-- them; so what is made of it is the inherited resource
 pub record Inherits (s : Sheet) (T : TypeInfo) (k : List InheritedAnnotation) : Type 0 where
   pub words : (r : ℕ) → In r (wordsGiven k) ↔ AssociatedAbove s T r
   pub doms : (e : InheritedAnnotation) → In e k → (u : AssociatedResource) → In u (resourcesFor e) → DomsAbove s T (u .word) (u .doms)

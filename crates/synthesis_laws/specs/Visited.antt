@@ -1,4 +1,5 @@
--- The visit leaves no row exactly if each type, given all that its parents hand on, has none. Then each type is interpreted once.
+-- The visit leaves no row exactly if each type, given all that its parents hand on, has none. Then each type is interpreted
+-- once.
 use mathlib.Core.Bool.{true, false}
 use mathlib.Core.List.{List, [], _∷_, _++_, map, append-nil, append-assoc, List·Memᴰ·head, List·Memᴰ·tail, List·Memᴰ·not-nil, Memᴰ·cast, Memᴰ·map, Memᴰ·of-map, List·Permᴰ, List·Permᴰ·nil, List·Permᴰ·trans, List·Permᴰ·append-comm}
 use mathlib.Core.Logic.{_⊎_, inl, inr, ⊎-elim, _↔_}

@@ -30,7 +30,8 @@ pub struct Gathered {
     pub marks: Marks,
 }
 
-// The place of the class of a dom that stands in the row, or the count: the dom does not stand there, or the class is not declared.
+// The place of the class of a dom that stands in the row, or the count: the dom does not stand there, or the class is not
+// declared.
 pub fn class_place<'a>(
     firsts: &'a [u8; 65],
     seconds: &'a [u8; 65],
@@ -244,7 +245,8 @@ fn parents_of(t: Table, n: Name, doms: Row, parents: u64, word: u8) -> Parents
     extension_parents(with, extensions, n, word)
 }
 
-// The making of the type at a place and a word: an own one has no parents that it comes from, and then its class names are its first parents.
+// The making of the type at a place and a word: an own one has no parents that it comes from, and then its class names are
+// its first parents.
 pub fn create_synthetic_resource(
     t: Table,
     place: usize,

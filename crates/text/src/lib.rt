@@ -1,5 +1,6 @@
-// What the programs print, from the lent bytes and the sheet's words only. No contract can say what a call of C's writes, so these functions are proved safe and
-// ending. Each takes the bytes that are to be written in `out`, of which the first so many are set, and hands that number back.
+// What the programs print, from the lent bytes and the sheet's words only. No contract can say what a call of C's writes, so
+// these functions are proved safe and ending. Each takes the bytes that are to be written in `out`, of which the first so
+// many are set, and hands that number back.
 use bits::Cursor;
 use bits::Read;
 ghost use Prim.Native.Nat.{_≤_, _<_};

@@ -1,6 +1,7 @@
-// Prints what standard input asks for, as the programs do, so that the lines can be compared with those of a model. The first byte is 0 for the order-only call's
-// listing, 1 for the schedule's, else a refusal with a diagnosis; then a refusal's number, the flag, and two bytes each for the rows and the length of the sheet. The
-// sheet follows, and behind it the listing or the diagnosis.
+// Prints what standard input asks for, as the programs do, so that the lines can be compared with those of a model. The first
+// byte is 0 for the order-only call's listing, 1 for the schedule's, else a refusal with a diagnosis; then a refusal's
+// number, the flag, and two bytes each for the rows and the length of the sheet. The sheet follows, and behind it the listing
+// or the diagnosis.
 ghost use Prim.Native.Nat.{_<_};
 
 fn wide(b: u8) -> usize

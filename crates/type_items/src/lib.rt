@@ -13,8 +13,8 @@ ghost use Rattle.makings.specs.Makings.{Makes};
 ghost use Rattle.facts.specs.Facts.{tableIn};
 ghost use Rattle.type_items.specs.Scenes.{SiteOf, Ready, Staged, CountsWord, CountsType, RoomForWord, RoomForType, WritesWord, WritesType};
 
-// A type by its place among `count` types: the row of its proper ancestors, that of its direct parents, its words with a making, and of these the inherited
-// ones.
+// A type by its place among `count` types: the row of its proper ancestors, that of its direct parents, its words with a
+// making, and of these the inherited ones.
 pub struct Site {
     pub place: usize,
     pub count: usize,

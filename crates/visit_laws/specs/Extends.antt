@@ -1,4 +1,5 @@
--- A trail that another goes on from: what is added has no name that was seen. So the result of a call that was told stays until the trail ends.
+-- A trail that another goes on from: what is added has no name that was seen. So the result of a call that was told stays
+-- until the trail ends.
 use mathlib.Core.Bool.{true, false, _||_, not}
 use mathlib.Core.List.{List, [], _∷_, _++_, append-nil, append-assoc}
 use mathlib.Core.Path.{_≡_, refl, sym, ap, _∙_, subst}

@@ -1,4 +1,5 @@
--- The visit in two steps. Which types are reached, and in which order, hangs on the parents alone; what a type then gets hangs on which calls failed.
+-- The visit in two steps. Which types are reached, and in which order, hangs on the parents alone; what a type then gets
+-- hangs on which calls failed.
 use mathlib.Core.Bool.{Bool, true, false, _&&_, _||_, not}
 use mathlib.Core.List.{List, [], _∷_, _++_}
 use Prim.Native.Nat.{ℕ, zero, suc}

@@ -30,7 +30,8 @@ freshAt p r i = tab (hasBit (getD (r .fresh) i 0)) (howMany p (itemAt r i))
 abbrev pub reachedAt : Parents → TypeMap → Trail → ℕ → Reached
 reachedAt p m r i = record { type = typeAt m (itemAt r i); fresh = freshAt p r i }
 
--- every type is reached once, its parents before it; and in this order, with these flags, the visit reaches the types of every map that p reads
+-- every type is reached once, its parents before it; and in this order, with these flags, the visit reaches the types of
+-- every map that p reads
 pub record TrailOf (p : Parents) (r : Trail) : Type 0 where
   pub count : r .count ≡ p .count
   pub below : (i : ℕ) → i < r .count → itemAt r i < p .count

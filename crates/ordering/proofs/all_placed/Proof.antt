@@ -1,4 +1,5 @@
--- The parents passed are settled; the place looked for is not among those passed of the list. Left by its label, the outer loop has a parent that is not placed.
+-- The parents passed are settled; the place looked for is not among those passed of the list. Left by its label, the outer
+-- loop has a parent that is not placed.
 use mathlib.Core.Bool.{true, false}
 use mathlib.Core.Path.{_≡_, sym, _∙_}
 use mathlib.Core.Logic.{⊎-elim}

@@ -1,5 +1,7 @@
--- `read_at` meets its contract: a walk of its MIR, by hand. A `Reader` is made, moved on and read from, each by a call. All that the proof knows of the three is that each meets its contract.
--- The machine value that one call returns is stored and passed to the next as it is. In a local MIR erases the lifetime of the struct's type, so the value is shown to have the type at `erased`.
+-- `read_at` meets its contract: a walk of its MIR, by hand. A `Reader` is made, moved on and read from, each by a call. All
+-- that the proof knows of the three is that each meets its contract.
+-- The machine value that one call returns is stored and passed to the next as it is. In a local MIR erases the lifetime of
+-- the struct's type, so the value is shown to have the type at `erased`.
 use mathlib.Core.Path.{_≡_, refl, sym, ap, subst, _∙_}
 use Prim.Native.Nat.{ℕ, _*_, _<_, _≤_, _^_}
 use mathlib.Core.List.{List, [], _∷_}

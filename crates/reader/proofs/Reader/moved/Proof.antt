@@ -1,5 +1,7 @@
--- `Reader::moved` meets its contract: a walk of its MIR, by hand. A struct is made anew of the slice that the one passed holds, and another position.
--- The struct is Copy: what it owns is had twice, one copy is kept whole for the exit, and the other, with the facts of the position passed in the place of its own, is what the result owns.
+-- `Reader::moved` meets its contract: a walk of its MIR, by hand. A struct is made anew of the slice that the one passed
+-- holds, and another position.
+-- The struct is Copy: what it owns is had twice, one copy is kept whole for the exit, and the other, with the facts of the
+-- position passed in the place of its own, is what the result owns.
 use mathlib.Core.Path.{refl}
 use Prim.Native.Nat.{_<_, _^_}
 use mathlib.Core.List.{[], _∷_}

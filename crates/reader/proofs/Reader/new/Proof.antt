@@ -1,5 +1,7 @@
--- `Reader::new` meets its contract: a walk of its MIR, by hand. A `Reader` is made of the slice passed and the first position, in the result's local.
--- A `&[u8]` is Copy, so what it owns is had twice: once for the parameter at exit, and once inside the result, beside the facts of the position.
+-- `Reader::new` meets its contract: a walk of its MIR, by hand. A `Reader` is made of the slice passed and the first
+-- position, in the result's local.
+-- A `&[u8]` is Copy, so what it owns is had twice: once for the parameter at exit, and once inside the result, beside the
+-- facts of the position.
 use mathlib.Core.Path.{refl}
 use Prim.Native.Nat.{ℕ}
 use mathlib.Core.List.{List, [], _∷_}

@@ -1,5 +1,7 @@
--- `Reader::read` meets its contract: a walk of its MIR, by hand. The struct is taken apart, and the cursor's `read` is called on the position, the slice and the number. All that the proof knows of that `read` is that it meets its contract.
--- The struct is Copy: what it owns is had twice, one copy is kept whole for the exit, and of the other what the sheet owns goes to the callee, beside the lifetime's token, which comes back.
+-- `Reader::read` meets its contract: a walk of its MIR, by hand. The struct is taken apart, and the cursor's `read` is called
+-- on the position, the slice and the number. All that the proof knows of that `read` is that it meets its contract.
+-- The struct is Copy: what it owns is had twice, one copy is kept whole for the exit, and of the other what the sheet owns
+-- goes to the callee, beside the lifetime's token, which comes back.
 use mathlib.Core.Path.{_≡_, refl}
 use Prim.Native.Nat.{ℕ, _*_, _<_, _≤_, _^_}
 use mathlib.Core.List.{[], _∷_}
