@@ -14,7 +14,7 @@ pub record Parent (s : Sheet) (P T : TypeInfo) : Type 0 where
   pub declared : In P (s .types)
   pub listed : In (P .name) (T .parents)
 
--- A is a proper ancestor of T: a parent of T, or a proper ancestor of one (FORMAT 3.1).
+-- A stands above T: directly, as its parent, or further up, through one (FORMAT 3.1).
 pub data Ancestor (s : Sheet) (A : TypeInfo) : TypeInfo → Type 0 where
   direct : {T : TypeInfo} → Parent s A T → Ancestor s A T
   further : {P T : TypeInfo} → Parent s P T → Ancestor s A P → Ancestor s A T

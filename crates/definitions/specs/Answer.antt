@@ -114,7 +114,7 @@ abbrev pub synthesisRows : Call → TypeMap → List Row
 synthesisRows schedule m = synthesis m .rows
 synthesisRows order m = []
 
--- The ten tests in their order: 1, 2, then 3 and 4 by the first field read, 7, 5, 6, 8, 9, 10 (FORMAT 7.3).
+-- The ten tests in their order (FORMAT 7.3). 3 and 4 come of one reading, which gives the one or the other.
 unfoldable pub refusals : Input → List Refusal
 refusals i =
     let r = sheet (bitsOf (i .sheet)) in

@@ -39,8 +39,8 @@ abbrev pub toList : {A : Type 0} → Option A → List A
 toList none = []
 toList (some a) = a ∷ []
 
--- A newcomer joins a list: of each earlier entry its rest, then what it shares with the newcomer; last the newcomer's own
--- rest. Where nothing is left of the newcomer, the later entries stay (FORMAT 8.9).
+-- A newcomer joins a list. Each entry splits into what the newcomer lacks and what both have, in this order; what no entry
+-- has goes last. Where nothing is left of the newcomer, the later entries stay (FORMAT 8.9).
 unfoldable pub dedupOne : List InheritedAnnotation → Option InheritedAnnotation → List InheritedAnnotation
 dedupOne [] none = []
 dedupOne [] (some n) = n ∷ []

@@ -78,7 +78,7 @@ ownClasses T r = sort nameBefore (map (λ (u : Resource). dotted (u .dom) r) (of
 unfoldable pub domsAbove : List LineType → ℕ → List Dom
 domsAbove As r = setOf domBefore (map (λ (u : Resource). u .dom) (ofWord r (each given As)))
 
--- P.r for each direct parent P that associates r or has an ancestor that does, ascending by P (FORMAT 4.4).
+-- The first parents of the inherited resource: P.r for the parents P that pass r on, in name order (FORMAT 4.4).
 unfoldable pub parentsAbove : LineMap → LineType → ℕ → List Name
 parentsAbove m T r =
     map (λ (P : LineType). dotted (P .name) r) (filter (λ P. associateWord (P ∷ ancestors m P) r) (parentsOf m T))

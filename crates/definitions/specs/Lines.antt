@@ -144,7 +144,7 @@ pub record ExtensionLine (s : Sheet) (T : TypeInfo) (x : Item) : Type 0 where
   pub made : HasMaking s T word
   pub item : x ≡ extension (T .name) (T .virtual) (T .trait) word
 
--- A line of the map: a resource so made, or an extension line, of one of its types (FORMAT 5.2).
+-- A line of the map: what is made for one of its types, or an extension line of one (FORMAT 5.2).
 pub data LineOf (s : Sheet) (x : Item) : Type 0 where
   resource : (T : TypeInfo) (from : Source) → In T (s .types) → Making s T from x → LineOf s x
   line : (T : TypeInfo) → In T (s .types) → ExtensionLine s T x → LineOf s x
@@ -156,8 +156,8 @@ pub data ClassOf (s : Sheet) (T : TypeInfo) (c : Name) : Type 0 where
   own : (i j : ℕ) (u : Resource) → OwnResource T i j u → c ≡ u .dom ++ (u .word ∷ []) → ClassOf s T c
   inherited : (r : ℕ) (d : Dom) → GivenAbove s T r d → c ≡ d ++ (r ∷ []) → ClassOf s T c
 
--- T is refused: a class is undeclared, or no resource; T.r is a declared type; or two of its makings are identical (FORMAT
--- 4.9).
+-- T is refused: a class of one of its makings has no declaration, or one that is not a resource; the name of what is made is
+-- taken by a type; or one item is made from two sources (FORMAT 4.9).
 pub data Refused (s : Sheet) (T : TypeInfo) : Type 0 where
   undeclared : (c : Name) → ClassOf s T c → ((D : TypeInfo) → In D (s .types) → D .name ≡ c → ⊥) → Refused s T
   no-resource : (c : Name) (D : TypeInfo) → ClassOf s T c → In D (s .types) → D .name ≡ c

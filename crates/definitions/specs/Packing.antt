@@ -46,7 +46,7 @@ scheduleBits s = orderBits (s .order) ++ countedBits 16 itemBits (s .items)
 
 -- ---- rows
 
--- The two bytes of a name; 255 for a word that is absent (FORMAT 8.1).
+-- The two bytes of a name; an absent word is 255 (FORMAT 8.1).
 abbrev pub nameBytes : Name → List ℕ
 nameBytes [] = 255 ∷ 255 ∷ []
 nameBytes (a ∷ []) = a ∷ 255 ∷ []

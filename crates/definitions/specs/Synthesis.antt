@@ -150,8 +150,8 @@ finish T h i = record {
   };
 }
 
--- A type is interpreted the first time it is reached, its ancestors before it; a later call succeeds at once (FORMAT 8.6).
--- The number bounds the depth.
+-- A type's own turn comes when it is first reached, behind its ancestors; a later call succeeds at once (FORMAT 8.6). The
+-- number bounds the depth.
 unfoldable pub visit : ℕ → TypeMap → TypeInfo → Visited → Called
 visit zero m T v = record { ok = true; visited = v }
 visit (suc k) m T v =
