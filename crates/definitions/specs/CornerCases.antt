@@ -7,7 +7,8 @@ use mathlib.Core.Path.{refl}
 use Prim.Native.Nat.{ℕ}
 use lib.ListN.{replicate}
 use Rattle.definitions.specs.Answer.{schedule, order}
-use Rattle.definitions.specs.Cases.{Case, ComesOut, AllComeOut, _also_, run, hex, times, accepts, refuses, diagnoses, needs}
+use Rattle.definitions.specs.Cases.{Case, ComesOut, AllComeOut, _also_, run, hex, times}
+use Rattle.definitions.specs.Cases.{accepts, refuses, diagnoses, needs}
 
 -- 1: 40,961 zero bytes
 abbrev refusal1 : List ℕ
@@ -1381,7 +1382,8 @@ unitedDoms-schedule-comes-out = refl
 --     domain b : a
 --       associate d.f
 --     domain c : b
---   => T a; T d.f; T f; T b; T c; R a.f 0 f,resource derive:1; E a 00 f; R b.f 0 d.f,resource derive:2; R b.f 0 a.f,resource derive:1; E b 00 f; R c.f 0 b.f,resource derive:1,derive:2; E c 00 f
+--   => T a; T d.f; T f; T b; T c; R a.f 0 f,resource derive:1; E a 00 f; R b.f 0 d.f,resource derive:2; R b.f 0 a.f,resource
+--      derive:1; E b 00 f; R c.f 0 b.f,resource derive:1,derive:2; E c 00 f
 abbrev ownDoms : List ℕ
 ownDoms = hex 50 0x1070b085882c61640b321c995cdbdd5c98d948e6cad8cc1410800602070440030200000910400100800488240c0100404000
 

@@ -6,7 +6,8 @@ use mathlib.Core.List.{List, [], _∷_}
 use mathlib.Core.Path.{refl}
 use Prim.Native.Nat.{ℕ}
 use Rattle.definitions.specs.Answer.{schedule, order}
-use Rattle.definitions.specs.Cases.{Case, ComesOut, AllComeOut, _also_, run, hex, accepts, refuses, diagnoses}
+use Rattle.definitions.specs.Cases.{Case, ComesOut, AllComeOut, _also_, run, hex, accepts}
+use Rattle.definitions.specs.Cases.{refuses, diagnoses}
 
 -- The two words that every sheet has, and nothing else: three zero bytes.
 --   => nothing
@@ -142,7 +143,8 @@ twoWaysUp-order-comes-out = refl
 --     domain b : a
 --       associate file
 --     resource file
---   => T a; T file; T b; R a.file 0 file,resource -; E a 00 file; R b.file 0 file,resource -; R b.file 0 a.file,resource -; E b 00 file
+--   => T a; T file; T b; R a.file 0 file,resource -; E a 00 file; R b.file 0 file,resource -; R b.file 0 a.file,resource -; E
+--      b 00 file
 abbrev parentAndChild : List ℕ
 parentAndChild = hex 39 0x1050b085888ccd2d8ca87265736f75726365239b2b633030000091020010080048810011000000
 
