@@ -1,10 +1,12 @@
 #!/usr/bin/env python3
-"""Tests of the sheet tool and of the model. Run: python3 tools/test_tools.py"""
+"""Tests of the tools, of the model, and of the pages. Run: python3 tools/test_tools.py"""
 
 import os
 import random
+import re
 import subprocess
 import sys
+import tempfile
 import unittest
 
 HERE = os.path.dirname(os.path.abspath(__file__))
@@ -686,6 +688,228 @@ class Programs(unittest.TestCase):
         self.assertEqual(self.tool("model.py", "order", "--diagnosis", "1535", given=sheet)[1],
                          b"refused 2\n")
         self.assertEqual(self.tool("model.py", "order", given=sheet_of(""))[1], b"")
+
+
+# ---------------------------------------------------------------- the pages
+
+ROOT = os.path.join(HERE, "..")
+
+
+def page(name):
+    """The text of a page of docs."""
+    with open(os.path.join(ROOT, "docs", name), encoding="utf-8") as source:
+        return source.read()
+
+
+def code_texts(text):
+    """The indented blocks of a page, each a list of lines."""
+    block = []
+    for line in text.split("\n") + [""]:
+        if line.startswith("    "):
+            block.append(line[4:])
+        elif block:
+            yield block
+            block = []
+
+
+class Format(unittest.TestCase):
+    """docs/FORMAT.md: what its examples say."""
+
+    def test_examples(self):
+        """Behind `=>` stands what the model prints for the text above it."""
+        count = 0
+        for *text, last in code_texts(page("FORMAT.md")):
+            found = re.match(r"(order )?=> (.*)", last)
+            if found:
+                count += 1
+                lines = run("\n".join(text), "order" if found.group(1) else "schedule")
+                self.assertEqual("; ".join(lines) or "nothing", found.group(2), text)
+        self.assertGreater(count, 20)
+
+    def check_bits(self, text, data, start):
+        """The bits of a table's rows stand at the places that it gives."""
+        bits = "".join(f"{byte:08b}" for byte in data)
+        rows = re.findall(r"^\| (\d+) \| ([01 ]+?)(?: and \d+ bits)? \|", text[text.index(start):], re.M)
+        for at, shown in rows:
+            shown = shown.replace(" ", "")
+            self.assertEqual(bits[int(at):int(at) + len(shown)], shown, at)
+        return len(rows)
+
+    def test_worked_example(self):
+        """The bytes of the worked example, and their bits field by field."""
+        text = page("FORMAT.md")
+        with open(os.path.join(ROOT, "examples", "base.sheet"), "rb") as source:
+            sheet = source.read()
+        made = model.schedule(sheet, LISTING, DIAGNOSIS)
+        schedule = made.listing[:made.size]
+        start = text.index("Its sheet (")
+        split = text.index("The schedule has 124 bits")
+        self.assertIn("    " + sheet.hex(" ") + "\n", text[start:split])
+        self.assertIn("    " + schedule.hex(" ") + "\n", text[split:])
+        self.assertEqual(self.check_bits(text[:split], sheet, "Its sheet ("), 21)
+        self.assertEqual(self.check_bits(text, schedule, "The schedule has 124 bits"), 8)
+        self.assertIn(model.order(sheet, LISTING, DIAGNOSIS).listing[:5].hex(" "), text[split:])
+
+    def test_bound(self):
+        """The proved bound of a schedule, in bits and in bytes."""
+        bits = 7 + 64 * 17 + 16 + 64 * (12 * 15 + 200 + 200) * 4515
+        self.assertIn(f"{bits:,} bits", page("FORMAT.md"))
+        self.assertIn(f"{(bits + 7) // 8:,}", page("FORMAT.md"))
+
+
+def write_tree(root, files):
+    """Files with their texts, below a directory."""
+    for name, text in files.items():
+        target = os.path.join(root, name)
+        os.makedirs(os.path.dirname(target), exist_ok=True)
+        with open(target, "w", encoding="utf-8") as out:
+            out.write(text)
+
+
+TRACE = """
+| FORMAT | Definition | Test |
+|---|---|---|
+| 1.1 words | `Reading.word, low` | `D small`, `code: gone, lost` |
+| 1.2 names | `code::read`, `code::Cursor`, `code::Cursor::step` | `C large` |
+| 2.1 fields | `laws First, Statements.Second, second-law` | `docs/FORMAT.md`, `code` |
+"""
+
+TREE = {
+    "docs/FORMAT.md": "## 1 Words\n\n**1.1** a\n\n**1.2** b\n\n## 2 Sheets\n\n**2.1** c\n\n## 9 Lines\n\n**9.1** d\n",
+    "docs/TRACE.md": TRACE,
+    "crates/definitions/specs/Reading.antt":
+        "-- Reads. FORMAT 1.1, 1.2\nuse A.B.{other}\n\nunfoldable pub word : ℕ → ℕ\nword n = other n\n\n"
+        "pub data Kind : Type 0 where\n  low high : Kind\n",
+    "crates/definitions/specs/DocumentCases.antt": "abbrev small : ℕ\nsmall = 1\n",
+    "crates/definitions/specs/CornerCases.antt": "abbrev large : ℕ\nlarge = 1\n",
+    "crates/code/src/lib.rt":
+        "// Code, as FORMAT 2.1 says.\npub struct Cursor {\n    at: usize,\n}\n\nimpl Cursor {\n"
+        "    pub fn step(self) -> Cursor\n        ensures { a }\n    {\n        self\n    }\n}\n\n"
+        "pub fn read(at: usize) -> usize {\n    at\n}\n",
+    "crates/code/must-fail/gone.edit": "file: src/lib.rt\n",
+    "crates/code/must-fail/lost.edit": "file: src/lib.rt\n",
+    "crates/laws/specs/Statements.antt":
+        "abbrev pub First : Type 0\nFirst = ℕ\n\npub record Second : Type 0 where\n  pub n : ℕ\n",
+    "crates/laws/specs/Proofs.antt": "module _ (n : ℕ) where\n  pub second-law : Second\n  second-law = record { n = n }\n",
+}
+
+
+class CheckTrace(unittest.TestCase):
+    """tools/check_trace on a small tree, with one thing wrong at a time; and on this repository."""
+
+    tool = Programs.tool
+
+    def check(self, *wanted, changes=None):
+        with tempfile.TemporaryDirectory() as root:
+            write_tree(root, {**TREE, **(changes or {})})
+            code, out, error = self.tool("check_trace", "--root", root)
+        self.assertEqual((code, out.decode().split("\n")[:-1], error), (1 if wanted else 0, list(wanted), ""))
+
+    def test_good(self):
+        self.check()
+
+    def test_missing_names(self):
+        for line, old, new, what in [
+                (4, "Reading.word", "Reading.other", "no definition other in crates/definitions/specs/Reading.antt"),
+                (4, "Reading.word", "Words.word", "no file crates/definitions/specs/Words.antt"),
+                (4, "D small", "D large", "no case large in crates/definitions/specs/DocumentCases.antt"),
+                (4, "gone, lost", "gone, kept", "no edit crates/code/must-fail/kept.edit"),
+                (5, "code::read", "code::write", "no function write in crates/code/src"),
+                (5, "Cursor::step", "Cursor::read", "no function Cursor::read in crates/code/src"),
+                (5, "code::read", "none::read", "no function read in crates/none/src"),
+                (6, "laws First", "laws Third", "no Third in crates/laws/specs"),
+                (6, "Statements.Second", "Proofs.Second", "no Second in crates/laws/specs/Proofs.antt"),
+                (6, "docs/FORMAT.md", "docs/OTHER.md", "no file docs/OTHER.md"),
+                (6, "`code`", "`Code`", "`Code` is no reference"),
+                (6, "`code`", "`self`", "`self` is no reference")]:
+            self.check(f"docs/TRACE.md:{line}: {what}", changes={"docs/TRACE.md": TRACE.replace(old, new)})
+
+    def test_paragraphs(self):
+        self.check("docs/TRACE.md:6: no paragraph of FORMAT begins the row: 2.2 fields",
+                   "docs/TRACE.md:7: no row for paragraph 2.1",
+                   changes={"docs/TRACE.md": TRACE.replace("2.1 fields", "2.2 fields")})
+        self.check("docs/TRACE.md:6: FORMAT has no paragraph 3.1",
+                   changes={"docs/TRACE.md": TRACE.replace("`code`", "`FORMAT 2.1`, `FORMAT 3.1`")})
+        self.check("crates/code/src/lib.rt:1: FORMAT has no paragraph 1.7",
+                   changes={"crates/code/src/lib.rt": TREE["crates/code/src/lib.rt"].replace("2.1", "1.1 and 1.7")})
+        self.check("docs/NEW.md:1: FORMAT has no paragraph 3", changes={"docs/NEW.md": "See FORMAT 3."})
+        self.check("docs/FORMAT.md:14: paragraph 9.1 stands twice",
+                   changes={"docs/FORMAT.md": TREE["docs/FORMAT.md"] + "**9.1** e\n"})
+
+    def test_repository(self):
+        self.maxDiff = None
+        code, out, error = self.tool("check_trace")
+        self.assertEqual((out.decode(), error, code), ("", "", 0))
+
+
+BELIEVED = {
+    "crates/definitions/specs/Records.antt":
+        "-- The records. More words.\nuse lib.N.{ℕ}\n\n-- a name\nabbrev pub Name : Type 0\nName = ℕ\n",
+    "crates/definitions/specs/Answer.antt":
+        "-- The answer.\nuse Rattle.lists.specs.Lists.{sort}\nuse Rattle.definitions.specs.Records.{Name}\n\n"
+        "pub record Input : Type 0 where\n  pub name : Name\n\nabbrev pub outcome : Input → Name\noutcome i =\n    sort i\n",
+    "crates/definitions/specs/Cases.antt": "abbrev pub test : ℕ\ntest = 1\n",
+    "crates/lists/specs/Lists.antt":
+        "-- Lists.\nabbrev pub insert : ℕ\ninsert = 1\n\n-- used\nabbrev pub sort : ℕ → ℕ\nsort n = insert\n\n"
+        "abbrev pub unused : ℕ\nunused = 1\n",
+    "crates/access/specs/Answers.antt":
+        "-- Answers.\nuse Rattle.definitions.specs.Answer as rules\n"
+        "use Rattle.access.specs.declared.Answer.{Answer}\nuse Rattle.laws.specs.Statements.{Once}\n\n"
+        "abbrev pub answerOf : Answer → rules.Input\nanswerOf a = a\n\nabbrev pub private : ℕ\nprivate = 1\n\n"
+        "pub record Promised (a : Answer) : Type 0 where\n  pub once : Once\n",
+    "crates/laws/specs/Statements.antt": "abbrev pub Once : Type 0\nOnce = ℕ\n\nabbrev pub Law : Type 0\nLaw = ℕ\n",
+    "crates/access/src/lib.rt":
+        "// Calls.\nghost use Rattle.definitions.specs.Answer.{outcome};\n"
+        "ghost use Rattle.access.specs.Answers.{answerOf, private, Promised};\n\n"
+        "pub enum Answer {\n    Yes,\n}\n\nfn helper() -> u8\n    ensures { private }\n{\n    1\n}\n\n"
+        "// The call.\npub fn order() -> Answer\n    ensures { λ r. ⌜ answerOf r ≡ outcome ⌝ }\n    ensures { Promised }\n{\n    helper()\n}\n",
+    "crates/exports/src/lib.rt": "fn none() -> u8 {\n    1\n}\n",
+    "README.md": "Before.\n<!-- believed: written by tools/believed --write README.md -->\n<!-- end of believed -->\nAfter.\n",
+}
+
+
+class Believed(unittest.TestCase):
+    """tools/believed on a small tree, and the table of README.md."""
+
+    tool = Programs.tool
+
+    def test_names_are_followed(self):
+        """Whole definitions, but no cases; of other files what contracts name, and what that names."""
+        with tempfile.TemporaryDirectory() as root:
+            write_tree(root, BELIEVED)
+            out = self.tool("believed", "--root", root)[1].decode()
+        self.assertEqual(out.split("\n")[2:-1], [
+            "| `crates/definitions/specs/Records.antt` | declarative | 2 | The records |",
+            "| `crates/definitions/specs/Answer.antt` | computed | 5 | The answer |",
+            "| `crates/access/specs/Answers.antt` | calls | 4 | of it `answerOf`, `Promised` |",
+            "| `crates/access/src/lib.rt` | calls | 6 | of it `Answer`, `order` |",
+            "| `crates/laws/specs/Statements.antt` | calls | 2 | of it `Once` |",
+            "| `crates/lists/specs/Lists.antt` | both | 4 | of it `insert`, `sort` |",
+            "| **all** | | **23** | |",
+            "| the declarative half but `Relisted`, with all that it names elsewhere | | 2 | |"])
+
+    def test_written_and_checked(self):
+        with tempfile.TemporaryDirectory() as root:
+            write_tree(root, BELIEVED)
+            readme = os.path.join(root, "README.md")
+            self.assertEqual(self.tool("believed", "--root", root, "--check", readme)[0], 1)
+            self.assertEqual(self.tool("believed", "--root", root, "--write", readme)[0], 0)
+            self.assertEqual(self.tool("believed", "--root", root, "--check", readme)[0], 0)
+            with open(readme, encoding="utf-8") as source:
+                text = source.read()
+            table = self.tool("believed", "--root", root)[1].decode()
+            self.assertEqual(text.split("\n")[0::len(text.split("\n")) - 2], ["Before.", "After."])
+            self.assertIn(table, text)
+            write_tree(root, {"README.md": text.replace("**23**", "**22**")})
+            self.assertEqual(self.tool("believed", "--root", root, "--check", readme)[0], 1)
+            write_tree(root, {"README.md": "No marks.\n"})
+            code, _, error = self.tool("believed", "--root", root, "--write", readme)
+            self.assertEqual((code, "lacks the lines" in error), (1, True))
+
+    def test_repository(self):
+        """What the definitions use of the lists counts; README.md has the table as it is printed."""
+        self.assertIn("`crates/lists/specs/Lists.antt`", self.tool("believed")[1].decode())
+        self.assertEqual(self.tool("believed", "--check", os.path.join(ROOT, "README.md"))[::2], (0, ""))
 
 
 if __name__ == "__main__":
