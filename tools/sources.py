@@ -184,7 +184,7 @@ def is_public(block):
 # ----------------------------------------------------------- what is named
 
 def words_of(text):
-    """The words of code, without comments' ends and projections."""
+    """The words of code, without projections."""
     return {word for word in DELIMITERS.split(text) if word and not word.startswith(".")}
 
 
