@@ -1,0 +1,900 @@
+#!/usr/bin/env python3
+"""Tests of bin/schedule and bin/order as people run them. Run: python3 tools/test_programs.py
+
+Those that ask the proved programs are skipped where these are not built, those that ask for packed bytes
+where the library is not. How the programs build what is missing is tried in a small copy, with a stand-in
+for rt.
+"""
+
+import json
+import os
+import pty
+import shlex
+import shutil
+import signal
+import stat
+import subprocess
+import sys
+import tempfile
+import time
+import unittest
+
+HERE = os.path.dirname(os.path.abspath(__file__))
+ROOT = os.path.dirname(HERE)
+sys.path.insert(0, HERE)
+
+import answering
+import building
+import case_texts
+import exported
+import large_maps
+import model
+import printed
+import refusals
+import sheetlib
+
+CALLS = ("schedule", "order")
+EXAMPLES = os.path.join(ROOT, "examples")
+BASE = os.path.join(EXAMPLES, "base.sheet")
+BASE_TEXT = b"T base\nT resource\nT file\nR base.file 0 file,resource makelist\nE base 00 file\n"
+
+BUILT = all(building.at_hand(ROOT, building.program(ROOT, call)) for call in CALLS)
+LINKED = (BUILT and building.at_hand(ROOT, building.library(ROOT))
+          and any(map(shutil.which, ("cc", "gcc", "clang"))))
+NOT_BUILT = "the programs are not built, or older than their sources; run bin/schedule and bin/order once"
+NOT_LINKED = "the library is not built, or older than its sources; run bin/schedule --size examples/base.sheet"
+built = unittest.skipUnless(BUILT, NOT_BUILT)
+linked = unittest.skipUnless(LINKED, NOT_LINKED)
+
+
+def run(call, *args, root=ROOT, given=b"", **more):
+    """Status, standard output and standard error of a program."""
+    more = {"stdout": subprocess.PIPE, "stderr": subprocess.PIPE, **more}
+    if "stdin" not in more:
+        more["input"] = given
+    done = subprocess.run([os.path.join(root, "bin", call), *args], check=False, timeout=120, **more)
+    return done.returncode, done.stdout, (done.stderr or b"").decode()
+
+
+def shell(line, *args, root=ROOT, **more):
+    """The same of a line of the shell, in which $schedule and $order are the programs, $1 the first
+    argument."""
+    names = "".join(f"{call}={shlex.quote(os.path.join(root, 'bin', call))}; " for call in CALLS)
+    done = subprocess.run(["sh", "-c", names + line, "sh", *args], capture_output=True, check=False,
+                          timeout=120, **more)
+    return done.returncode, done.stdout, done.stderr.decode()
+
+
+def listed_sheets():
+    """The sheets of the listed cases, by name."""
+    return {name: case["bytes"] if "bytes" in case else sheetlib.sheet_of(case["text"])
+            for name, case in [*case_texts.DOCUMENT.items(), *case_texts.CORNERS.items()]}
+
+
+def at_terminal(words, **more):
+    """Status of a program whose standard files are a terminal, and what it shows there."""
+    ours, theirs = pty.openpty()
+    with subprocess.Popen(words, stdin=theirs, stdout=theirs, stderr=theirs, **more) as process:
+        os.close(theirs)
+        out = b""
+        while True:
+            try:
+                part = os.read(ours, 65536)
+            except OSError:
+                break
+            if not part:
+                break
+            out += part
+    os.close(ours)
+    return process.returncode, out.decode().replace("\r\n", "\n")
+
+
+class Folder(unittest.TestCase):
+    """Tests in a folder of their own."""
+
+    def setUp(self):
+        self.folder = tempfile.mkdtemp()
+        self.addCleanup(shutil.rmtree, self.folder)
+        os.chmod(self.folder, 0o755)
+
+    def path(self, *names):
+        """A path in the folder."""
+        return os.path.join(self.folder, *names)
+
+    def write(self, name, data):
+        """A file in the folder, and the folders above it."""
+        path = self.path(name)
+        os.makedirs(os.path.dirname(path), exist_ok=True)
+        with open(path, "wb") as out:
+            out.write(data)
+        return path
+
+    def read(self, name):
+        """The bytes of a file in the folder."""
+        with open(self.path(name), "rb") as source:
+            return source.read()
+
+    def trouble(self, done, text, out=b""):
+        """Status 2, one line, nothing printed but what is said."""
+        self.assertEqual(done, (2, out, text + "\n"))
+
+
+# --------------------------------------------------------------- answers
+
+@built
+class Answers(Folder):
+    """What is printed, and the statuses."""
+
+    def test_accepted(self):
+        self.assertEqual(run("schedule", BASE), (0, BASE_TEXT, ""))
+        self.assertEqual(run("order", BASE), (0, b"T base\nT resource\nT file\n", ""))
+
+    def test_standard_input(self):
+        with open(BASE, "rb") as source:
+            sheet = source.read()
+        for args in ((), ("-",), ("--",), ("--", "-")):
+            self.assertEqual(run("schedule", *args, given=sheet), (0, BASE_TEXT, ""), args)
+        with open(BASE, "rb") as source:
+            self.assertEqual(run("schedule", stdin=source), (0, BASE_TEXT, ""))
+
+    def test_refused(self):
+        for text, rows in [("domain a : b\ndomain b : a", b"refused 8\nD 2 b a -\nD 2 a b -\n"),
+                           ("domain a : self", b"refused 8\nD 1 a self -\n")]:
+            for call in CALLS:
+                self.assertEqual(run(call, given=sheetlib.sheet_of(text)), (1, rows, ""))
+        self.assertEqual(run("schedule", given=sheetlib.sheet_of("domain a\n associate f")),
+                         (1, b"refused 9\nD 4 a f f\n", ""))
+        self.assertEqual(run("schedule"), (1, b"refused 3\n", ""))
+        self.assertEqual(run("schedule", given=bytes(40961)), (1, b"refused 1\n", ""))
+
+    def test_endless(self):
+        """No more is read than shows that the sheet is too long."""
+        self.assertEqual(run("schedule", "/dev/zero"), (1, b"refused 1\n", ""))
+        self.assertEqual(shell("yes | $schedule"), (1, b"refused 1\n", ""))
+
+    def test_no_types(self):
+        self.assertEqual(run("schedule", given=sheetlib.sheet_of("")), (0, b"", ""))
+
+    def test_files(self):
+        """Several files: a line before each answer, and the worst status."""
+        loop = self.write("loop.sheet", sheetlib.sheet_of("domain a : a"))
+        gone = self.path("gone.sheet")
+        status, out, error = run("schedule", BASE, loop)
+        self.assertEqual((status, error), (1, ""))
+        self.assertEqual(out, f"== {BASE}\n".encode() + BASE_TEXT
+                         + f"== {loop}\nrefused 8\nD 2 a a -\n".encode())
+        status, out, error = run("order", loop, gone, "-", given=sheetlib.sheet_of("domain c"))
+        self.assertEqual((status, error), (2, f"order: {gone}: no such file or directory\n"))
+        self.assertEqual(out, f"== {loop}\nrefused 8\nD 2 a a -\n== -\nT c\n".encode())
+        self.assertEqual(run("schedule", BASE, BASE)[0], 0)
+
+    def test_thousands(self):
+        status, out, error = run("schedule", *["base.sheet"] * 3000, cwd=EXAMPLES)
+        self.assertEqual((status, error), (0, ""))
+        self.assertEqual(out, (b"== base.sheet\n" + BASE_TEXT) * 3000)
+
+    def test_names(self):
+        """Names that look like options, that are no text, that hold a line feed."""
+        shutil.copy(BASE, self.path("--json"))
+        shutil.copy(BASE, self.path("-x"))
+        self.assertEqual(run("schedule", "--", "--json", cwd=self.folder), (0, BASE_TEXT, ""))
+        self.assertEqual(run("schedule", "--", "-x", cwd=self.folder), (0, BASE_TEXT, ""))
+        self.trouble(run("schedule", "a\nb\x1b", cwd=self.folder),
+                     r"schedule: a\nb\x1b: no such file or directory")
+        odd = os.path.join(os.fsencode(self.folder), b"\xff.sheet")
+        shutil.copy(BASE, odd)
+        self.assertEqual(run("schedule", odd, BASE)[1][:len(odd) + 4], b"== " + odd + b"\n")
+        value = json.loads(run("schedule", "--json", odd)[1])
+        self.assertEqual(os.fsencode(value["file"]), odd)
+
+    def test_places(self):
+        """From any folder, by a link, by a link to a link, by the path of the shell."""
+        os.symlink(os.path.join(ROOT, "bin", "schedule"), self.path("one"))
+        os.symlink("one", self.path("two"))
+        for name in ("one", "two"):
+            done = subprocess.run([self.path(name), BASE], cwd="/", capture_output=True, check=False)
+            self.assertEqual((done.returncode, done.stdout, done.stderr), (0, BASE_TEXT, b""))
+        path = os.path.join(ROOT, "bin") + os.pathsep + os.environ["PATH"]
+        self.assertEqual(run("schedule", "base.sheet", cwd=EXAMPLES), (0, BASE_TEXT, ""))
+        done = subprocess.run(["order", "base.sheet"], cwd=EXAMPLES, capture_output=True, check=False,
+                              env={**os.environ, "PATH": path})
+        self.assertEqual((done.returncode, done.stderr), (0, b""))
+
+    def test_cases(self):
+        """Each listed case, through a process for each sheet and through one for all, as the model has it."""
+        for call in CALLS:
+            each = answering.Each(building.program(ROOT, call).path)
+            batch = building.program(ROOT, "batch")
+            many = answering.Many(batch.path, call) if building.at_hand(ROOT, batch) else each
+            for sheet in listed_sheets().values():
+                answer = getattr(model, call)(sheet, bytes(65536), bytes(1536))
+                lines = model.printed(sheet, answer, call == "schedule")
+                text = "".join(line + "\n" for line in lines).encode()
+                self.assertEqual(each.text(sheet), text)
+                self.assertEqual(many.text(sheet), text)
+                self.assertEqual(printed.refused(text), answer.number != 0)
+            if many is not each:
+                many.process.stdin.close()
+                many.process.stdout.close()
+                self.assertEqual(many.process.wait(), 0)
+
+
+@built
+class Troubles(Folder):
+    """What cannot be read or written."""
+
+    def test_no_file(self):
+        self.trouble(run("schedule", "gone.sheet"), "schedule: gone.sheet: no such file or directory")
+        self.trouble(run("order", ""), "order: '': no such file or directory")
+        self.trouble(run("order", "base.sheet/x", cwd=EXAMPLES), "order: base.sheet/x: not a directory")
+
+    def test_folder(self):
+        os.mkdir(self.path("pool.sheet"))
+        self.trouble(run("schedule", "pool.sheet", cwd=self.folder), "schedule: pool.sheet: is a directory")
+        self.trouble(shell("exec $order < .", cwd=self.folder), "order: standard input: is a directory")
+
+    def test_unreadable(self):
+        self.trouble(run("schedule", "/proc/self/mem"), "schedule: /proc/self/mem: input/output error")
+        path = self.write("a.sheet", b"")
+        os.chmod(path, 0)
+        nobody = {"env": {"PATH": "/usr/bin:/bin"}}
+        if os.getuid() == 0:
+            nobody.update(user=65534, group=65534, extra_groups=[])
+        try:
+            subprocess.run(["python3", "-c", f"open({os.path.join(HERE, 'program.py')!r})"], check=True,
+                           stderr=subprocess.DEVNULL, **nobody)
+        except (OSError, subprocess.CalledProcessError):
+            self.skipTest("another user cannot be taken on, or cannot read the repository or run python3")
+        self.trouble(run("schedule", path, **nobody), f"schedule: {path}: permission denied")
+
+    def test_closed_input(self):
+        self.trouble(shell("exec $schedule <&-"), "schedule: standard input: is closed")
+        self.trouble(shell("exec $order - <&-"), "order: standard input: is closed")
+        self.assertEqual(shell('exec $schedule "$1" <&-', BASE), (0, BASE_TEXT, ""))
+
+    def test_full(self):
+        for args in ((BASE,), ("--json", BASE), ("--help",), ("--version",), (BASE, BASE)):
+            done = shell('exec $schedule "$@" > /dev/full', *args)
+            self.trouble(done, "schedule: standard output: no space left on device")
+
+    def test_closed_output(self):
+        for args in ((BASE,), ("--json", BASE), ("--help",)):
+            done = shell('exec $schedule "$@" >&-', *args)
+            self.trouble(done, "schedule: standard output: is closed")
+        self.assertEqual(shell('exec $schedule "$1" 2>&-', BASE), (0, BASE_TEXT, ""))
+        self.assertEqual(shell("exec $schedule gone 2>&-"), (2, b"", ""))
+
+    def test_closed_all(self):
+        """No file that is opened takes the place of a closed one."""
+        for line in ('$schedule "$1" <&- >&- 2>&-', '$schedule "$1" <&- >&-'):
+            sheet = self.write("a.sheet", sheetlib.sheet_of("domain a"))
+            self.assertEqual(shell(line, sheet)[:2], (2, b""))
+            self.assertEqual(self.read("a.sheet"), sheetlib.sheet_of("domain a"))
+
+    def test_broken_pipe(self):
+        """Nobody reads: an end without a word, as of other programs."""
+        ours, theirs = os.pipe()
+        os.close(ours)
+        status, _, error = run("schedule", BASE, stdout=theirs)
+        os.close(theirs)
+        self.assertEqual((status, error), (-signal.SIGPIPE, ""))
+
+    def test_empty_pipe(self):
+        self.assertEqual(shell(": | $schedule"), (1, b"refused 3\n", ""))
+
+
+# ------------------------------------------------------ words, JSON, bytes
+
+class Tables(unittest.TestCase):
+    """The table of numbers and kinds."""
+
+    def test_complete(self):
+        self.assertEqual(list(refusals.REFUSALS), list(range(1, 11)))
+        self.assertEqual(list(refusals.KINDS), list(range(1, 7)))
+
+    def test_limits(self):
+        for number, limit in ((1, model.SHEET_LIMIT), (2, 6 * model.ROWS), (10, model.LISTING_SIZE)):
+            self.assertIn(f"{limit:,}", refusals.meaning_of(number))
+        self.assertIn(str(model.ROWS), refusals.MORE)
+        self.assertTrue(refusals.meaning_of(4).startswith("a value that is not allowed"))
+
+    def test_header(self):
+        """The numbers are those of the C header."""
+        with open(os.path.join(ROOT, "include", "gidzelma.h"), encoding="utf-8") as source:
+            text = source.read()
+        for number in refusals.REFUSALS:
+            self.assertRegex(text, rf"GIDZELMA_\w+ = {number}\b")
+
+    def test_rows(self):
+        said = {(1, "a", "self", None): "inherits self: `a` inherits `self`, which no type may",
+                (2, "a", "a", None): "cycle: `a` inherits itself",
+                (3, "a", "b.c", None): "undeclared parent: `a` inherits `b.c`, which is not declared",
+                (4, "a", "d.f", "f"): "unknown class: `a.f` is of the class `d.f`, which is not declared",
+                (5, "a.b", "f", "f"):
+                    "class that is no resource: `a.b.f` is of the class `f`, which is no resource",
+                (6, "a", None, "f"): "duplicate: `a.f` is there already, declared or made alike",
+                (7, "a", None, None): "a kind that the table of rows does not have"}
+        for row, words in said.items():
+            self.assertEqual(refusals.meaning_of_row(*row), words)
+
+
+@built
+class Words(Folder):
+    """--explain, and what a person is told at a terminal."""
+
+    LOOP = ("refused 8: the types have no order\n"
+            "D 2 b a -: cycle: `b` inherits `a`, and `a` inherits `b`, itself or through others\n"
+            "D 2 a b -: cycle: `a` inherits `b`, and `b` inherits `a`, itself or through others\n")
+
+    def test_explain(self):
+        loop = sheetlib.sheet_of("domain a : b\ndomain b : a")
+        self.assertEqual(run("schedule", "--explain", given=loop),
+                         (1, b"refused 8\nD 2 b a -\nD 2 a b -\n" + self.LOOP.encode(), ""))
+        self.assertEqual(run("schedule", "--explain", BASE), (0, BASE_TEXT, ""))
+        many = sheetlib.sheet_of(case_texts.rows(8))
+        lines = run("schedule", "--explain", given=many)[1].decode().splitlines()
+        self.assertEqual((len(lines), lines[-1]), (2 * 258, "more: there are more than 256 rows"))
+
+    def test_each_number(self):
+        """Each refusal that a program can give, in words."""
+        for number, sheet in {1: bytes(40961), 3: b"", 4: b"\x20", 7: sheetlib.sheet_of("") + b"\0",
+                              5: sheetlib.sheet_of("words! self resource"),
+                              6: sheetlib.sheet_of("domain a\ndomain a"),
+                              10: sheetlib.encode(large_maps.MAPS["crowd"]())}.items():
+            out = run("schedule", "--explain", given=sheet)[1].decode()
+            self.assertTrue(out.startswith(f"refused {number}\nrefused {number}: "
+                                           f"{refusals.meaning_of(number)}\n"), out)
+
+    def test_text(self):
+        """A text where a sheet is asked for."""
+        out = run("schedule", "--explain", os.path.join(EXAMPLES, "base.txt"))[1].decode()
+        self.assertIn("tools/sheet", out.splitlines()[-1])
+        self.assertNotIn("tools/sheet", run("schedule", "--explain", given=b"\x20\x01")[1].decode())
+
+    def test_terminal(self):
+        """At a terminal the words follow a refusal; elsewhere nothing is added."""
+        path = self.write("loop.sheet", sheetlib.sheet_of("domain a : b\ndomain b : a"))
+        words = [os.path.join(ROOT, "bin", "schedule")]
+        status, shown = at_terminal(words + [path])
+        self.assertEqual((status, shown), (1, "refused 8\nD 2 b a -\nD 2 a b -\n" + self.LOOP))
+        self.assertEqual(at_terminal(words + [BASE]), (0, BASE_TEXT.decode()))
+        self.assertEqual(run("schedule", path), (1, b"refused 8\nD 2 b a -\nD 2 a b -\n", ""))
+        status, shown = at_terminal(words)
+        self.assertEqual(status, 2)
+        self.assertIn("standard input is a terminal", shown)
+
+
+def printed_lines(value):
+    """What the program prints, from the object of --json."""
+    def mark(given):
+        return given["mark"] + (f":{given['tag']}" if "tag" in given else "")
+
+    def joined(values):
+        return ",".join(values) or "-"
+
+    if "refusal" in value:
+        rows = [f"D {row['kind']} {row['subject']} {row['other'] or '-'} {row['word'] or '-'}"
+                for row in value["refusal"]["rows"]]
+        return [f"refused {value['refusal']['number']}"] + rows + ["more"] * value["refusal"]["more"]
+    out = [f"T {name}" for name in value["names"]]
+    for item in value.get("items", []):
+        if item["item"] == "resource":
+            out.append(f"R {item['type']}.{item['word']} {item['virtual']:d} {joined(item['parents'])} "
+                       f"{joined(map(mark, item['marks']))}")
+        else:
+            out.append(f"E {item['type']} {item['virtual']:d}{item['trait']:d} {item['word']}")
+    return out
+
+
+@built
+class Json(Folder):
+    """--json."""
+
+    def test_accepted(self):
+        status, out, error = run("schedule", "--json", "base.sheet", cwd=EXAMPLES)
+        self.assertEqual((status, error, out.count(b"\n")), (0, "", 1))
+        self.assertEqual(json.loads(out), {
+            "file": "base.sheet", "call": "schedule", "status": 0, "names": ["base", "resource", "file"],
+            "items": [{"item": "resource", "type": "base", "word": "file", "virtual": False,
+                       "parents": ["file", "resource"], "marks": [{"mark": "makelist"}]},
+                      {"item": "extension", "type": "base", "word": "file", "virtual": False,
+                       "trait": False}]})
+        self.assertEqual(json.loads(run("order", "--json", "base.sheet", cwd=EXAMPLES)[1]), {
+            "file": "base.sheet", "call": "order", "status": 0, "names": ["base", "resource", "file"]})
+
+    def test_refused(self):
+        value = json.loads(run("schedule", "--json", given=sheetlib.sheet_of("domain a\n associate d.f"))[1])
+        self.assertEqual(value, {
+            "file": "-", "call": "schedule", "status": 1,
+            "refusal": {"number": 9, "meaning": "what a type associates cannot be made", "more": False,
+                        "rows": [{"kind": 4, "subject": "a", "other": "d.f", "word": "f",
+                                  "meaning": "unknown class: `a.f` is of the class `d.f`, which is not "
+                                             "declared"}]}})
+
+    def test_trouble(self):
+        """Each file has its line, also one that cannot be read."""
+        status, out, error = run("schedule", "--json", "gone", BASE)
+        values = [json.loads(line) for line in out.splitlines()]
+        self.assertEqual((status, error), (2, "schedule: gone: no such file or directory\n"))
+        self.assertEqual([value["status"] for value in values], [2, 0])
+        self.assertEqual(values[0]["trouble"], "no such file or directory")
+
+    def test_every_field(self):
+        """The object of each listed case has all that is printed, and gives it back."""
+        names = [self.write(name + ".sheet", sheet) for name, sheet in listed_sheets().items()]
+        for call in CALLS:
+            text = run(call, *names)[1].decode()
+            values = [json.loads(line) for line in run(call, "--json", *names)[1].splitlines()]
+            self.assertEqual([value["file"] for value in values], names)
+            self.assertEqual([value["status"] for value in values],
+                             [int("refusal" in value) for value in values])
+            lines = [line for value in values for line in [f"== {value['file']}"] + printed_lines(value)]
+            self.assertEqual("".join(line + "\n" for line in lines), text)
+
+    @linked
+    def test_size(self):
+        value = json.loads(run("schedule", "--json", "--size", BASE)[1])
+        self.assertEqual((value["size"], value["W"]), (16, 4))
+        self.assertNotIn("size", json.loads(run("schedule", "--json", "--size", given=b"")[1]))
+        crowd = sheetlib.encode(large_maps.MAPS["crowd"]())
+        status, out, _ = run("schedule", "--json", "--size", given=crowd)
+        self.assertEqual((status, json.loads(out)["refusal"]["number"], json.loads(out)["size"]),
+                         (1, 10, 239675))
+
+
+@linked
+class Packed(Folder):
+    """--packed and --size."""
+
+    def test_bytes(self):
+        """The bytes of the listed cases and of the largest schedule are the model's."""
+        calls = exported.calls(ROOT, self.fail)
+        for sheet in [sheetlib.encode(large_maps.MAPS["crowd"]()), *listed_sheets().values()]:
+            for call in CALLS:
+                answer = getattr(model, call)(sheet, bytes(1 << 18), bytes(1536))
+                packed = answer.listing[:answer.size]
+                self.assertEqual(calls.answer(call, sheet), (answer.number, packed))
+
+    def test_file(self):
+        for call, data in (("schedule", "0600020080008000109014080280001"), ("order", "060002008")):
+            place = self.path("out." + call)
+            self.assertEqual(run(call, "--packed", place, BASE), (0, b"", ""))
+            self.assertEqual(self.read("out." + call), bytes.fromhex(data + "0"))
+            self.assertEqual(run(call, "--packed", "-", BASE), (0, bytes.fromhex(data + "0"), ""))
+        mask = os.umask(0)
+        os.umask(mask)
+        self.assertEqual(stat.S_IMODE(os.stat(place).st_mode), 0o666 & ~mask)
+        self.assertEqual(sorted(os.listdir(self.folder)), ["out.order", "out.schedule"])
+
+    def test_folder(self):
+        shutil.copy(BASE, self.path("pool.a.sheet"))
+        shutil.copy(BASE, self.path("b"))
+        os.mkdir(self.path("out"))
+        done = run("schedule", "--packed", "out", "pool.a.sheet", "b", cwd=self.folder)
+        self.assertEqual(done, (0, b"", ""))
+        self.assertEqual(sorted(os.listdir(self.path("out"))), ["b.schedule", "pool.a.schedule"])
+        done = run("order", "--packed", "out/", "b", cwd=self.folder)
+        self.assertEqual((done, os.path.exists(self.path("out", "b.order"))), ((0, b"", ""), True))
+
+    def test_refused(self):
+        """A refusal writes no file, and leaves one that is there."""
+        loop = self.write("loop.sheet", sheetlib.sheet_of("domain a : a"))
+        place = self.path("out")
+        said = b"refused 8\nD 2 a a -\n"
+        self.assertEqual(run("schedule", "--packed", place, loop), (1, said, ""))
+        self.assertFalse(os.path.exists(place))
+        self.write("out", b"before")
+        self.assertEqual(run("schedule", "--packed", place, loop), (1, said, ""))
+        self.assertEqual(self.read("out"), b"before")
+        self.assertEqual(run("schedule", "--packed", "-", loop), (1, b"", said.decode()))
+        done = run("schedule", "--packed", "-", "--explain", loop)
+        self.assertEqual(done[:2], (1, b""))
+        self.assertIn("refused 8: the types have no order\n", done[2])
+
+    def test_size(self):
+        self.assertEqual(run("schedule", "--size", BASE), (0, b"size 16 W 4\n", ""))
+        self.assertEqual(run("order", "--size", BASE), (0, b"size 5 W 4\n", ""))
+        self.assertEqual(run("schedule", "--size", given=sheetlib.sheet_of("")), (0, b"size 3 W 2\n", ""))
+        crowd = sheetlib.encode(large_maps.MAPS["crowd"]())
+        self.assertEqual(run("schedule", given=crowd), (1, b"refused 10\n", ""))
+        self.assertEqual(run("schedule", "--size", given=crowd), (0, b"size 239675 W 67\n", ""))
+        status, out, _ = run("schedule", "--size", BASE, "-", given=b"")
+        self.assertEqual((status, out), (1, f"== {BASE}\nsize 16 W 4\n== -\nrefused 3\n".encode()))
+        place = self.path("out")
+        self.assertEqual(run("schedule", "--size", "--packed", place, BASE), (0, b"size 16 W 4\n", ""))
+        self.assertEqual(len(self.read("out")), 16)
+
+    def test_troubles(self):
+        full = "no space left on device"
+        self.trouble(run("schedule", "--packed", "/dev/full", BASE), f"schedule: /dev/full: {full}")
+        self.trouble(shell('exec $schedule --packed - "$1" > /dev/full', BASE),
+                     f"schedule: standard output: {full}")
+        place = self.path("no", "out")
+        self.trouble(run("schedule", "--packed", place, BASE), f"schedule: {place}: no such file or directory")
+        self.assertEqual(shell('exec $schedule --packed "$1" "$2" >&-', self.path("out"), BASE), (0, b"", ""))
+        self.assertEqual(len(self.read("out")), 16)
+
+    def test_over_sheet(self):
+        sheet = self.write("a.sheet", sheetlib.sheet_of("domain a"))
+        os.symlink("a.sheet", self.path("link"))
+        self.trouble(run("schedule", "--packed", self.path("link"), sheet),
+                     f"schedule: --packed would write over the sheet {sheet}")
+        self.assertEqual(self.read("a.sheet"), sheetlib.sheet_of("domain a"))
+
+
+class Options(Folder):
+    """Options that are not known, or make no sense together; --help and --version."""
+
+    def test_refused(self):
+        os.mkdir(self.path("folder"))
+        for args, text in [
+                (["--frob"], "option --frob not recognized; --help has the options"),
+                (["-j"], "option -j not recognized; --help has the options"),
+                (["--packed"], "option --packed requires argument; --help has the options"),
+                (["--packed="], "--packed is given nothing"),
+                (["--packed", "a", "--packed", "b", "x"], "--packed is given twice"),
+                (["--json", "--explain", "x"], "--explain does nothing with --json, which has the words"),
+                (["--json", "--packed", "a", "x"], "--packed and --json do not go together"),
+                (["--size", "--packed", "-", "x"],
+                 "--size and --packed - would both write to standard output"),
+                (["-", "-"], "standard input is given twice"),
+                (["--packed", "-", "x", "y"],
+                 "--packed - takes one sheet; for several --packed needs a folder"),
+                (["--packed", "a", "x", "y"], "--packed a: is no folder, as several sheets need"),
+                (["--packed", "a/", "x"], "--packed a/: is no folder"),
+                (["--packed", "folder", "-"],
+                 "--packed folder: in a folder the sheet of standard input has no name"),
+                (["--packed", "folder", "x/a.sheet", "y/a"],
+                 "x/a.sheet and y/a would both go to folder/a.schedule")]:
+            self.trouble(run("schedule", *args, cwd=self.folder), f"schedule: {text}")
+
+    def test_help(self):
+        for call in CALLS:
+            for args in (["-h"], ["--help"], ["gone", "--help"], ["--json", "--explain", "-h"]):
+                status, out, error = run(call, *args)
+                self.assertEqual((status, error), (0, ""))
+                self.assertTrue(out.decode().startswith(f"Usage: {call} "))
+            for part in ["--packed FILE", "--size", "--json", "--explain", "--version", "Status: 0 accepted",
+                         "10  the schedule is longer"]:
+                self.assertIn(part, out.decode())
+            self.assertLess(max(map(len, out.decode().splitlines())), 100)
+
+    def test_version(self):
+        status, out, error = run("schedule", "--version", cwd="/")
+        lines = out.decode().splitlines()
+        self.assertEqual((status, error, len(lines)), (0, "", 3))
+        self.assertEqual([line.split()[0] for line in lines], ["schedule", "commit", "toolchain"])
+        if os.path.exists(os.path.join(ROOT, "VERSION")):
+            with open(os.path.join(ROOT, "VERSION"), encoding="utf-8") as source:
+                self.assertEqual(lines[0], f"schedule {source.read().strip()}")
+
+
+class Examples(unittest.TestCase):
+    """The answers that stand beside the sheets in examples/: NAME.CALL.txt is what the program prints,
+    NAME.CALL.json the object, NAME.CALL the packed bytes."""
+
+    def stored(self, ending):
+        """Name, call and bytes of each stored answer of a form."""
+        for name in sorted(os.listdir(EXAMPLES)):
+            stem, extension = os.path.splitext(name)
+            for call in CALLS:
+                path = os.path.join(EXAMPLES, f"{stem}.{call}{ending}")
+                if extension == ".sheet" and os.path.exists(path):
+                    with open(path, "rb") as source:
+                        yield "examples/" + name, call, source.read()
+
+    def sheet(self, name):
+        """The bytes of a sheet."""
+        with open(os.path.join(ROOT, name), "rb") as source:
+            return source.read()
+
+    def test_model(self):
+        """By the model."""
+        self.assertTrue(list(self.stored(".txt")))
+        for name, call, text in self.stored(".txt"):
+            sheet = self.sheet(name)
+            answer = getattr(model, call)(sheet, bytes(65536), bytes(1536))
+            lines = model.printed(sheet, answer, call == "schedule")
+            self.assertEqual("".join(line + "\n" for line in lines), text.decode(), name)
+        for name, call, packed in self.stored(""):
+            answer = getattr(model, call)(self.sheet(name), bytes(1 << 18), bytes(1536))
+            self.assertEqual((answer.number, answer.listing[:answer.size]), (0, packed), name)
+
+    @built
+    def test_programs(self):
+        for ending, options in ((".txt", []), (".json", ["--json"])):
+            for name, call, text in self.stored(ending):
+                status = int(text.startswith(b"refused") or b'"refusal"' in text)
+                self.assertEqual(run(call, *options, name, cwd=ROOT), (status, text, ""), name)
+
+    @linked
+    def test_packed(self):
+        for name, call, packed in self.stored(""):
+            self.assertEqual(run(call, "--packed", "-", name, cwd=ROOT), (0, packed, ""), name)
+
+
+# ------------------------------------------------------------- building
+
+# A stand-in for rt. Like rt it takes a program with its stamp for built, whether it is there or not. What
+# it is to do stands in files beside it: `fails`, `waits`, and `program`, which becomes the program.
+RT = r"""#!/bin/sh
+own=$(dirname "$0")
+echo "$*" >> "$own/runs"
+[ "$1" = version ] && { echo "stand-in kit"; exit 0; }
+mkdir -p target/bin target/stamp target/staticlib
+if [ -e "$own/waits" ]; then sleep "$(cat "$own/waits")" & echo $! > "$own/sleeper"; wait; fi
+if [ -e "$own/fails" ]; then
+    echo "low/src/lib.rt:1:1: error"; echo "rt: low NOT PROVED (exit 1, 0 s)"; echo "rt: FAILED: low"
+    rm -f "target/stamp/$2"; exit 1
+fi
+sum=$(cat crates.txt crates/low/src/* "crates/$2/src/"* | cksum)
+echo "rt: low proved (12 s)"
+if [ "$1" = staticlib ]; then
+    echo "no archive" > target/staticlib/libexports.a
+elif [ -e "target/stamp/$2" ] && [ "$(cat "target/stamp/$2")" = "$sum" ]; then
+    echo "rt: $2 proved (unchanged since it was last proved)"
+else
+    cp "$own/program" "target/bin/$2" && echo "$sum" > "target/stamp/$2"
+    echo "rt: $2 proved (3 s)"; echo "rt: $2 ran, and wrote what its file 'stdout' has (0 s)"
+fi
+echo "rt: ok, 2 crates proved"
+"""
+PROGRAM = "#!/bin/sh\ncat > /dev/null\necho T stand_in\n"
+ANSWER = b"T stand_in\n"
+
+
+class Building(Folder):
+    """A program that is missing or older than its sources, in a copy with a stand-in for rt."""
+
+    def setUp(self):
+        super().setUp()
+        shutil.copytree(os.path.join(ROOT, "bin"), self.path("bin"))
+        os.mkdir(self.path("tools"))
+        for name in ("start", "answering.py", "building.py", "exported.py", "printed.py", "program.py",
+                     "refusals.py"):
+            shutil.copy(os.path.join(HERE, name), self.path("tools"))
+        self.write("crates.txt", b"# crates\nlow:\nother:\nschedule: low io\norder: low io\nexports: low\n")
+        for name in ("low/src/lib.rt", "low/must-fail/a.edit", "low/specs/Lib.antt", "other/src/lib.rt",
+                     "schedule/src/main.rt", "order/src/main.rt", "exports/src/lib.rt"):
+            self.write("crates/" + name, b"fn\n")
+        self.write("kit/program", PROGRAM.encode())
+        os.chmod(self.path("kit", "program"), 0o755)
+        self.write("kit/rt", RT.encode())
+        os.chmod(self.path("kit", "rt"), 0o755)
+        self.env = {**os.environ, "PATH": self.path("kit") + os.pathsep + os.environ["PATH"]}
+        self.age()
+
+    def age(self):
+        """Makes all sources older than anything that is made now."""
+        for folder, _, names in os.walk(self.path("crates")):
+            for path in [folder] + [os.path.join(folder, name) for name in names]:
+                os.utime(path, (1, 1))
+        os.utime(self.path("crates.txt"), (1, 1))
+
+    def ask(self, *args, call="schedule", **more):
+        """Runs a program of the copy."""
+        return run(call, *args, root=self.folder, **{"env": self.env, **more})
+
+    def runs(self):
+        """What rt was asked since the last time."""
+        try:
+            return self.read("kit/runs").decode().splitlines()
+        except FileNotFoundError:
+            return []
+        finally:
+            self.write("kit/runs", b"")
+
+    def settled(self):
+        """Builds the program, and checks that the next run does not."""
+        self.assertEqual(self.ask()[:2], (0, ANSWER))
+        self.runs()
+        self.assertEqual((self.ask(), self.runs()), ((0, ANSWER, ""), []))
+
+    def test_missing(self):
+        status, out, error = self.ask()
+        self.assertEqual((status, out, self.runs()), (0, ANSWER, ["check schedule"]))
+        lines = error.splitlines()
+        self.assertEqual(lines[0], "schedule: the program is not built: rt proves and builds it; "
+                                   "from nothing that takes some ten minutes")
+        self.assertEqual(lines[1:3], ["[1/2] low proved (12 s)", "[2/2] schedule proved (3 s)"])
+        self.assertRegex(lines[3], r"^schedule: the program is up to date, after \d+ s$")
+        self.assertEqual((self.ask(), self.runs()), ((0, ANSWER, ""), []))
+        self.assertEqual(self.ask(call="order")[:2], (0, ANSWER))
+        self.assertEqual(self.runs(), ["check order"])
+
+    def test_newer(self):
+        """Each source that is newer, also one that is gone; rt is asked once for each change."""
+        self.settled()
+        changes = {"crates/low/src/lib.rt": lambda path: os.utime(path),
+                   "crates/schedule/src/main.rt": lambda path: self.write(path, b"fn main\n"),
+                   "crates/low/specs": lambda path: os.remove(os.path.join(path, "Lib.antt")),
+                   "crates.txt": lambda path: os.utime(path)}
+        for name, change in changes.items():
+            change(self.path(name))
+            status, out, error = self.ask()
+            self.assertEqual((status, out, self.runs()), (0, ANSWER, ["check schedule"]), name)
+            self.assertIn(f"schedule: {name} is newer than the program: rt proves what has changed\n", error)
+            time.sleep(0.05)
+            self.settled()
+
+    def test_not_newer(self):
+        """What the program is not made from; and links, which rt does not follow."""
+        self.settled()
+        os.utime(self.path("crates/low/must-fail/a.edit"))
+        os.utime(self.path("crates/other/src/lib.rt"))
+        when = os.stat(self.path("crates/low/src")).st_mtime
+        os.symlink("nowhere", self.path("crates/low/src/.#lib.rt"))
+        os.utime(self.path("crates/low/src"), (when, when))
+        self.assertEqual((self.ask(), self.runs()), ((0, ANSWER, ""), []))
+
+    def test_gone(self):
+        """The program is gone or empty, and its stamp is kept."""
+        self.settled()
+        for change in (os.remove, lambda path: open(path, "wb").close(), lambda path: os.chmod(path, 0o644)):
+            change(self.path("target/bin/schedule"))
+            self.assertEqual((self.ask()[:2], self.runs()), ((0, ANSWER), ["check schedule"]))
+        self.settled()
+
+    def test_not_ended(self):
+        """rt linked the program, and did not come to its end."""
+        self.settled()
+        os.remove(self.path("target/stamp/schedule"))
+        status, out, error = self.ask()
+        self.assertEqual((status, out, self.runs()), (0, ANSWER, ["check schedule"]))
+        self.assertIn("was not proved to its end", error)
+
+    def test_failure(self):
+        """The log is named, and no older program answers."""
+        self.settled()
+        os.utime(self.path("crates/low/src/lib.rt"))
+        self.write("kit/fails", b"")
+        for _ in range(2):
+            status, out, error = self.ask()
+            self.assertEqual((status, out), (2, b""))
+            log = self.path("target/log/schedule.build")
+            self.assertEqual(error.splitlines()[-1], f"schedule: low NOT PROVED (exit 1, 0 s); {log} has "
+                                                     "what rt said")
+            self.assertIn(b"error", self.read(log))
+        os.remove(self.path("kit/fails"))
+        self.settled()
+
+    def test_no_rt(self):
+        env = {**self.env, "PATH": self.few("sh", "dirname", "readlink", python3=sys.executable)}
+        text = "and rt, the toolchain that builds it, is not on the path"
+        self.trouble(self.ask(env=env), f"schedule: the program is not built, {text}")
+        self.settled()
+        os.utime(self.path("crates/low/src/lib.rt"))
+        self.trouble(self.ask(env=env),
+                     f"schedule: crates/low/src/lib.rt is newer than the program, {text}")
+        self.assertIn("toolchain unknown", self.ask("--version", env=env)[1].decode())
+
+    def few(self, *names, **paths):
+        """A folder with links to a few commands."""
+        os.mkdir(self.path("few"))
+        for name, path in [(name, shutil.which(name)) for name in names] + list(paths.items()):
+            os.symlink(path, self.path("few", name))
+        return self.path("few")
+
+    def test_no_python(self):
+        env = {**self.env, "PATH": self.few("sh", "dirname", "readlink")}
+        self.trouble(self.ask(env=env), "schedule: python3 is not on the path")
+
+    def test_files_first(self):
+        """A file that cannot be read is told before anything is built."""
+        self.trouble(self.ask("gone"), "schedule: gone: no such file or directory")
+        self.assertEqual(self.runs(), [])
+
+    def test_version(self):
+        self.write("VERSION", b"1.2.3\n")
+        lines = self.ask("--version")[1].decode().splitlines()
+        self.assertEqual(lines, ["schedule 1.2.3", "commit unknown", "toolchain stand-in kit"])
+
+    def test_several(self):
+        """A process for each sheet where `batch` is not at hand."""
+        files = [self.write("a", b""), self.write("b", b"")]
+        out = b"".join(b"== " + name.encode() + b"\n" + ANSWER for name in files)
+        self.assertEqual(self.ask(*files)[:2], (0, out))
+        self.assertEqual(self.runs(), ["check schedule"])
+
+    def test_terminal(self):
+        """One line that is rewritten."""
+        status, shown = at_terminal([self.path("bin/schedule"), "-"], env=self.env,
+                                    preexec_fn=lambda: os.dup2(os.open(os.devnull, os.O_RDONLY), 0))
+        self.assertEqual(status, 0)
+        self.assertIn("\r\033[K[1/2] low proved (12 s)\r\033[K[2/2] schedule proved (3 s)\r\033[K", shown)
+        self.assertTrue(shown.endswith("T stand_in\n"))
+
+    def test_two_at_once(self):
+        """Two runs build once."""
+        self.write("kit/waits", b"1")
+        words = [self.path("bin/schedule"), "-"]
+        both = [subprocess.Popen(words, env=self.env, stdin=subprocess.DEVNULL, stdout=subprocess.PIPE,
+                                 stderr=subprocess.PIPE) for _ in range(2)]
+        ended = [(process.communicate(timeout=60), process.returncode) for process in both]
+        self.assertEqual([(out, status) for (out, _), status in ended], [(ANSWER, 0)] * 2)
+        self.assertEqual(self.runs(), ["check schedule"])
+        self.assertEqual(sum(b"waiting" in error for (_, error), _ in ended), 1)
+
+    def test_interrupt(self):
+        """What rt has started ends with the program."""
+        for number in (signal.SIGINT, signal.SIGTERM):
+            self.write("kit/waits", b"60")
+            with subprocess.Popen([self.path("bin/schedule"), "-"], env=self.env,
+                                  stdin=subprocess.DEVNULL, stderr=subprocess.DEVNULL) as process:
+                sleeper = self.wait_for("kit/sleeper")
+                process.send_signal(number)
+                self.assertEqual(process.wait(timeout=30), -number)
+            for _ in range(100):
+                if not os.path.exists(f"/proc/{sleeper}") or self.zombie(sleeper):
+                    break
+                time.sleep(0.05)
+            else:
+                self.fail("what rt had started runs on")
+            os.remove(self.path("kit/sleeper"))
+
+    def wait_for(self, name):
+        """The number in a file, once it is there."""
+        for _ in range(200):
+            if os.path.exists(self.path(name)) and self.read(name):
+                return int(self.read(name))
+            time.sleep(0.05)
+        self.fail(f"{name} did not come")
+
+    @staticmethod
+    def zombie(number):
+        """Whether a process has ended and was not yet taken notice of."""
+        with open(f"/proc/{number}/stat", encoding="ascii") as source:
+            return source.read().rsplit(")", 1)[1].split()[0] == "Z"
+
+    def test_bad_program(self):
+        """A program that ends badly is trouble, and no answer."""
+        for text, said in [("kill -SEGV $$", "the program ended with signal 11"),
+                           ("exit 3", "the program ended with status 3"),
+                           ("printf 'T a'", "the program's answer is cut short")]:
+            self.write("kit/program", f"#!/bin/sh\n{text}\n".encode())
+            self.write("crates/schedule/src/main.rt", text.encode())
+            status, out, error = self.ask()
+            self.assertEqual((status, out), (2, b""))
+            self.assertEqual(error.splitlines()[-1], f"schedule: standard input: {said}")
+        self.write("target/bin/schedule", b"\x7fELF, but no program")
+        self.assertEqual(self.ask()[2], "schedule: standard input: the program cannot be run: "
+                                        "exec format error\n")
+
+    def test_fault(self):
+        """A fault of the programs themselves is no refusal."""
+        self.settled()
+        with open(self.path("tools/printed.py"), "a", encoding="utf-8") as out:
+            out.write("def refused(text):\n    raise KeyError('x')\n")
+        status, _, error = self.ask()
+        self.assertEqual(status, 2)
+        self.assertRegex(error, r"^schedule: a fault in printed.py, line \d+: KeyError\('x'\)\n$")
+
+    def test_library(self):
+        """The library is built when it is asked for; without a compiler that is said."""
+        self.settled()
+        status, out, error = self.ask("--size", env={**self.env, "CC": "no-such-compiler"})
+        self.assertEqual((status, out, self.runs()), (2, b"", ["staticlib exports"]))
+        self.assertIn("schedule: the library is not built", error)
+        self.assertEqual(error.splitlines()[-1], "schedule: the library has to be linked by a C compiler, "
+                                                 "and there is none (no-such-compiler)")
+        self.trouble(self.ask("--packed", self.path("out"), env={**self.env, "CC": "false"}),
+                     f"schedule: false cannot link the library; "
+                     f"{self.path('target/log/libgidzelma.link')} has what it said")
+        self.assertEqual(self.runs(), [])
+
+    def test_archive(self):
+        """Without sources nothing is built, and the programs stand in libexec/."""
+        os.remove(self.path("crates.txt"))
+        self.trouble(self.ask(), f"schedule: {self.path('libexec/schedule')} is missing, and there are no "
+                                 "sources to build it from")
+        os.mkdir(self.path("libexec"))
+        shutil.copy(self.path("kit/program"), self.path("libexec/schedule"))
+        self.assertEqual((self.ask(), self.runs()), ((0, ANSWER, ""), []))
+        self.assertEqual(self.ask("-", "kit/program", cwd=self.folder)[:2],
+                         (0, b"== -\n" + ANSWER + b"== kit/program\n" + ANSWER))
+
+
+if __name__ == "__main__":
+    for word in [NOT_BUILT] * (not BUILT) + [NOT_LINKED] * (not LINKED):
+        print(f"some tests are skipped: {word}", file=sys.stderr)
+    unittest.main()
