@@ -117,8 +117,8 @@ def put_out(data):
 
 def write_file(name, data):
     """A file with these bytes, whole or not at all; what is no plain file is written to as it is."""
-    path = os.path.realpath(name)
-    plain = os.path.isfile(path) or not os.path.exists(path)
+    plain = os.path.isfile(name) or not os.path.exists(name)
+    path = os.path.realpath(name) if plain else name
     part = f"{path}.{os.getpid()}.part" if plain else path
     try:
         number = os.open(part, os.O_WRONLY | (os.O_CREAT | os.O_EXCL if plain else 0), 0o666)

@@ -93,9 +93,11 @@ class Folder(unittest.TestCase):
     """Tests in a folder of their own."""
 
     def setUp(self):
-        self.folder = tempfile.mkdtemp()
-        self.addCleanup(shutil.rmtree, self.folder)
-        os.chmod(self.folder, 0o755)
+        above = tempfile.mkdtemp()
+        self.addCleanup(shutil.rmtree, above)
+        os.chmod(above, 0o755)
+        self.folder = os.path.join(above, "a folder")
+        os.mkdir(self.folder)
 
     def path(self, *names):
         """A path in the folder."""
@@ -172,6 +174,18 @@ class Answers(Folder):
         status, out, error = run("schedule", *["base.sheet"] * 3000, cwd=EXAMPLES)
         self.assertEqual((status, error), (0, ""))
         self.assertEqual(out, (b"== base.sheet\n" + BASE_TEXT) * 3000)
+
+    def test_side_by_side(self):
+        """Several processes, as xargs starts them; each answer stays whole."""
+        names = [self.write(f"{at}.sheet", sheetlib.sheet_of("domain a" + " : a" * (at % 2)))
+                 for at in range(60)]
+        with open(self.path("answers"), "wb") as out:
+            done = subprocess.run(["xargs", "-0", "-P", "4", "-n", "9", os.path.join(ROOT, "bin", "schedule"),
+                                   "--json"], input="\0".join(names).encode(), stdout=out, check=False)
+        values = [json.loads(line) for line in self.read("answers").splitlines()]
+        self.assertEqual(done.returncode, 123)
+        self.assertEqual(sorted(value["file"] for value in values), sorted(names))
+        self.assertEqual(sum(value["status"] for value in values), 30)
 
     def test_names(self):
         """Names that look like options, that are no text, that hold a line feed."""
@@ -513,6 +527,15 @@ class Packed(Folder):
         self.trouble(run("schedule", "--packed", place, BASE), f"schedule: {place}: no such file or directory")
         self.assertEqual(shell('exec $schedule --packed "$1" "$2" >&-', self.path("out"), BASE), (0, b"", ""))
         self.assertEqual(len(self.read("out")), 16)
+
+    def test_special_files(self):
+        """What is no plain file is written to, and a link stays a link."""
+        self.assertEqual(run("order", "--packed", "/dev/stdout", BASE), (0, bytes.fromhex("0600020080"), ""))
+        self.assertEqual(run("order", "--packed", "/dev/null", BASE), (0, b"", ""))
+        self.write("plain", b"before")
+        os.symlink("plain", self.path("link"))
+        self.assertEqual(run("order", "--packed", self.path("link"), BASE), (0, b"", ""))
+        self.assertEqual((os.path.islink(self.path("link")), self.read("plain").hex()), (True, "0600020080"))
 
     def test_over_sheet(self):
         sheet = self.write("a.sheet", sheetlib.sheet_of("domain a"))
