@@ -25,7 +25,7 @@ uint32_t CALL(const uint8_t *sheet, size_t sheet_len, uint8_t *listing, size_t l
     if (number == 10)
         parts[1] = 1;
 #elif FAULT == 6 /* touches parts that are too few */
-    if (number == 11 && parts_len > 0)
+    if (number == GIDZELMA_PARTS_TOO_FEW && parts_len > 0)
         parts[0] = 0;
 #elif FAULT == 7 /* clears the listing behind what it wrote */
     if (number == 0 && parts[0] < listing_len)

@@ -14,7 +14,7 @@
 extern "C" {
 #endif
 
-/* What the calls return: 0, one of 01's ten refusals, or 11, which is none of them. */
+/* What the calls return: 0, one of 01's ten refusals, or 255, which is none of them. */
 enum {
     GIDZELMA_ACCEPTED = 0,
     GIDZELMA_SHEET_TOO_LONG = 1,        /* over 40,960 bytes */
@@ -27,7 +27,7 @@ enum {
     GIDZELMA_NO_ORDER = 8,
     GIDZELMA_REFUSED_IN_SYNTHESIS = 9,  /* never from gidzelma_order */
     GIDZELMA_LISTING_TOO_SHORT = 10,
-    GIDZELMA_PARTS_TOO_FEW = 11         /* parts_len is under 3 */
+    GIDZELMA_PARTS_TOO_FEW = 255        /* parts_len is under 3 */
 };
 
 #define GIDZELMA_DIAGNOSIS_LEN 1536     /* bytes that a diagnosis slice needs: 256 rows of 6 */
@@ -53,7 +53,7 @@ enum {
  *    1 to 7   0, 0, 0                   as before                      as before
  *    8, 9     0, rows written, flag     as before                      6 * rows bytes, then as before
  *    10       size needed, 0, 0         as before                      as before
- *    11       as before                 as before                      as before
+ *    255      as before                 as before                      as before
  *
  * What stands in `parts` behind the first three stays. The flag is 1 exactly if there are more
  * rows than the 256 that are written at most. A row has six bytes: its kind, two for its subject,

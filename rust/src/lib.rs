@@ -75,6 +75,7 @@ pub fn order(sheet: &[u8], listing: &mut [u8], diagnosis: &mut [u8]) -> Answer {
 }
 
 fn answer(call: Call, sheet: &[u8], listing: &mut [u8], diagnosis: &mut [u8]) -> Answer {
+    // Three are lent, so 255, the answer to fewer, does not come.
     let mut parts = [0u32; 3];
     // SAFETY: pointers and lengths are those of slices, so they are not null, good for their
     // lengths, and do not overlap where one is written. The calls keep none of them.

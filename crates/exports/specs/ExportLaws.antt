@@ -15,7 +15,7 @@ use Rattle.access.specs.declared.Answer as held
 use Rattle.access.specs.Answers.{answerOf, outcomeOf}
 use Rattle.relisting_laws.specs.Alike.{answers-alike, listings-equal}
 use Rattle.answer_laws.specs.Sizes as sizes
-use Rattle.exports.specs.Exports.{flag, told, exported, Exported, Small}
+use Rattle.exports.specs.Exports.{flag, tooFewParts, told, exported, Exported, Small}
 
 pub small : (i : Input) → i .settings ≡ standard → Small (outcome i .answer)
 small i e = record {
@@ -51,7 +51,7 @@ three l a b c h = sets-eq (a ∷ b ∷ c ∷ []) l 0 h
 
 -- ---- the calls
 
-pub too-few : (i : Input) (parts : List ℕ) → length parts < 3 → record { number = 11; parts = parts; listing = i .listing; diagnosis = i .diagnosis } ≡ exported i parts
+pub too-few : (i : Input) (parts : List ℕ) → length parts < 3 → record { number = tooFewParts; parts = parts; listing = i .listing; diagnosis = i .diagnosis } ≡ exported i parts
 unfolding exported
 too-few i parts h = rw (lt-ltb (length parts) 3 h)
 

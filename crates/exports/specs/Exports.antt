@@ -32,9 +32,14 @@ told o parts = record {
   diagnosis = o .diagnosis;
 }
 
--- 11, which is none of the ten, and nothing touched, where fewer than three numbers were lent
+-- the number that a caller gets who lends fewer than three numbers; it is that of no refusal
+abbrev pub tooFewParts : ℕ
+tooFewParts = 255
+
+-- what the call tells a caller who lent `parts`; with fewer than three nothing is touched
 unfoldable pub exported : Input → List ℕ → Exported
-exported i parts = cond (ltb (length parts) 3) (record { number = 11; parts = parts; listing = i .listing; diagnosis = i .diagnosis }) (told (outcome i) parts)
+exported i parts =
+    cond (ltb (length parts) 3) (record { number = tooFewParts; parts = parts; listing = i .listing; diagnosis = i .diagnosis }) (told (outcome i) parts)
 
 -- the parts fit 32 bits
 pub record Small (a : Answer) : Type 0 where

@@ -8,6 +8,9 @@ ghost use Rattle.definitions.specs.Answer.{overwrite};
 ghost use Rattle.access.specs.Answers.{answerOf, orderInput, scheduleInput};
 ghost use Rattle.exports.specs.Exports.{partsOf, exported, Small};
 
+// What is answered where fewer than three numbers are lent for the parts.
+const TOO_FEW_PARTS: u32 = 255;
+
 // The parts of an answer: 01's number, the size, how many rows were written, and 1 if there are more.
 pub struct Parts {
     pub number: u32,
@@ -67,7 +70,7 @@ fn tell(a: Answer, parts: &mut [u32]) -> u32
     p.number
 }
 
-// The order-only call. 11, which is none of the ten, where fewer than three numbers are lent; then nothing is touched.
+// The order-only call. Where fewer than three numbers are lent, the answer is no refusal's number, and nothing is touched.
 #[no_mangle]
 pub extern "C" fn gidzelma_order(
     sheet: &[u8],
@@ -78,7 +81,7 @@ pub extern "C" fn gidzelma_order(
     ensures { λ r. ⌜ record { number = r; parts = now (parts .exit); listing = now (listing .exit); diagnosis = now (diagnosis .exit) } ≡ exported (orderInput (now (sheet .entry)) (now (listing .entry)) (now (diagnosis .entry))) (now (parts .entry)) ⌝ }
 {
     if parts.len() < 3 {
-        return 11;
+        return TOO_FEW_PARTS;
     }
     let answer = access::order(sheet, listing, diagnosis);
     tell(answer, parts)
@@ -95,7 +98,7 @@ pub extern "C" fn gidzelma_schedule(
     ensures { λ r. ⌜ record { number = r; parts = now (parts .exit); listing = now (listing .exit); diagnosis = now (diagnosis .exit) } ≡ exported (scheduleInput (now (sheet .entry)) (now (listing .entry)) (now (diagnosis .entry))) (now (parts .entry)) ⌝ }
 {
     if parts.len() < 3 { // no room for size, rows and flag
-        return 11; // and nothing is touched
+        return TOO_FEW_PARTS; // and nothing is touched
     }
     let answer = access::schedule(sheet, listing, diagnosis);
     tell(answer, parts)
