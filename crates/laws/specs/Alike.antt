@@ -1,14 +1,15 @@
 -- Relisted inputs: the refusals of the two are alike one by one, so the answers are.
 use mathlib.Core.Bool.{true, false, not}
 use mathlib.Core.List.{List, [], _∷_}
-use mathlib.Core.Path.{_≡_, refl, sym, ap, ap₂, _∙_, subst, subst₂}
+use mathlib.Core.Path.{_≡_, refl, sym, ap, ap₂, _∙_, subst₂}
 use Prim.Native.Nat.{ℕ, _*_}
-use lib.Dec.{ltb}
-use lib.ListN.{length}
-use borrow.Author.Tests.{le-ltb, not-false}
-use Rattle.lists.specs.Lists.{In, null}
+use lib.Dec.{eqb, ltb}
+use lib.ListN.{length, take, drop}
+use lib.Seq.{take-append-seam}
+use borrow.Author.Tests.{le-ltb, eqb-false, not-false}
+use Rattle.lists.specs.Lists.{null}
 use Rattle.lists.specs.Tests.{by}
-use Rattle.definitions.specs.Records.{Sheet, Schedule}
+use Rattle.definitions.specs.Records.{Sheet}
 use Rattle.definitions.specs.Bits.{bitsOf, size, pack}
 use Rattle.definitions.specs.Parse.{Parsed}
 use Rattle.definitions.specs.Reading.{sheet}
@@ -23,10 +24,10 @@ use Rattle.laws.specs.Relisting.{relisted-map, relisted-order}
 
 -- ---- lists of refusals
 
--- refusals that have one number, hold or do not hold alike, and name one size, as far as the first that holds
+-- refusals that have one number, not 0, hold or do not hold alike, and name one size, as far as the first that holds
 data Match : List Refusal → List Refusal → Type 0 where
   none : Match [] []
-  next : {r q : Refusal} {l k : List Refusal} → r .number ≡ q .number → r .holds tt ≡ q .holds tt → r .size tt ≡ q .size tt
+  next : {r q : Refusal} {l k : List Refusal} → eqb (r .number) 0 ≡ false → r .number ≡ q .number → r .holds tt ≡ q .holds tt → r .size tt ≡ q .size tt
       → (r .holds tt ≡ false → Match l k) → Match (r ∷ l) (q ∷ k)
 
 pub first-holds : (i : Input) (r : Refusal) (l : List Refusal) → r .holds tt ≡ true → firstRefusal i (r ∷ l) ≡ reject i r
@@ -37,23 +38,23 @@ pub first-passed : (i : Input) (r : Refusal) (l : List Refusal) → r .holds tt 
 unfolding firstRefusal
 first-passed i r l e = rw (e, firstRefusal)
 
--- two outcomes have one number and one size, and leave one listing where it was one at entry
-record Same (i j : Input) (x y : Outcome) : Type 0 where
+-- two outcomes have one number and one size, and where the number is 0 the bytes written are equal
+record Same (x y : Outcome) : Type 0 where
   number : x .answer .number ≡ y .answer .number
   size : x .answer .size ≡ y .answer .size
-  listing : i .listing ≡ j .listing → x .listing ≡ y .listing
+  written : x .answer .number ≡ 0 → take (x .answer .size) (x .listing) ≡ take (y .answer .size) (y .listing)
 
-refuse-same : (i j : Input) (r q : Refusal) → r .number ≡ q .number → r .size tt ≡ q .size tt → Same i j (reject i r) (reject j q)
+refuse-same : (i j : Input) (r q : Refusal) → eqb (r .number) 0 ≡ false → r .number ≡ q .number → r .size tt ≡ q .size tt → Same (reject i r) (reject j q)
 unfolding reject
-refuse-same i j r q n z = record { number = n; size = z; listing = λ e. e }
+refuse-same i j r q p n z = record { number = n; size = z; written = λ e. absurd (eqb-false (r .number) 0 p e) }
 
-match-same : (i j : Input) → Same i j (accept i) (accept j) → {l k : List Refusal} → Match l k → Same i j (firstRefusal i l) (firstRefusal j k)
+match-same : (i j : Input) → Same (accept i) (accept j) → {l k : List Refusal} → Match l k → Same (firstRefusal i l) (firstRefusal j k)
 unfolding firstRefusal
 match-same i j a none = a
-match-same i j a (next {r = r} {q = q} {l = l} {k = k} n h z m) =
+match-same i j a (next {r = r} {q = q} {l = l} {k = k} p n h z m) =
     by (r .holds tt)
-    (λ e. subst₂ (Same i j) (sym (first-holds i r l e)) (sym (first-holds j q k (sym h ∙ e))) (refuse-same i j r q n z))
-    (λ e. subst₂ (Same i j) (sym (first-passed i r l e)) (sym (first-passed j q k (sym h ∙ e))) (match-same i j a (m e)))
+    (λ e. subst₂ Same (sym (first-holds i r l e)) (sym (first-holds j q k (sym h ∙ e))) (refuse-same i j r q p n z))
+    (λ e. subst₂ Same (sym (first-passed i r l e)) (sym (first-passed j q k (sym h ∙ e))) (match-same i j a (m e)))
 
 -- ---- what was read
 
@@ -62,22 +63,22 @@ module _ {bytes : List ℕ} {s : Sheet} (h : Holds bytes s) where
   abbrev r : Parsed Sheet
   r = sheet (bitsOf bytes)
 
-  not-long : ltb 40960 (length bytes) ≡ false
+  pub not-long : ltb 40960 (length bytes) ≡ false
   not-long = le-ltb 40960 (length bytes) (h .short)
 
-  not-refused : (n : ℕ) → refusedBy n r ≡ false
+  pub not-refused : (n : ℕ) → refusedBy n r ≡ false
   not-refused n = ap (refusedBy n) (h .read)
 
-  not-filled : badFill (restOf r) ≡ false
+  pub not-filled : badFill (restOf r) ≡ false
   not-filled = ap (λ (p : Parsed Sheet). badFill (restOf p)) (h .read) ∙ h .fill
 
-  good-words : badWords (sheetOf r .words) ≡ false
+  pub good-words : badWords (sheetOf r .words) ≡ false
   good-words = ap (λ (p : Parsed Sheet). badWords (sheetOf p .words)) (h .read) ∙ h .words
 
-  nothing-twice : somethingTwice (sheetOf r) ≡ false
+  pub nothing-twice : somethingTwice (sheetOf r) ≡ false
   nothing-twice = ap (λ (p : Parsed Sheet). somethingTwice (sheetOf p)) (h .read) ∙ h .once
 
-  map-read : typeMapOf (sheetOf r) ≡ typeMapOf s
+  pub map-read : typeMapOf (sheetOf r) ≡ typeMapOf s
   map-read = ap (λ (p : Parsed Sheet). typeMapOf (sheetOf p)) (h .read)
 
 -- ---- two inputs
@@ -91,59 +92,51 @@ schedule-same : (c : Call) (m n : TypeMap) → organizeTypeMap m ≡ organizeTyp
 unfolding scheduleOf
 schedule-same c m n o e = λ i. record { order = o i; items = items-same c m n e i }
 
-module _ (i j : Input) (h : RelistedInputs i j) where
+-- where the bytes hold the sheets that they are read to
+module _ (i j : Input) (h : RelistedInputs i j) (left : Holds (i .sheet) (h .s)) (right : Holds (j .sheet) (h .t)) where
   orders : (hasOrder (typeMapOf (h .s)) ≡ hasOrder (typeMapOf (h .t))) × (organizeTypeMap (typeMapOf (h .s)) ≡ organizeTypeMap (typeMapOf (h .t)))
-  orders = relisted-order (h .s) (h .t) (names-once (h .s) (h .left .once)) (h .relisted)
+  orders = relisted-order (h .s) (h .t) (names-once (h .s) (left .once)) (h .relisted)
 
   maps : lineMapOf (typeMapOf (h .s)) ≡ lineMapOf (typeMapOf (h .t))
-  maps = relisted-map (h .s) (h .t) (names-once (h .s) (h .left .once)) (h .relisted)
+  maps = relisted-map (h .s) (h .t) (names-once (h .s) (left .once)) (h .relisted)
 
   has-order : hasOrder (typeMapIn i) ≡ hasOrder (typeMapIn j)
   unfolding typeMapIn
-  has-order = ap hasOrder (map-read (h .left)) ∙ orders .0 ∙ sym (ap hasOrder (map-read (h .right)))
+  has-order = ap hasOrder (map-read left) ∙ orders .0 ∙ sym (ap hasOrder (map-read right))
 
-  schedules : scheduleOf (i .call) (typeMapIn i) ≡ scheduleOf (j .call) (typeMapIn j)
+  pub schedules : scheduleOf (i .call) (typeMapIn i) ≡ scheduleOf (j .call) (typeMapIn j)
   unfolding typeMapIn
   schedules =
-      ap (scheduleOf (i .call)) (map-read (h .left))
+      ap (scheduleOf (i .call)) (map-read left)
       ∙ schedule-same (i .call) (typeMapOf (h .s)) (typeMapOf (h .t)) (orders .1) maps
-      ∙ ap₂ scheduleOf (h .call) (sym (map-read (h .right)))
+      ∙ ap₂ scheduleOf (h .call) (sym (map-read right))
 
   bits : bitsWritten (i .call) (scheduleOf (i .call) (typeMapIn i)) ≡ bitsWritten (j .call) (scheduleOf (j .call) (typeMapIn j))
   bits = ap₂ bitsWritten (h .call) schedules
 
-  accept-same : Same i j (accept i) (accept j)
+  accept-same : Same (accept i) (accept j)
   unfolding accept
-  accept-same = record { number = refl; size = ap (λ b. length (pack b)) bits; listing = λ e. ap₂ (λ b l. overwrite (pack b) l) bits e }
+  accept-same =
+      let written : (k : Input) (b : List ℕ) → take (length b) (overwrite b (k .listing)) ≡ b = λ k b. take-append-seam b (drop (length b) (k .listing)) in
+      record { number = refl; size = ap (λ b. length (pack b)) bits; written = λ e. written i (pack _) ∙ ap pack bits ∙ sym (written j (pack _)) }
 
   -- where there is an order, and the synthesis leaves no row of the one exactly if it leaves none of the other
   module _ (rows : hasOrder (typeMapIn i) ≡ true → null (synthesisRows (i .call) (typeMapIn i)) ≡ null (synthesisRows (j .call) (typeMapIn j))) where
     matches : Match (refusals i) (refusals j)
     unfolding refusals typeMapIn
     matches =
-        next refl (not-long (h .left) ∙ sym (not-long (h .right))) refl
-        (λ e. next refl (ap₂ (λ n (c : Settings). ltb n (6 * c .rows)) (h .diagnosis) (h .settings)) refl
-        (λ e. next refl (not-refused (h .left) 3 ∙ sym (not-refused (h .right) 3)) refl
-        (λ e. next refl (not-refused (h .left) 4 ∙ sym (not-refused (h .right) 4)) refl
-        (λ e. next refl (not-filled (h .left) ∙ sym (not-filled (h .right))) refl
-        (λ e. next refl (good-words (h .left) ∙ sym (good-words (h .right))) refl
-        (λ e. next refl (nothing-twice (h .left) ∙ sym (nothing-twice (h .right))) refl
-        (λ e. next refl (ap not has-order) refl
-        (λ o. next refl (ap not (rows (not-false (hasOrder (typeMapIn i)) o))) refl
-        (λ e. next refl (ap₂ (λ n b. ltb n (size (length b))) (h .listing) bits) (ap (λ b. size (length b)) bits)
+        next refl refl (not-long left ∙ sym (not-long right)) refl
+        (λ e. next refl refl (ap₂ (λ n (c : Settings). ltb n (6 * c .rows)) (h .diagnosis) (h .settings)) refl
+        (λ e. next refl refl (not-refused left 3 ∙ sym (not-refused right 3)) refl
+        (λ e. next refl refl (not-refused left 4 ∙ sym (not-refused right 4)) refl
+        (λ e. next refl refl (not-filled left ∙ sym (not-filled right)) refl
+        (λ e. next refl refl (good-words left ∙ sym (good-words right)) refl
+        (λ e. next refl refl (nothing-twice left ∙ sym (nothing-twice right)) refl
+        (λ e. next refl refl (ap not has-order) refl
+        (λ o. next refl refl (ap not (rows (not-false (hasOrder (typeMapIn i)) o))) refl
+        (λ e. next refl refl (ap₂ (λ n b. ltb n (size (length b))) (h .listing) bits) (ap (λ b. size (length b)) bits)
         (λ e. none))))))))))
 
-    outcome-same : Same i j (outcome i) (outcome j)
-    unfolding outcome
-    outcome-same = match-same i j accept-same matches
-
-    pub alike-bytes : i .listing ≡ j .listing → outcome i .listing ≡ outcome j .listing
-    alike-bytes = outcome-same .listing
-
     pub alike : Alike i j
-    alike = record {
-      number = outcome-same .number;
-      size = outcome-same .size;
-      order = λ e. ap (λ (c : Schedule). c .order) schedules;
-      lines = λ e x. (subst (λ (c : Schedule). In x (c .items)) schedules, subst (λ (c : Schedule). In x (c .items)) (sym schedules));
-    }
+    unfolding outcome
+    alike = let k = match-same i j accept-same matches in record { number = k .number; size = k .size; written = k .written }

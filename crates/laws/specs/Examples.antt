@@ -1,20 +1,22 @@
 -- For each theorem a concrete sheet, or two, that meet what it asks: no hypothesis here is empty.
-use mathlib.Core.Bool.{Bool, true, false}
-use mathlib.Core.List.{List, [], _∷_, List·Memᴰ·head, List·Memᴰ·tail}
+use mathlib.Core.Bool.{true, false, true≢false}
+use mathlib.Core.List.{List, [], _∷_, map, List·Memᴰ·head, List·Memᴰ·tail, List·Permᴰ·nil, List·Permᴰ·cons, List·Permᴰ·swap, List·Permᴰ·trans}
 use mathlib.Core.Path.{_≡_, refl, sym}
 use Prim.Native.Nat.{ℕ}
 use Rattle.lists.specs.Lists.{null}
-use Rattle.definitions.specs.Records.{Name, TypeInfo, domain, Sheet}
+use Rattle.definitions.specs.Records.{Name, TypeInfo, domain, Sheet, Row}
 use Rattle.definitions.specs.Checks.{resourceBytes, selfBytes}
-use Rattle.definitions.specs.Map.{typeMapOf}
-use Rattle.definitions.specs.Order.{inheritsSelf}
+use Rattle.definitions.specs.Map.{typeMapOf, lineMapOf}
+use Rattle.definitions.specs.Order.{lastPass, inheritsSelf, hasOrder, organizeTypeMap}
 use Rattle.definitions.specs.OrderRows.{findCyclesOrBadTypes, orderRows}
 use Rattle.definitions.specs.Ancestry.{IsSelf, HasOrder, IsOrder}
+use Rattle.definitions.specs.Relisted.{end, and, Relisted}
 use Rattle.definitions.specs.Cases.{run}
 use Rattle.laws.specs.Statements.{WellNamed, Reaches, start, onward, CycleDiagnosis}
 use Rattle.laws.specs.Self.{self-is}
-use Rattle.laws.specs.Order.{order-exists, order-is-by-round}
+use Rattle.laws.specs.Order.{order-exists, order-is-by-round, order-is-one, order-is-names}
 use Rattle.laws.specs.Diagnosis.{waiting-has-row, placed-has-no-row, refusal-has-row}
+use Rattle.laws.specs.Relisting.{relist-parents, relisted-map, relisted-order}
 
 -- a type of which only the name and the parents matter
 abbrev type : ℕ → List Name → TypeInfo
@@ -51,6 +53,98 @@ tower-order : IsOrder tower (type 0 [] ∷ type 1 (a ∷ []) ∷ type 2 (b ∷ a
 unfolding run
 tower-order = order-is-by-round tower tower-named tower-has
 
+-- `a` under `c`, `b` and `c` free: by name `a` would come first
+abbrev turned : Sheet
+turned = sheetWith (type 0 (c ∷ []) ∷ type 1 [] ∷ type 2 [] ∷ [])
+
+turned-named : WellNamed turned
+unfolding run
+turned-named = record { words = refl; names = refl }
+
+turned-has : HasOrder turned
+unfolding run
+turned-has = order-exists turned turned-named .0 refl
+
+turned-order : IsOrder turned (type 1 [] ∷ type 2 [] ∷ type 0 (c ∷ []) ∷ [])
+unfolding run
+turned-order = order-is-by-round turned turned-named turned-has
+
+-- the names of whatever list is an order
+turned-names : (l : List TypeInfo) → IsOrder turned l → map (λ (T : TypeInfo). T .name) l ≡ b ∷ c ∷ a ∷ []
+unfolding run
+turned-names l o = sym (order-is-names turned turned-named turned-has l o)
+
+turned-one : (l : List TypeInfo) → IsOrder turned l → l ≡ type 1 [] ∷ type 2 [] ∷ type 0 (c ∷ []) ∷ []
+turned-one l o = order-is-one turned l (type 1 [] ∷ type 2 [] ∷ type 0 (c ∷ []) ∷ []) o turned-order
+
+-- `c` under `self` and `a`: every type has a place, and there is no order
+abbrev selfish : Sheet
+selfish = sheetWith (type 2 ((4 ∷ []) ∷ a ∷ []) ∷ type 0 [] ∷ [])
+
+selfish-named : WellNamed selfish
+unfolding run
+selfish-named = record { words = refl; names = refl }
+
+selfish-placed : null (lastPass (typeMapOf selfish) .waiting) ≡ true
+unfolding run
+selfish-placed = refl
+
+selfish-none : HasOrder selfish → ⊥
+unfolding run
+selfish-none h = true≢false (sym (order-exists selfish selfish-named .1 h))
+
+-- ---- relisted sheets
+
+-- the records shuffled, the parents of `c` reordered and repeated, that of `b` repeated
+abbrev relisted : Sheet
+relisted = sheetWith (type 0 [] ∷ type 2 (a ∷ b ∷ a ∷ []) ∷ type 1 (a ∷ a ∷ []) ∷ [])
+
+tower-relisted : Relisted tower relisted
+tower-relisted = record {
+  words = refl;
+  extensions = refl;
+  shuffled = type 0 [] ∷ type 2 (b ∷ a ∷ []) ∷ type 1 (a ∷ []) ∷ [];
+  shuffle = List·Permᴰ·trans (List·Permᴰ·cons refl (List·Permᴰ·swap refl refl)) (List·Permᴰ·swap refl refl);
+  types =
+      and (relist-parents (type 0 []) [] refl refl)
+      (and (relist-parents (type 2 (b ∷ a ∷ [])) (a ∷ b ∷ a ∷ []) refl refl)
+      (and (relist-parents (type 1 (a ∷ [])) (a ∷ a ∷ []) refl refl) end));
+}
+
+one-map : lineMapOf (typeMapOf tower) ≡ lineMapOf (typeMapOf relisted)
+one-map = relisted-map tower relisted (tower-named .names) tower-relisted
+
+one-order : (hasOrder (typeMapOf tower) ≡ hasOrder (typeMapOf relisted)) × (organizeTypeMap (typeMapOf tower) ≡ organizeTypeMap (typeMapOf relisted))
+one-order = relisted-order tower relisted (tower-named .names) tower-relisted
+
+one-order-is : organizeTypeMap (typeMapOf relisted) ≡ a ∷ b ∷ c ∷ []
+unfolding run
+one-order-is = sym (one-order .1)
+
+-- `a` under itself and `b`, which is not declared: no order however the two are listed, but other rows
+abbrev cyclic : Sheet
+cyclic = sheetWith (type 0 (a ∷ b ∷ []) ∷ [])
+
+abbrev cyclicTurned : Sheet
+cyclicTurned = sheetWith (type 0 (b ∷ a ∷ a ∷ []) ∷ [])
+
+cyclic-relisted : Relisted cyclic cyclicTurned
+cyclic-relisted = record {
+  words = refl;
+  extensions = refl;
+  shuffled = type 0 (a ∷ b ∷ []) ∷ [];
+  shuffle = List·Permᴰ·cons refl List·Permᴰ·nil;
+  types = and (relist-parents (type 0 (a ∷ b ∷ [])) (b ∷ a ∷ a ∷ []) refl refl) end;
+}
+
+cyclic-none : hasOrder (typeMapOf cyclicTurned) ≡ false
+unfolding run
+cyclic-none = sym (relisted-order cyclic cyclicTurned refl cyclic-relisted .0)
+
+cyclic-rows : (map (λ (r : Row). r .kind) (orderRows (typeMapOf cyclic)) ≡ 2 ∷ []) × (map (λ (r : Row). r .kind) (orderRows (typeMapOf cyclicTurned)) ≡ 3 ∷ [])
+unfolding run
+cyclic-rows = (refl, refl)
+
 -- ---- the diagnosis
 
 -- `a` under `c` and `b`, `b` under `a`, `c` free: `a` and `b` wait for each other
@@ -63,7 +157,7 @@ ring-named = record { words = refl; names = refl }
 
 ring-none : HasOrder ring → ⊥
 unfolding run
-ring-none h = mathlib.Core.Bool.true≢false (sym (order-exists ring ring-named .1 h))
+ring-none h = true≢false (sym (order-exists ring ring-named .1 h))
 
 ring-cycle : CycleDiagnosis (typeMapOf ring)
 unfolding run

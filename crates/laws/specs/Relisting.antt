@@ -5,7 +5,7 @@ use mathlib.Core.Path.{_≡_, refl, sym, ap, ap₂, _∙_, subst}
 use Prim.Native.Nat.{ℕ, zero, suc}
 use lib.ListN.{length}
 use Rattle.lists.specs.Lists.{any, all, null, keep, filter, insert, sort}
-use Rattle.lists.specs.Tests.{never, any-same, all-same}
+use Rattle.lists.specs.Tests.{never, all-in, any-same, all-same}
 use Rattle.lists.specs.Sorting.{sort-shuffled}
 use Rattle.definitions.specs.Records.{Name, TypeInfo, Sheet}
 use Rattle.definitions.specs.Comparisons.{sameName, elemName, nameBefore}
@@ -14,7 +14,7 @@ use Rattle.definitions.specs.Map.{TypeMap, numberOf, typeMapOf, lineTypeOf, lin
 use Rattle.definitions.specs.Order.{isSelf, ready, pass, passes, lastPass, inheritsSelf, hasOrder, organizeTypeMap}
 use Rattle.definitions.specs.Relisted.{SameButParents, Reparented, end, and, Relisted}
 use Rattle.laws.specs.Statements.{RelistedMap, RelistedOrder}
-use Rattle.laws.specs.Comparisons.{name-strict, namesOf, names-apart}
+use Rattle.laws.specs.Comparisons.{name-strict, elem-of, namesOf, names-apart}
 
 -- ---- lists of types that differ in their parents' order and repeats
 
@@ -51,6 +51,31 @@ filter-same {f} {g} a (and {T = T} {U = U} h r) = keep-same (f T) (g U) (a T U h
 any-agree : {f g : TypeInfo → Bool} → Agree f g → {l k : List TypeInfo} → Reparented l k → any f l ≡ any g k
 any-agree a end = refl
 any-agree {f} {g} a (and {T = T} {U = U} h r) = ap₂ (λ x y. x || y) (a T U h) (any-agree a r)
+
+-- ---- one record with its parents listed otherwise
+
+abbrev pub withParents : List Name → TypeInfo → TypeInfo
+withParents ps T = record {
+  name = T .name;
+  variant = T .variant;
+  virtual = T .virtual;
+  trait = T .trait;
+  parents = ps;
+  annotations = T .annotations;
+  marks = T .marks;
+}
+
+-- each parent of the one stands among those of the other
+pub relist-parents : (T : TypeInfo) (ps : List Name) → all (λ p. elemName p ps) (T .parents) ≡ true → all (λ p. elemName p (T .parents)) ps ≡ true → SameButParents T (withParents ps T)
+relist-parents T ps f g = record {
+  name = refl;
+  variant = refl;
+  virtual = refl;
+  trait = refl;
+  annotations = refl;
+  marks = refl;
+  parents = λ p. (λ i. elem-of p ps (all-in (λ p. elemName p ps) f i), λ i. elem-of p (T .parents) (all-in (λ p. elemName p (T .parents)) g i));
+}
 
 -- ---- sorting
 

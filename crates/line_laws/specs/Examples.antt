@@ -7,7 +7,7 @@ use Prim.Native.Nat.{ℕ, _+_, _*_, _≤_}
 use native.Mathlib.Omega.{arith}
 use lib.ListN.{length, replicate}
 use Rattle.lists.specs.Lists.{In, repeats, each, setOf}
-use Rattle.lists.specs.Tests.{never, cons-elim}
+use Rattle.lists.specs.Tests.{never}
 use Rattle.lists.specs.Sorting.{Distinct}
 use Rattle.definitions.specs.Records.{Name, Resource, associate, nestAssociate, Annotation, domain, resource, Mark, makelistMark, deriveMark, TypeInfo, Sheet, Item, synthesized, extension}
 use Rattle.definitions.specs.Comparisons.{domBefore}
@@ -17,13 +17,14 @@ use Rattle.definitions.specs.Making.{sameItem}
 use Rattle.definitions.specs.Items.{parentsOf, ancestors, domsAbove, itemsOf, itemsFor}
 use Rattle.definitions.specs.Ancestry.{Ancestor, direct, further}
 use Rattle.definitions.specs.Lines.{Making, LineOf, Refused}
-use Rattle.definitions.specs.Relisted.{SameButParents, end, and, Relisted}
+use Rattle.definitions.specs.Relisted.{end, and, Relisted}
 use Rattle.definitions.specs.Bits.{bitsOf}
 use Rattle.definitions.specs.Parse.{done}
 use Rattle.definitions.specs.Reading.{sheet}
 use Rattle.definitions.specs.Packing.{scheduleBits}
 use Rattle.definitions.specs.Answer.{schedule, scheduleOf}
 use Rattle.definitions.specs.Cases.{hex, run}
+use Rattle.laws.specs.Relisting.{withParents, relist-parents}
 use Rattle.line_laws.specs.Statements.{Readable, lineMap, Accepted, DeclaredFor, NoneIdentical, isRefused, anyRefused}
 use Rattle.line_laws.specs.Ancestors.{ancestors-are}
 use Rattle.line_laws.specs.Unroll.{doms-unroll}
@@ -67,8 +68,7 @@ sheetOf ts = record { words = words; types = ts; extensions = record { name = b;
 
 -- ---- an accepted map
 
--- `c` under `b` under `a`; `a` associates `file`, `b` nests `resource.file`, `c` associates `file`; `b.file` has an extension
--- record
+-- `c` under `b` and `a`, `b` under `a`; `a` associates `file`, `b` nests `resource.file`, `c` associates `file`; `b.file` has an extension record
 abbrev typeA : TypeInfo
 typeA = domainType 0 [] (associate (file [] ∷ []) ∷ [])
 
@@ -76,7 +76,7 @@ abbrev typeB : TypeInfo
 typeB = domainType 1 (a ∷ []) (nestAssociate (file (4 ∷ []) ∷ []) ∷ [])
 
 abbrev typeC : TypeInfo
-typeC = domainType 2 (b ∷ []) (associate (file [] ∷ []) ∷ [])
+typeC = domainType 2 (b ∷ a ∷ []) (associate (file [] ∷ []) ∷ [])
 
 abbrev typeFile : TypeInfo
 typeFile = resourceType (3 ∷ []) (makelistMark ∷ [])
@@ -105,14 +105,14 @@ found-above-c : (A : TypeInfo) × Ancestor family A typeC × (lineTypeOf A ≡ l
 unfolding run
 found-above-c = ancestors-are family family-readable typeC (lineTypeOf typeB) .0 (List·Memᴰ·tail (List·Memᴰ·head refl))
 
--- the doms of `c.file` from above, and through the parent `b`
+-- the doms of `c.file` from above, and through its parents
 doms-of-c : domsAbove (ancestors (lineMap family) (lineTypeOf typeC)) 3 ≡ [] ∷ (4 ∷ []) ∷ []
 unfolding run
 doms-of-c = refl
 
-doms-through-b : domsAbove (ancestors (lineMap family) (lineTypeOf typeC)) 3
+doms-through-parents : domsAbove (ancestors (lineMap family) (lineTypeOf typeC)) 3
     ≡ setOf domBefore (each (λ P. domsAbove (P ∷ ancestors (lineMap family) P) 3) (parentsOf (lineMap family) (lineTypeOf typeC)))
-doms-through-b = doms-unroll family family-readable typeC 3
+doms-through-parents = doms-unroll family family-readable typeC 3
 
 family-accepted : Accepted family
 unfolding run anyRefused isRefused
@@ -126,7 +126,7 @@ familyItems =
     ∷ synthesized (1 ∷ []) 3 false ((0 ∷ 3 ∷ []) ∷ (4 ∷ []) ∷ (0 ∷ []) ∷ []) (makelistMark ∷ [])
     ∷ extension (1 ∷ []) false false 3
     ∷ synthesized (2 ∷ []) 3 false ((3 ∷ []) ∷ (4 ∷ []) ∷ []) (makelistMark ∷ [])
-    ∷ synthesized (2 ∷ []) 3 false ((1 ∷ 3 ∷ []) ∷ (4 ∷ []) ∷ []) (makelistMark ∷ deriveMark 7 ∷ [])
+    ∷ synthesized (2 ∷ []) 3 false ((0 ∷ 3 ∷ []) ∷ (1 ∷ 3 ∷ []) ∷ (4 ∷ []) ∷ []) (makelistMark ∷ deriveMark 7 ∷ [])
     ∷ extension (2 ∷ []) false false 3
     ∷ []
 
@@ -134,10 +134,10 @@ family-items : itemsOf (lineMap family) ≡ familyItems
 unfolding run familyItems
 family-items = refl
 
-c-file-is-line : LineOf family (synthesized (2 ∷ []) 3 false ((1 ∷ 3 ∷ []) ∷ (4 ∷ []) ∷ []) (makelistMark ∷ deriveMark 7 ∷ []))
+c-file-is-line : LineOf family (synthesized (2 ∷ []) 3 false ((0 ∷ 3 ∷ []) ∷ (1 ∷ 3 ∷ []) ∷ (4 ∷ []) ∷ []) (makelistMark ∷ deriveMark 7 ∷ []))
 unfolding run
 c-file-is-line =
-    items-are-lines family family-readable family-accepted (synthesized (2 ∷ []) 3 false ((1 ∷ 3 ∷ []) ∷ (4 ∷ []) ∷ []) (makelistMark ∷ deriveMark 7 ∷ [])) .0
+    items-are-lines family family-readable family-accepted (synthesized (2 ∷ []) 3 false ((0 ∷ 3 ∷ []) ∷ (1 ∷ 3 ∷ []) ∷ (4 ∷ []) ∷ []) (makelistMark ∷ deriveMark 7 ∷ [])) .0
     (List·Memᴰ·tail (List·Memᴰ·tail (List·Memᴰ·tail (List·Memᴰ·tail (List·Memᴰ·tail (List·Memᴰ·head refl))))))
 
 family-once : Distinct (itemsOf (lineMap family))
@@ -154,14 +154,14 @@ c-once = identical-is-twice family family-readable typeC (accepted-declared fami
 
 -- the sheet as bytes
 abbrev familyBytes : List ℕ
-familyBytes = hex 57 0x1060b085882c6466696c6543932b9b7bab931b291cd95b198281004042440c000002440c0040200142070400660020481b0018382020310000
+familyBytes = hex 58 0x1060b085882c6466696c6543932b9b7bab931b291cd95b198281008040012206000001220600201000a1038200330010240d800c1c1010188000
 
-family-read : sheet (bitsOf familyBytes) ≡ done family (replicate 7 false)
+family-read : sheet (bitsOf familyBytes) ≡ done family (replicate 6 false)
 unfolding run
 family-read = refl
 
 family-within : Within family
-family-within = read-is-within (bitsOf familyBytes) (replicate 7 false) family family-read
+family-within = read-is-within (bitsOf familyBytes) (replicate 6 false) family family-read
 
 family-at-most : length (itemsOf (lineMap family)) ≤ 64 * (12 * 15 + 200 + 200)
 family-at-most = items-at-most family family-readable family-within
@@ -177,30 +177,13 @@ family-size = schedule-at-most family family-readable family-within
 
 -- ---- relisted
 
--- the records shuffled, a parent repeated
-abbrev typeBAgain : TypeInfo
-typeBAgain = domainType 1 (a ∷ a ∷ []) (nestAssociate (file (4 ∷ []) ∷ []) ∷ [])
-
+-- the records shuffled, the parents of `c` reordered and repeated, that of `b` repeated
 abbrev shuffled : Sheet
-shuffled = sheetOf (typeA ∷ typeC ∷ typeBAgain ∷ typeFile ∷ typeNested ∷ [])
+shuffled = sheetOf (typeA ∷ withParents (a ∷ b ∷ a ∷ []) typeC ∷ withParents (a ∷ a ∷ []) typeB ∷ typeFile ∷ typeNested ∷ [])
 
 shuffled-readable : Readable shuffled
 unfolding run
 shuffled-readable = record { words = refl; once = refl }
-
-same : (T : TypeInfo) → SameButParents T T
-same T = record { name = refl; variant = refl; virtual = refl; trait = refl; annotations = refl; marks = refl; parents = λ p. (λ i. i, λ i. i) }
-
-again : SameButParents typeB typeBAgain
-again = record {
-  name = refl;
-  variant = refl;
-  virtual = refl;
-  trait = refl;
-  annotations = refl;
-  marks = refl;
-  parents = λ p. (λ i. List·Memᴰ·tail i, λ i. cons-elim i (λ e. List·Memᴰ·head e) (λ j. j));
-}
 
 family-shuffled : Relisted family shuffled
 family-shuffled = record {
@@ -208,7 +191,12 @@ family-shuffled = record {
   extensions = refl;
   shuffled = typeA ∷ typeC ∷ typeB ∷ typeFile ∷ typeNested ∷ [];
   shuffle = List·Permᴰ·swap refl refl;
-  types = and (same typeA) (and (same typeC) (and again (and (same typeFile) (and (same typeNested) end))));
+  types =
+      and (relist-parents typeA [] refl refl)
+      (and (relist-parents typeC (a ∷ b ∷ a ∷ []) refl refl)
+      (and (relist-parents typeB (a ∷ a ∷ []) refl refl)
+      (and (relist-parents typeFile [] refl refl)
+      (and (relist-parents typeNested [] refl refl) end))));
 }
 
 shuffled-items : itemsOf (lineMap family) ≡ itemsOf (lineMap shuffled)

@@ -1,48 +1,49 @@
--- Pairs of different bytes that are relisted, through both calls: accepted, and refused by 2, 8, 9 and 10. In the pairs of 8
--- and 9 the rows differ: they aren't compared.
-use mathlib.Core.Bool.{true, false}
+-- Pairs of different bytes that are relisted, through both calls: accepted, and refused by 2, 8, 9 and 10. In the pairs of 8 and
+-- 9 the rows differ: they aren't compared. A pair that 5 would refuse is answered by 2 where the diagnosis slice is too short.
+use mathlib.Core.Bool.{false}
 use mathlib.Core.List.{List, [], _∷_, List·Permᴰ·nil, List·Permᴰ·cons, List·Permᴰ·swap, List·Permᴰ·trans}
 use mathlib.Core.Path.{_≡_, refl}
 use Prim.Native.Nat.{ℕ}
-use lib.Dec.{lit≤}
-use lib.ListN.{take}
-use Rattle.lists.specs.Lists.{all}
-use Rattle.lists.specs.Tests.{all-in}
+use borrow.Author.Tests.{eq-eqb}
+use native.Mathlib.Omega.{arith}
+use lib.Dec.{eqb, lit≤, lit<}
+use lib.ListN.{take, drop, replicate, length-replicate}
+use Rattle.lists.specs.Lists.{any}
+use Rattle.lists.specs.Tests.{never, any-not}
 use Rattle.definitions.specs.Records.{Name, associate, nestAssociate, Annotation, Variant, domain, resource, TypeInfo, Sheet}
-use Rattle.definitions.specs.Comparisons.{elemName}
 use Rattle.definitions.specs.Bits.{bitsOf}
 use Rattle.definitions.specs.Reading.{sheet}
 use Rattle.definitions.specs.Checks.{resourceBytes, selfBytes}
-use Rattle.definitions.specs.Answer.{Call, schedule, order, Input, Answer, standard, restOf, outcome}
-use Rattle.definitions.specs.Relisted.{SameButParents, end, and, Relisted, Holds, RelistedInputs, Alike}
+use Rattle.definitions.specs.Answer.{Call, schedule, order, Input, Answer, standard, restOf, scheduleOf, typeMapIn, outcome}
+use Rattle.definitions.specs.Relisted.{end, and, Relisted, Holds, leftOut, Compared, RelistedInputs, Alike}
 use Rattle.definitions.specs.Cases.{hex, lent, run}
-use Rattle.laws.specs.Comparisons.{elem-of}
-use Rattle.relisting_laws.specs.Alike.{answers-alike, listings-equal}
+use Rattle.laws.specs.Relisting.{relist-parents}
+use Rattle.relisting_laws.specs.Statements.{numberAlone}
+use Rattle.relisting_laws.specs.Alike.{answers-alike, schedules-equal, listings-equal, held-is-compared, short-slices-alike}
 
 -- ---- types and inputs
 
 abbrev type : ℕ → Variant → List Name → List Annotation → TypeInfo
 type w v ps xs = record { name = w ∷ []; variant = v; virtual = false; trait = false; parents = ps; annotations = xs; marks = [] }
 
--- parents that each stand in the other list too
-reparent : (w : ℕ) (v : Variant) (ps qs : List Name) (xs : List Annotation) → all (λ p. elemName p qs) ps ≡ true → all (λ p. elemName p ps) qs ≡ true
-    → SameButParents (type w v ps xs) (type w v qs xs)
-reparent w v ps qs xs f g = record {
-  name = refl;
-  variant = refl;
-  virtual = refl;
-  trait = refl;
-  annotations = refl;
-  marks = refl;
-  parents = λ p. (λ i. elem-of p qs (all-in (λ p. elemName p qs) f i), λ i. elem-of p ps (all-in (λ p. elemName p ps) g i));
-}
-
 abbrev asked : Call → List ℕ → ℕ → ℕ → Input
 asked c bytes l d = record { settings = standard; call = c; sheet = bytes; listing = lent l; diagnosis = lent d }
 
--- relisted bytes go to one call with slices of equal lengths
+-- bytes that hold relisted sheets go to one call with slices of equal lengths
 pair : (c : Call) (l d : ℕ) {a b : List ℕ} {s t : Sheet} → Holds a s → Holds b t → Relisted s t → RelistedInputs (asked c a l d) (asked c b l d)
-pair c l d {s = s} {t = t} h k r = record { settings = refl; call = refl; listing = refl; diagnosis = refl; s = s; t = t; left = h; right = k; relisted = r }
+pair c l d {a = a} {b = b} {s = s} {t = t} h k r = record {
+  settings = refl;
+  call = refl;
+  listing = refl;
+  diagnosis = refl;
+  s = s;
+  t = t;
+  left = record { rest = h .rest; read = h .read };
+  right = record { rest = k .rest; read = k .read };
+  relisted = r;
+  leftCompared = held-is-compared (asked c a l d) s h;
+  rightCompared = held-is-compared (asked c b l d) t k;
+}
 
 abbrev answer : ℕ → ℕ → ℕ → Answer
 answer number size rows = record { number = number; size = size; rows = rows; more = false }
@@ -103,10 +104,10 @@ records-relisted = record {
       (List·Permᴰ·trans (List·Permᴰ·cons refl (List·Permᴰ·cons refl (List·Permᴰ·swap refl refl)))
       (List·Permᴰ·trans (List·Permᴰ·cons refl (List·Permᴰ·swap refl refl)) (List·Permᴰ·swap refl refl))));
   types =
-      and (reparent 2 domain (a ∷ b ∷ []) (b ∷ a ∷ b ∷ []) [] refl refl)
-      (and (reparent 1 domain (a ∷ []) (a ∷ a ∷ []) [] refl refl)
-      (and (reparent 3 resource [] [] [] refl refl)
-      (and (reparent 0 domain [] [] associates refl refl) end)));
+      and (relist-parents (type 2 domain (a ∷ b ∷ []) []) (b ∷ a ∷ b ∷ []) refl refl)
+      (and (relist-parents (type 1 domain (a ∷ []) []) (a ∷ a ∷ []) refl refl)
+      (and (relist-parents (type 3 resource [] []) [] refl refl)
+      (and (relist-parents (type 0 domain [] associates) [] refl refl) end)));
 }
 
 both : (c : Call) (l d : ℕ) → RelistedInputs (asked c listed l d) (asked c relisted l d)
@@ -123,6 +124,39 @@ accepted : (outcome (asked schedule listed 40 1536) .answer ≡ answer 0 39 0) �
 unfolding run
 accepted = (refl, refl)
 
+both-schedules : (c : Call) (l d : ℕ) → outcome (asked c listed l d) .answer .number ≡ 0
+    → scheduleOf c (typeMapIn (asked c listed l d)) ≡ scheduleOf c (typeMapIn (asked c relisted l d))
+both-schedules c l d = schedules-equal (asked c listed l d) (asked c relisted l d) (both c l d)
+
+-- the second listing lent with other bytes in it: the 39 bytes written are equal, the one behind them is not
+abbrev zeros : ℕ → Input
+zeros l = record { settings = standard; call = schedule; sheet = relisted; listing = replicate l 0; diagnosis = lent 1536 }
+
+over-zeros : Alike (asked schedule listed 40 1536) (zeros 40)
+over-zeros =
+    let h = both schedule 40 1536 in
+    answers-alike (asked schedule listed 40 1536) (zeros 40) (record {
+      settings = refl;
+      call = refl;
+      listing = refl;
+      diagnosis = refl;
+      s = h .s;
+      t = h .t;
+      left = h .left;
+      right = h .right;
+      relisted = h .relisted;
+      leftCompared = h .leftCompared;
+      rightCompared = held-is-compared (zeros 40) relistedSheet relisted-holds;
+    })
+
+over-zeros-written : take 39 (outcome (asked schedule listed 40 1536) .listing) ≡ take 39 (outcome (zeros 40) .listing)
+unfolding run
+over-zeros-written = over-zeros .written refl
+
+over-zeros-behind : (drop 39 (outcome (asked schedule listed 40 1536) .listing) ≡ 170 ∷ []) × (drop 39 (outcome (zeros 40) .listing) ≡ 0 ∷ [])
+unfolding run
+over-zeros-behind = (refl, refl)
+
 slice-short : (outcome (asked schedule listed 40 1535) .answer ≡ answer 2 0 0) × (outcome (asked order listed 40 1535) .answer ≡ answer 2 0 0)
 unfolding run
 slice-short = (refl, refl)
@@ -130,6 +164,88 @@ slice-short = (refl, refl)
 listing-short : (outcome (asked schedule listed 5 1536) .answer ≡ answer 10 39 0) × (outcome (asked order listed 5 1536) .answer ≡ answer 10 6 0)
 unfolding run
 listing-short = (refl, refl)
+
+-- ---- 2 where 5 would refuse
+
+-- the number answered, computed, is none that is left out
+compared : (i : Input) → any (eqb (outcome i .answer .number)) leftOut ≡ false → Compared i
+compared i e m = never (eq-eqb (outcome i .answer .number) (outcome i .answer .number) refl) (any-not (eqb (outcome i .answer .number)) e m)
+
+-- words! self resource
+abbrev unordered : List ℕ
+unordered = hex 17 0x102239b2b63321c995cdbdd5c98d940000
+
+-- words! self resource
+-- domain self
+-- domain resource : self resource
+abbrev unorderedTypes : List ℕ
+unorderedTypes = hex 25 0x102239b2b63321c995cdbdd5c98d9410000000080800020000
+
+-- words! self resource
+-- domain resource : resource self self
+-- domain self
+abbrev unorderedTurned : List ℕ
+unorderedTurned = hex 26 0x102239b2b63321c995cdbdd5c98d9410080c0400000000000000
+
+abbrev sheetD : List TypeInfo → Sheet
+sheetD ts = record { words = selfBytes ∷ resourceBytes ∷ []; types = ts; extensions = [] }
+
+unordered-pair : (c : Call) (l : ℕ) → RelistedInputs (asked c unordered l 1535) (asked c unordered l 1535)
+unfolding run
+unordered-pair c l = record {
+  settings = refl;
+  call = refl;
+  listing = refl;
+  diagnosis = refl;
+  s = sheetD [];
+  t = sheetD [];
+  left = record { rest = restOf (sheet (bitsOf unordered)); read = refl };
+  right = record { rest = restOf (sheet (bitsOf unordered)); read = refl };
+  relisted = record { words = refl; extensions = refl; shuffled = []; shuffle = List·Permᴰ·nil; types = end };
+  leftCompared = compared (asked c unordered l 1535) refl;
+  rightCompared = compared (asked c unordered l 1535) refl;
+}
+
+unordered-turned : (c : Call) (l : ℕ) → RelistedInputs (asked c unorderedTypes l 1535) (asked c unorderedTurned l 1535)
+unfolding run
+unordered-turned c l = record {
+  settings = refl;
+  call = refl;
+  listing = refl;
+  diagnosis = refl;
+  s = sheetD (type 0 domain [] [] ∷ type 1 domain (a ∷ b ∷ []) [] ∷ []);
+  t = sheetD (type 1 domain (b ∷ a ∷ a ∷ []) [] ∷ type 0 domain [] [] ∷ []);
+  left = record { rest = restOf (sheet (bitsOf unorderedTypes)); read = refl };
+  right = record { rest = restOf (sheet (bitsOf unorderedTurned)); read = refl };
+  relisted = record {
+    words = refl;
+    extensions = refl;
+    shuffled = type 1 domain (a ∷ b ∷ []) [] ∷ type 0 domain [] [] ∷ [];
+    shuffle = List·Permᴰ·swap refl refl;
+    types = and (relist-parents (type 1 domain (a ∷ b ∷ []) []) (b ∷ a ∷ a ∷ []) refl refl) (and (relist-parents (type 0 domain [] []) [] refl refl) end);
+  };
+  leftCompared = compared (asked c unorderedTypes l 1535) refl;
+  rightCompared = compared (asked c unorderedTurned l 1535) refl;
+}
+
+-- 2 on both sides; with one byte more it would be 5, which is left out
+unordered-alike : (c : Call) (l : ℕ) → Alike (asked c unordered l 1535) (asked c unordered l 1535)
+unordered-alike c l = answers-alike (asked c unordered l 1535) (asked c unordered l 1535) (unordered-pair c l)
+
+unordered-turned-alike : (c : Call) (l : ℕ) → Alike (asked c unorderedTypes l 1535) (asked c unorderedTurned l 1535)
+unordered-turned-alike c l = answers-alike (asked c unorderedTypes l 1535) (asked c unorderedTurned l 1535) (unordered-turned c l)
+
+unordered-refused : (outcome (asked schedule unorderedTypes 5 1535) .answer ≡ answer 2 0 0) × (outcome (asked schedule unorderedTypes 5 1536) .answer ≡ answer 5 0 0)
+unfolding run
+unordered-refused = (refl, refl)
+
+-- sheets that can't be read, an empty one and 40,960 zeros, of two calls: 2 of both
+unread-alike : (outcome (asked schedule [] 3 1535) ≡ numberAlone 2 (asked schedule [] 3 1535))
+    × (outcome (asked order (replicate 40960 0) 0 0) ≡ numberAlone 2 (asked order (replicate 40960 0) 0 0))
+unread-alike =
+    short-slices-alike (asked schedule [] 3 1535) (asked order (replicate 40960 0) 0 0)
+    (record { sheet = lit≤ tt; diagnosis = lit< tt })
+    (record { sheet = omega (arith, length-replicate {A = ℕ} 40960 0); diagnosis = lit< tt })
 
 -- ---- 8, with other rows
 
@@ -159,7 +275,7 @@ no-order-alike c l d =
       extensions = refl;
       shuffled = type 0 domain (a ∷ b ∷ []) [] ∷ [];
       shuffle = List·Permᴰ·cons refl List·Permᴰ·nil;
-      types = and (reparent 0 domain (a ∷ b ∷ []) (b ∷ a ∷ []) [] refl refl) end;
+      types = and (relist-parents (type 0 domain (a ∷ b ∷ []) []) (b ∷ a ∷ []) refl refl) end;
     }))
 
 no-order : (outcome (asked schedule cyclic 5 1536) .answer ≡ answer 8 0 1) × (outcome (asked order cyclic 5 1536) .answer ≡ answer 8 0 1)
@@ -223,9 +339,9 @@ unknown-alike c l d =
           List·Permᴰ·trans (List·Permᴰ·swap refl refl)
           (List·Permᴰ·trans (List·Permᴰ·cons refl (List·Permᴰ·swap refl refl)) (List·Permᴰ·swap refl refl));
       types =
-          and (reparent 2 domain (a ∷ b ∷ []) (b ∷ a ∷ b ∷ []) [] refl refl)
-          (and (reparent 1 domain [] [] (nests 5) refl refl)
-          (and (reparent 0 domain [] [] (nests 6) refl refl) end));
+          and (relist-parents (type 2 domain (a ∷ b ∷ []) []) (b ∷ a ∷ b ∷ []) refl refl)
+          (and (relist-parents (type 1 domain [] (nests 5)) [] refl refl)
+          (and (relist-parents (type 0 domain [] (nests 6)) [] refl refl) end));
     }))
 
 unknown-refused : (outcome (asked schedule unknown 5 1536) .answer ≡ answer 9 0 2) × (outcome (asked order unknown 5 1536) .answer ≡ answer 0 5 0)

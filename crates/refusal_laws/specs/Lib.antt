@@ -1,0 +1,4 @@
+pub mod Statements
+pub mod Late
+pub mod Exactly
+mod Examples
