@@ -666,6 +666,19 @@ class Programs(unittest.TestCase):
         for name in ("cases", "damage", "replays"):
             self.assertEqual(self.tool(name, "--check")[0], 0, name)
 
+    def test_stored_tags(self):
+        """What `text_try` reads and prints is the model's schedule of examples/tags.txt."""
+        root = os.path.join(HERE, "..")
+        with open(os.path.join(root, "examples", "tags.txt"), encoding="latin-1") as source:
+            sheet = sheet_of(source.read())
+        result = model.schedule(sheet, LISTING, DIAGNOSIS)
+        head = bytes([1, 0, 0, 0, 0, len(sheet) >> 8, len(sheet) & 255])
+        lines = "".join(line + "\n" for line in model.printed(sheet, result, True))
+        stored = {"stdin": head + sheet + result[4][:result[1]], "stdout": lines.encode("latin-1")}
+        for name, expected in stored.items():
+            with open(os.path.join(root, "crates", "text_try", name), "rb") as source:
+                self.assertEqual(source.read(), expected, name)
+
     def test_errors(self):
         for text, part in [("domain", "line 1"), ("\nfoo a", "line 2"), ("makelist", "no type"),
                            ("domain a b", "no flag"), ("domain a.b.c", "one or two words"),

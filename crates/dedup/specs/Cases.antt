@@ -33,10 +33,10 @@ names-ascend = refl
 
 -- the words 0, 63, 192, inherited from the first type; the words 63, 64, 191, 192, 199, from the last
 abbrev first : Entry
-first = record { words = record { a = 9223372036854775809; b = 0; c = 0; d = 1 }; parents = 1 }
+first = record { kind = 1; words = record { a = 9223372036854775809; b = 0; c = 0; d = 1 }; parents = 1 }
 
 abbrev second : Entry
-second = record { words = record { a = 9223372036854775808; b = 1; c = 9223372036854775808; d = 129 }; parents = 4 }
+second = record { kind = 1; words = record { a = 9223372036854775808; b = 1; c = 9223372036854775808; d = 129 }; parents = 4 }
 
 -- the doms of a word: none, and the word itself
 abbrev twoDoms : ℕ → Row
@@ -57,20 +57,20 @@ joined-read = refl
 -- ---- what the functions require is met by lists at the limits
 
 pub first-sound : Sound first
-first-sound = record { small = record { a = omega arith; b = omega arith; c = omega arith; d = omega arith }; words = words-below (first .words) (omega arith) }
+first-sound = record { kind = refl; small = record { a = omega arith; b = omega arith; c = omega arith; d = omega arith }; words = words-below (first .words) (omega arith) }
 
 pub second-sound : Sound second
-second-sound = record { small = record { a = omega arith; b = omega arith; c = omega arith; d = omega arith }; words = words-below (second .words) (omega arith) }
+second-sound = record { kind = refl; small = record { a = omega arith; b = omega arith; c = omega arith; d = omega arith }; words = words-below (second .words) (omega arith) }
 
 abbrev zeros : Entry
-zeros = record { words = empty; parents = 0 }
+zeros = record { kind = 0; words = empty; parents = 0 }
 
 abbrev both : Entries
 both = record {
   count = 3;
-  items = record { words = record { a = 1; b = 0; c = 0; d = 0 }; parents = 1 }
-      ∷ record { words = record { a = 9223372036854775808; b = 0; c = 0; d = 1 }; parents = 5 }
-      ∷ record { words = record { a = 0; b = 1; c = 9223372036854775808; d = 128 }; parents = 4 }
+  items = record { kind = 1; words = record { a = 1; b = 0; c = 0; d = 0 }; parents = 1 }
+      ∷ record { kind = 1; words = record { a = 9223372036854775808; b = 0; c = 0; d = 1 }; parents = 5 }
+      ∷ record { kind = 1; words = record { a = 0; b = 1; c = 9223372036854775808; d = 128 }; parents = 4 }
       ∷ replicate 198 zeros;
 }
 

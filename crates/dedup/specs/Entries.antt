@@ -4,20 +4,39 @@ use mathlib.Core.List.{List, [], _∷_, _++_}
 use mathlib.Core.Path.{_≡_}
 use Prim.Native.Nat.{ℕ, _<_}
 use lib.Bits.{bitOr}
-use lib.ListN.{take}
+use lib.ListN.{take, getD}
 use Rattle.lists.specs.Lists.{any, all, filter}
-use Rattle.rows.specs.Rows.{common, without, none, has}
+use Rattle.rows.specs.declared.Row.{Row}
+use Rattle.rows.specs.Rows.{common, without, none, has, empty}
 use Rattle.rows.specs.RowLaws.{Small}
+use Rattle.definitions.specs.Annotations.{Overlap, nothing, whole, byWord, overlaps}
 use Rattle.dedup.specs.declared.Entry.{Entry}
 use Rattle.dedup.specs.declared.Entries.{Entries}
 
--- the words that both have, under the parents of both
-unfoldable pub inter : Entry → Entry → Entry
-inter x y = record { words = common (x .words) (y .words); parents = bitOr (x .parents) (y .parents) }
+-- what two annotations of these kinds have in common
+abbrev pub overlapAt : ℕ → ℕ → Overlap
+overlapAt k j = getD (getD overlaps k []) j nothing
 
--- the words of x that y has not
+-- the words that two entries share: none; all, if they are equal; those that both have
+abbrev pub sharedBy : Overlap → Row → Row → Row
+sharedBy nothing x y = empty
+sharedBy whole x y = x
+sharedBy byWord x y = common x y
+
+-- the words that are left of the first: all; none, if they are equal; those that the other has not
+abbrev pub leftBy : Overlap → Row → Row → Row
+leftBy nothing x y = x
+leftBy whole x y = empty
+leftBy byWord x y = without x y
+
+-- what two entries share, by their kinds, under the parents of both
+unfoldable pub inter : Entry → Entry → Entry
+inter x y =
+    record { kind = x .kind; words = sharedBy (overlapAt (x .kind) (y .kind)) (x .words) (y .words); parents = bitOr (x .parents) (y .parents) }
+
+-- what is left of x, by their kinds
 unfoldable pub diff : Entry → Entry → Entry
-diff x y = record { words = without (x .words) (y .words); parents = x .parents }
+diff x y = record { kind = x .kind; words = leftBy (overlapAt (x .kind) (y .kind)) (x .words) (y .words); parents = x .parents }
 
 -- an entry without words is none
 abbrev pub stands : Entry → Bool
@@ -46,8 +65,9 @@ entriesOf l = take (l .count) (l .items)
 
 -- ---- lists of entries that are apart
 
--- the words are below 200
+-- it is an Associate (1), and its words are below 200
 pub record Sound (e : Entry) : Type 0 where
+  pub kind : e .kind ≡ 1
   pub small : Small (e .words)
   pub words : (w : ℕ) → has (e .words) w ≡ true → w < 200
 

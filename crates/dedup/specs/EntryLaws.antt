@@ -1,12 +1,13 @@
 -- The dedup keeps entries apart and none empty, and there are no more entries than words.
 use mathlib.Core.Bool.{Bool, true, false, _&&_, _||_, not, or-false}
 use mathlib.Core.List.{List, [], _∷_, _++_, append-nil}
-use mathlib.Core.Path.{_≡_, refl, sym, ap, _∙_}
+use mathlib.Core.Path.{_≡_, refl, sym, ap, ap₂, _∙_, subst}
 use Prim.Native.Nat.{ℕ, zero, suc, _<_, _≤_}
 use native.Mathlib.Nat.{le-of-suc-le-suc}
 use native.Mathlib.Omega.{arith}
 use lib.Bits.{bitAnd, bitOr, bitXor, and-zero-r, and-comm, and-self, xor-zero-r, xor-self}
-use lib.ListN.{length, getD, set}
+use lib.ListN.{length, getD, set, take}
+use lib.Seq.{getD-take, length-take-le}
 use Rattle.lists.specs.Lists.{all, filter}
 use Rattle.lists.specs.Tests.{by, never, and-left, and-right, neither, and-both}
 use Rattle.lists.specs.Appending.{any-append, all-append}
@@ -16,7 +17,7 @@ use Rattle.rows.specs.RowLaws.{Small, has-common, has-without, has-none, some-t
 use Rattle.dedup.specs.declared.Entry.{Entry}
 use Rattle.dedup.specs.declared.Entries.{Entries}
 use Rattle.dedup.specs.Lists.{all-filter, many, many-most, many-or, many-some}
-use Rattle.dedup.specs.Entries.{inter, diff, stands, unlessEmpty, merge, join, Sound, covers, Apart, nil, cons, Full}
+use Rattle.dedup.specs.Entries.{overlapAt, sharedBy, leftBy, inter, diff, stands, unlessEmpty, merge, join, Sound, covers, Apart, nil, cons, Full}
 
 pub covers-append : (a b : List Entry) (w : ℕ) → covers (a ++ b) w ≡ (covers a w || covers b w)
 covers-append a b w = any-append (λ (e : Entry). has (e .words) w) a b
@@ -25,13 +26,45 @@ pub covers-unless : (e : Entry) (w : ℕ) → covers (unlessEmpty e) w ≡ has (
 unfolding unlessEmpty
 covers-unless e w = by (none (e .words)) (λ p. rw p (sym (has-none (e .words) w p))) (λ p. rw (p, or-false))
 
-pub has-diff : (x y : Entry) (w : ℕ) → has (diff x y .words) w ≡ (has (x .words) w && not (has (y .words) w))
-unfolding diff
-has-diff x y w = has-without (x .words) (y .words) w
+-- ---- two Associates are matched by word
 
-pub has-inter : (x y : Entry) (w : ℕ) → has (inter x y .words) w ≡ (has (x .words) w && has (y .words) w)
+pub diff-is : (x y : Entry) → Sound x → Sound y → diff x y ≡ record { kind = x .kind; words = without (x .words) (y .words); parents = x .parents }
+unfolding diff
+diff-is x y s t =
+    ap₂ (λ (k j : ℕ). record { kind = x .kind; words = leftBy (overlapAt k j) (x .words) (y .words); parents = x .parents }) (s .kind) (t .kind)
+
+pub inter-is : (x y : Entry) → Sound x → Sound y
+    → inter x y ≡ record { kind = x .kind; words = common (x .words) (y .words); parents = bitOr (x .parents) (y .parents) }
 unfolding inter
-has-inter x y w = has-common (x .words) (y .words) w
+inter-is x y s t =
+    ap₂ (λ (k j : ℕ). record { kind = x .kind; words = sharedBy (overlapAt k j) (x .words) (y .words); parents = bitOr (x .parents) (y .parents) })
+    (s .kind) (t .kind)
+
+pub has-diff : (x y : Entry) → Sound x → Sound y → (w : ℕ) → has (diff x y .words) w ≡ (has (x .words) w && not (has (y .words) w))
+has-diff x y s t w = ap (λ (e : Entry). has (e .words) w) (diff-is x y s t) ∙ has-without (x .words) (y .words) w
+
+pub has-inter : (x y : Entry) → Sound x → Sound y → (w : ℕ) → has (inter x y .words) w ≡ (has (x .words) w && has (y .words) w)
+has-inter x y s t w = ap (λ (e : Entry). has (e .words) w) (inter-is x y s t) ∙ has-common (x .words) (y .words) w
+
+pub sound-diff : (x y : Entry) → Sound x → Sound y → Sound (diff x y)
+unfolding diff
+sound-diff x y s t =
+    record {
+      kind = s .kind;
+      small = subst (λ (e : Entry). Small (e .words)) (sym (diff-is x y s t)) (small-without (x .words) (y .words) (s .small));
+      words = λ w h. s .words w (and-left _ _ (sym (has-diff x y s t w) ∙ h));
+    }
+
+pub sound-inter : (x y : Entry) → Sound x → Sound y → Sound (inter x y)
+unfolding inter
+sound-inter x y s t =
+    record {
+      kind = s .kind;
+      small = subst (λ (e : Entry). Small (e .words)) (sym (inter-is x y s t)) (small-common (x .words) (y .words) (s .small));
+      words = λ w h. s .words w (and-left _ _ (sym (has-inter x y s t w) ∙ h));
+    }
+
+-- ---- words
 
 mix : (x y z : Bool) → ((x && not y) || ((x && y) || (z || (y && not x)))) ≡ ((x || z) || y)
 mix true true true = refl
@@ -44,36 +77,26 @@ mix false false true = refl
 mix false false false = refl
 
 -- the dedup loses no word, and adds the newcomer's
-pub merge-covers : (l : List Entry) (n : Entry) (w : ℕ) → covers (merge l n) w ≡ (covers l w || has (n .words) w)
+pub merge-covers : (l : List Entry) (n : Entry) → Apart l → Sound n → (w : ℕ) → covers (merge l n) w ≡ (covers l w || has (n .words) w)
 unfolding merge
-merge-covers [] n w = covers-unless n w
-merge-covers (a ∷ l) n w =
+merge-covers [] n f s w = covers-unless n w
+merge-covers (a ∷ l) n (cons sa h f) s w =
     rw (
       covers-append (unlessEmpty (diff a n)) (unlessEmpty (inter a n) ++ merge l (diff n a)) w,
       covers-append (unlessEmpty (inter a n)) (merge l (diff n a)) w,
       covers-unless (diff a n) w,
       covers-unless (inter a n) w,
-      merge-covers l (diff n a) w,
-      has-diff a n w,
-      has-inter a n w,
-      has-diff n a w,
+      merge-covers l (diff n a) f (sound-diff n a s sa) w,
+      has-diff a n sa s w,
+      has-inter a n sa s w,
+      has-diff n a s sa w,
     )
     (mix (has (a .words) w) (has (n .words) w) (covers l w))
 
-pub join-covers : (l : List Entry) (n : Entry) (w : ℕ) → covers (join l n) w ≡ (covers l w || has (n .words) w)
+pub join-covers : (l : List Entry) (n : Entry) → Apart l → Sound n → (w : ℕ) → covers (join l n) w ≡ (covers l w || has (n .words) w)
 unfolding join
-join-covers [] n w = or-false (has (n .words) w)
-join-covers (a ∷ l) n w = merge-covers (a ∷ l) n w
-
-pub sound-diff : (x y : Entry) → Sound x → Sound (diff x y)
-unfolding diff
-sound-diff x y s =
-    record { small = small-without (x .words) (y .words) (s .small); words = λ w h. s .words w (and-left _ _ (sym (has-without (x .words) (y .words) w) ∙ h)) }
-
-pub sound-inter : (x y : Entry) → Sound x → Sound (inter x y)
-unfolding inter
-sound-inter x y s =
-    record { small = small-common (x .words) (y .words) (s .small); words = λ w h. s .words w (and-left _ _ (sym (has-common (x .words) (y .words) w) ∙ h)) }
+join-covers [] n f s w = or-false (has (n .words) w)
+join-covers (a ∷ l) n f s w = merge-covers (a ∷ l) n f s w
 
 -- one entry more in front
 apart-cons : (e : Entry) (l : List Entry) → Sound e → ((w : ℕ) → has (e .words) w ≡ true → covers l w ≡ false) → Apart l → Apart (unlessEmpty e ++ l)
@@ -95,17 +118,24 @@ pub merge-apart : (l : List Entry) (n : Entry) → Apart l → Sound n → Apart
 unfolding merge
 merge-apart [] n f s = rw (sym (append-nil (unlessEmpty n))) (apart-cons n [] s (λ w h. refl) nil)
 merge-apart (a ∷ l) n (cons sa h f) s =
-    let m : Apart (merge l (diff n a)) = merge-apart l (diff n a) f (sound-diff n a s) in
+    let t : Sound (diff n a) = sound-diff n a s sa in
+    let m : Apart (merge l (diff n a)) = merge-apart l (diff n a) f t in
     let b : Apart (unlessEmpty (inter a n) ++ merge l (diff n a)) =
-    apart-cons (inter a n) (merge l (diff n a)) (sound-inter a n sa)
+    apart-cons (inter a n) (merge l (diff n a)) (sound-inter a n sa s)
     (λ w e.
-    let q : (has (a .words) w && has (n .words) w) ≡ true = sym (has-inter a n w) ∙ e in
-    rw (merge-covers l (diff n a) w, has-diff n a w) (both-apart (has (a .words) w) (has (n .words) w) (covers l w) q (h w (and-left _ _ q))))
+    let q : (has (a .words) w && has (n .words) w) ≡ true = sym (has-inter a n sa s w) ∙ e in
+    rw (merge-covers l (diff n a) f t w, has-diff n a s sa w) (both-apart (has (a .words) w) (has (n .words) w) (covers l w) q (h w (and-left _ _ q))))
     m in
-    apart-cons (diff a n) (unlessEmpty (inter a n) ++ merge l (diff n a)) (sound-diff a n sa)
+    apart-cons (diff a n) (unlessEmpty (inter a n) ++ merge l (diff n a)) (sound-diff a n sa s)
     (λ w e.
-    let q : (has (a .words) w && not (has (n .words) w)) ≡ true = sym (has-diff a n w) ∙ e in
-    rw (covers-append (unlessEmpty (inter a n)) (merge l (diff n a)) w, covers-unless (inter a n) w, merge-covers l (diff n a) w, has-inter a n w, has-diff n a w)
+    let q : (has (a .words) w && not (has (n .words) w)) ≡ true = sym (has-diff a n sa s w) ∙ e in
+    rw (
+      covers-append (unlessEmpty (inter a n)) (merge l (diff n a)) w,
+      covers-unless (inter a n) w,
+      merge-covers l (diff n a) f t w,
+      has-inter a n sa s w,
+      has-diff n a s sa w,
+    )
     (rest-apart (has (a .words) w) (has (n .words) w) (covers l w) q (h w (and-left _ _ q))))
     b
 
@@ -133,9 +163,8 @@ without-none x y e =
     let z = all-zero y e in
     rw (less-zero (x .a) (y .a) (z 0), less-zero (x .b) (y .b) (z 1), less-zero (x .c) (y .c) (z 2), less-zero (x .d) (y .d) (z 3))
 
-diff-empty : (a n : Entry) → none (n .words) ≡ true → diff a n ≡ a
-unfolding diff
-diff-empty a n e = ap (λ (r : Row). record { words = r; parents = a .parents }) (without-none (a .words) (n .words) e)
+diff-empty : (a n : Entry) → Sound a → Sound n → none (n .words) ≡ true → diff a n ≡ a
+diff-empty a n s t e = diff-is a n s t ∙ ap (λ (r : Row). record { kind = a .kind; words = r; parents = a .parents }) (without-none (a .words) (n .words) e)
 
 pub none-by : (x : Row) → Small x → ((w : ℕ) → has x w ≡ false) → none x ≡ true
 none-by x s h = by (none x) (λ e. e) (λ e. let t = some-there x s e in never (t .there) (h (t .at)))
@@ -145,10 +174,13 @@ unfolding merge unlessEmpty
 merge-empty [] n f u s e = rw e
 merge-empty (a ∷ l) n (cons sa h f) u s e =
     let p : stands a ≡ true = and-left (stands a) (all stands l) u in
-    let q : diff a n ≡ a = diff-empty a n e in
-    let r : none (inter a n .words) ≡ true = none-by (inter a n .words) (sound-inter a n sa .small) (λ w. has-inter a n w ∙ rw (has-none (n .words) w e) (mathlib.Core.Bool.and-false (has (a .words) w))) in
-    let t : none (diff n a .words) ≡ true = none-by (diff n a .words) (sound-diff n a s .small) (λ w. has-diff n a w ∙ rw (has-none (n .words) w e)) in
-    rw (q, p, r) (ap (λ z. a ∷ z) (merge-empty l (diff n a) f (and-right (stands a) (all stands l) u) (sound-diff n a s) t))
+    let q : diff a n ≡ a = diff-empty a n sa s e in
+    let r : none (inter a n .words) ≡ true =
+    none-by (inter a n .words) (sound-inter a n sa s .small)
+    (λ w. has-inter a n sa s w ∙ rw (has-none (n .words) w e) (mathlib.Core.Bool.and-false (has (a .words) w))) in
+    let t : none (diff n a .words) ≡ true =
+    none-by (diff n a .words) (sound-diff n a s sa .small) (λ w. has-diff n a s sa w ∙ rw (has-none (n .words) w e)) in
+    rw (q, p, r) (ap (λ z. a ∷ z) (merge-empty l (diff n a) f (and-right (stands a) (all stands l) u) (sound-diff n a s sa) t))
 
 -- ---- entries that share nothing keep what they have
 
@@ -172,39 +204,54 @@ without-apart x y e =
       ),
     )
 
-stands-none : (e : Entry) → length (unlessEmpty e) ≡ 0 → none (e .words) ≡ true
-unfolding unlessEmpty
-stands-none e h = by (none (e .words)) (λ p. p) (λ p. absurd (one (none (e .words)) e p h))
-  where
-    one : (b : Bool) (e : Entry) → none (e .words) ≡ false → length (filter stands (e ∷ [])) ≡ 0 → ⊥
-    one b e p h = let q : _≡_ {A = ℕ} 1 0 = rw p at h in absurd (omega arith)
-
 nothing-left : (e : Entry) → none (e .words) ≡ true → unlessEmpty e ≡ []
 unfolding unlessEmpty
 nothing-left e p = rw p
 
-apart-left : (a n : Entry) → none (inter a n .words) ≡ true → diff a n ≡ a
-unfolding inter diff
-apart-left a n p = ap (λ (r : Row). record { words = r; parents = a .parents }) (without-apart (a .words) (n .words) p .0)
+-- the entries of a list that is apart are sound
+apart-at : (l : List Entry) (i : ℕ) (d : Entry) → Apart l → i < length l → Sound (getD l i d)
+apart-at [] i d f h = absurd (native.Mathlib.Nat.not-suc-le-zero h)
+apart-at (e ∷ l) zero d (cons s q f) h = s
+apart-at (e ∷ l) (suc i) d (cons s q f) h = apart-at l i d f (le-of-suc-le-suc h)
 
-apart-right : (a n : Entry) → none (inter a n .words) ≡ true → diff n a ≡ n
-unfolding inter diff
-apart-right a n p = ap (λ (r : Row). record { words = r; parents = n .parents }) (without-apart (a .words) (n .words) p .1)
+pub apart-among : (items : List Entry) (count i : ℕ) (d : Entry) → Apart (take count items) → i < count → count ≤ length items → Sound (getD items i d)
+apart-among items count i d f h l =
+    let t : length (take count items) ≡ count = length-take-le count items l in
+    rw (getD-take count items i d h) at (apart-at (take count items) i d f (omega arith))
 
-pub share-nothing : (a n : Entry) → length (unlessEmpty (inter a n)) ≡ 0 → (unlessEmpty (inter a n) ≡ []) × (diff a n ≡ a) × (diff n a ≡ n)
-share-nothing a n h =
-    let p = stands-none (inter a n) h in
-    (nothing-left (inter a n) p, apart-left a n p, apart-right a n p)
+none-common : (a n : Entry) → Sound a → Sound n → none (inter a n .words) ≡ none (common (a .words) (n .words))
+none-common a n sa s = ap (λ (e : Entry). none (e .words)) (inter-is a n sa s)
+
+module _ (a n : Entry) (sa : Sound a) (s : Sound n) (p : none (common (a .words) (n .words)) ≡ true) where
+  apart-left : diff a n ≡ a
+  apart-left =
+      diff-is a n sa s
+      ∙ ap (λ (r : Row). record { kind = a .kind; words = r; parents = a .parents }) (without-apart (a .words) (n .words) p .0)
+
+  apart-right : diff n a ≡ n
+  apart-right =
+      diff-is n a s sa
+      ∙ ap (λ (r : Row). record { kind = n .kind; words = r; parents = n .parents }) (without-apart (a .words) (n .words) p .1)
+
+-- entries without a common word share nothing
+pub share-nothing : (a n : Entry) → Sound a → Sound n → none (common (a .words) (n .words)) ≡ true
+    → (unlessEmpty (inter a n) ≡ []) × (diff a n ≡ a) × (diff n a ≡ n)
+share-nothing a n sa s p = (nothing-left (inter a n) (none-common a n sa s ∙ p), apart-left a n sa s p, apart-right a n sa s p)
+
+-- those with one share an entry
+pub share-one : (a n : Entry) → Sound a → Sound n → none (common (a .words) (n .words)) ≡ false → length (unlessEmpty (inter a n)) ≡ 1
+unfolding unlessEmpty
+share-one a n sa s p = rw (none-common a n sa s ∙ p)
 
 -- ---- a newcomer with the words of an entry adds its parents to it
 
 -- the entry with the parents of both
 abbrev withParents : Entry → Entry → Entry
-withParents a n = record { words = a .words; parents = bitOr (a .parents) (n .parents) }
+withParents a n = record { kind = a .kind; words = a .words; parents = bitOr (a .parents) (n .parents) }
 
 -- what a read past the end gives
 abbrev pub zeros : Entry
-zeros = record { words = record { a = 0; b = 0; c = 0; d = 0 }; parents = 0 }
+zeros = record { kind = 0; words = record { a = 0; b = 0; c = 0; d = 0 }; parents = 0 }
 
 pub record SameWords (x y : Row) (r : Bool) : Type 0 where
   pub equal : r ≡ true → x ≡ y
@@ -228,17 +275,20 @@ standing-is e h = by (stands e) (λ p. p) (λ p. absurd (h (rw p)))
 less-self : (a : ℕ) → bitXor a (bitAnd a a) ≡ 0
 less-self a = rw (and-self a) (xor-self a)
 
-inter-same : (a n : Entry) → a .words ≡ n .words → inter a n ≡ withParents a n
-unfolding inter common
-inter-same a n e =
-    rw (sym e) (ap (λ (r : Row). record { words = r; parents = bitOr (a .parents) (n .parents) }) (same (a .words)))
+inter-same : (a n : Entry) → Sound a → Sound n → a .words ≡ n .words → inter a n ≡ withParents a n
+unfolding common
+inter-same a n sa s e =
+    inter-is a n sa s
+    ∙ rw (sym e) (ap (λ (r : Row). record { kind = a .kind; words = r; parents = bitOr (a .parents) (n .parents) }) (same (a .words)))
   where
     same : (x : Row) → record { a = bitAnd (x .a) (x .a); b = bitAnd (x .b) (x .b); c = bitAnd (x .c) (x .c); d = bitAnd (x .d) (x .d) } ≡ x
     same x = rw (and-self (x .a), and-self (x .b), and-self (x .c), and-self (x .d))
 
-diff-same : (a n : Entry) → a .words ≡ n .words → none (diff a n .words) ≡ true
-unfolding diff without none
-diff-same a n e = rw (sym e, less-self (a .words .a), less-self (a .words .b), less-self (a .words .c), less-self (a .words .d))
+diff-same : (a n : Entry) → Sound a → Sound n → a .words ≡ n .words → none (diff a n .words) ≡ true
+unfolding without none
+diff-same a n sa s e =
+    ap (λ (x : Entry). none (x .words)) (diff-is a n sa s)
+    ∙ rw (sym e, less-self (a .words .a), less-self (a .words .b), less-self (a .words .c), less-self (a .words .d))
 
 standing-left : (e : Entry) → stands e ≡ true → unlessEmpty e ≡ e ∷ []
 unfolding unlessEmpty
@@ -257,20 +307,21 @@ unfolding merge
 merge-same [] i d n f u s h e = absurd (native.Mathlib.Nat.not-suc-le-zero h)
 merge-same (a ∷ l) zero d n (cons sa q f) u s h e =
     let p : stands a ≡ true = and-left (stands a) (all stands l) u in
-    let x : unlessEmpty (diff a n) ≡ [] = nothing-left (diff a n) (diff-same a n e) in
-    let y : unlessEmpty (inter a n) ≡ inter a n ∷ [] = standing-left (inter a n) (ap stands (inter-same a n e) ∙ p) in
-    let z : merge l (diff n a) ≡ l = merge-empty l (diff n a) f (and-right (stands a) (all stands l) u) (sound-diff n a s) (diff-same n a (sym e)) in
+    let x : unlessEmpty (diff a n) ≡ [] = nothing-left (diff a n) (diff-same a n sa s e) in
+    let y : unlessEmpty (inter a n) ≡ inter a n ∷ [] = standing-left (inter a n) (ap stands (inter-same a n sa s e) ∙ p) in
+    let z : merge l (diff n a) ≡ l = merge-empty l (diff n a) f (and-right (stands a) (all stands l) u) (sound-diff n a s sa) (diff-same n a s sa (sym e)) in
     rw (x, y, z)
 merge-same (a ∷ l) (suc i) d n (cons sa q f) u s h e =
     let p : stands a ≡ true = and-left (stands a) (all stands l) u in
     let t : none (inter a n .words) ≡ true =
-    none-by (inter a n .words) (sound-inter a n sa .small)
+    none-by (inter a n .words) (sound-inter a n sa s .small)
     (λ w.
-    has-inter a n w
+    has-inter a n sa s w
     ∙ by (has (a .words) w)
     (λ b. rw b (covered l i d n w (le-of-suc-le-suc h) e (q w b)))
     (λ b. rw b)) in
-    rw (apart-left a n t, apart-right a n t, nothing-left (inter a n) t, standing-left a p)
+    let z = share-nothing a n sa s (sym (none-common a n sa s) ∙ t) in
+    rw (z .1, z .2, z .0, standing-left a p)
     (ap (λ k. a ∷ k) (merge-same l i d n f (and-right (stands a) (all stands l) u) s (le-of-suc-le-suc h) e))
 
 -- ---- no more entries than words

@@ -16,7 +16,7 @@ use Rattle.dedup.specs.declared.Entry.{Entry}
 use Rattle.dedup.specs.declared.Entries.{Entries}
 use Rattle.dedup.specs.declared.Inherited.{Inherited}
 use Rattle.dedup.specs.Entries.{inter, merge, join, joinAll, entriesOf, stands, Sound, covers, Apart, nil, cons, Full}
-use Rattle.dedup.specs.EntryLaws.{join-apart, zeros, PlaceOf, merge-same}
+use Rattle.dedup.specs.EntryLaws.{join-apart, apart-among, zeros, PlaceOf, merge-same}
 use Rattle.dedup.specs.Reading.{readAll, tableOf, inheritedOf, joined, Clean, Kept, Good, Joins, JoinsAll, Nothing, Unites, noDoms, underPlace}
 use Rattle.dedup.specs.ReadingLaws.{join-is, join-full, join-all-is, join-all-covers, same-tables, covers-under, apart-under, sound-under, read-under}
 
@@ -66,16 +66,9 @@ joins-shared l r n i k s p h c e = joins-by l r n k s (join-under l r n i k s p 
 
 -- ---- one entry of a parent more
 
-apart-at : (l : List Entry) (i : ℕ) (d : Entry) → Apart l → i < length l → Sound (getD l i d)
-apart-at [] i d f h = absurd (native.Mathlib.Nat.not-suc-le-zero h)
-apart-at (e ∷ l) zero d (cons s q f) h = s
-apart-at (e ∷ l) (suc i) d (cons s q f) h = apart-at l i d f (native.Mathlib.Nat.le-of-suc-le-suc h)
-
 pub sound-at : (items : List Entry) (count i p : ℕ) (d : Entry) → Apart (take count items) → i < count → count ≤ length items
     → Sound (underPlace p (getD items i d))
-sound-at items count i p d f h l =
-    let t : length (take count items) ≡ count = length-take-le count items l in
-    sound-under p (getD items i d) (rw (getD-take count items i d h) at (apart-at (take count items) i d f (omega arith)))
+sound-at items count i p d f h l = sound-under p (getD items i d) (apart-among items count i d f h l)
 
 pub all-step : (items : List Entry) (count i p : ℕ) (d : Entry) (out : List Entry) → i < count → count ≤ length items
     → joinAll out (map (underPlace p) (drop i (take count items)))
@@ -107,7 +100,10 @@ module _ (h p r : Inherited) (parent : ℕ) (gh : Good h) (gp : Good p) (k : Kep
   cleaned : Clean (tableOf (r .doms)) (entriesOf (r .list))
   cleaned w b t =
       let q = neither (covers (entriesOf (h .list)) w) (covers (map (underPlace parent) (entriesOf (p .list))) w)
-      (sym (join-all-covers (entriesOf (h .list)) (map (underPlace parent) (entriesOf (p .list))) w) ∙ ap (λ z. covers z w) (sym e) ∙ t) in
+      (sym
+      (join-all-covers (entriesOf (h .list)) (map (underPlace parent) (entriesOf (p .list))) (gh .kept .apart)
+      (apart-under parent (entriesOf (p .list)) (gp .kept .apart)) w)
+      ∙ ap (λ z. covers z w) (sym e) ∙ t) in
       u .at w b ∙ rw (gh .clean w b (q .0), gp .clean w b (sym (covers-under parent (entriesOf (p .list)) w) ∙ q .1)) (either-none empty)
 
   pub joins-all-by : JoinsAll h p parent r

@@ -1,4 +1,5 @@
 -- One round of the dedup, in an array.
+use mathlib.Core.Bool.{true}
 use mathlib.Core.List.{List, _++_, append-nil, append-assoc}
 use mathlib.Core.Path.{_≡_, sym, ap, _∙_}
 use Prim.Native.Nat.{ℕ, _+_, _<_, _≤_}
@@ -8,8 +9,9 @@ use native.Mathlib.Omega.{arith}
 use lib.ListN.{length, take, drop, set, getD, length-append, length-set, drop-of-length-le}
 use lib.Seq.{take-suc-set, take-set-le, drop-cons, getD-take, length-take-le}
 use Rattle.lists.specs.Tests.{by}
+use Rattle.rows.specs.Rows.{common, none}
 use Rattle.dedup.specs.declared.Entry.{Entry}
-use Rattle.dedup.specs.Entries.{inter, diff, stands, unlessEmpty, merge}
+use Rattle.dedup.specs.Entries.{inter, diff, stands, unlessEmpty, merge, Sound}
 use Rattle.dedup.specs.EntryLaws.{share-nothing}
 
 -- an entry stored at k, and counted if it stands
@@ -77,10 +79,11 @@ pub record Passed (old out : List Entry) (count k i : ℕ) (a n : Entry) (all : 
   pub left : Left (set out k a) (k + length (unlessEmpty a)) (drop (i + 1) (take count old)) n all
 
 pub passed : (old out all : List Entry) (count k i : ℕ) (n d : Entry) → i < count → count ≤ length old → k ≤ 200 → length out ≡ 201 → length all ≤ 200
-    → Left out k (drop i (take count old)) n all → length (unlessEmpty (inter (getD old i d) n)) ≡ 0 → Passed old out count k i (getD old i d) n all
-passed old out all count k i n d h c b l m e z =
+    → Left out k (drop i (take count old)) n all → Sound (getD old i d) → Sound n → none (common (getD old i d .words) (n .words)) ≡ true
+    → Passed old out count k i (getD old i d) n all
+passed old out all count k i n d h c b l m e sa sn z =
     let a = getD old i d in
-    let s = share-nothing a n z in
+    let s = share-nothing a n sa sn z in
     let g : getD (take count old) i d ≡ a = getD-take count old i d h in
     let q = merge-at (take count old) n i d (rw (length-take-le count old c) h) in
     let e₀ : take k out ++ (unlessEmpty (diff a n) ++ (unlessEmpty (inter a n) ++ merge (drop (i + 1) (take count old)) (diff n a))) ≡ all =
@@ -99,11 +102,6 @@ passed old out all count k i n d h c b l m e z =
       );
       left = rw (t, append-assoc (take k out) (unlessEmpty a) (merge (drop (i + 1) (take count old)) n)) e₁;
     }
-
--- an entry that stands counts one
-pub stands-one : (e : Entry) → (length (unlessEmpty e) ≡ 0 → ⊥) → length (unlessEmpty e) ≡ 1
-unfolding unlessEmpty
-stands-one e h = by (stands e) (λ p. rw p) (λ p. absurd (h (rw p)))
 
 -- the newcomer's rest goes last
 pub last : (out all l : List Entry) (k i : ℕ) (n : Entry) → length l ≤ i → k ≤ 200 → length out ≡ 201 → length all ≤ 200 → Left out k (drop i l) n all

@@ -9,11 +9,11 @@ use Rattle.lists.specs.Lists.{ascends}
 use Rattle.rows.specs.declared.Row.{Row}
 use Rattle.rows.specs.Rows.{has, either, none, empty, hasBit}
 use Rattle.rows.specs.Lists.{below}
-use Rattle.definitions.specs.Records.{Name, AssociatedResource, associate}
+use Rattle.definitions.specs.Records.{Name, AssociatedResource}
 use Rattle.definitions.specs.Comparisons.{nameBefore}
 use Rattle.definitions.specs.Annotations.{someIf}
 use Rattle.definitions.specs.Inherited.{InheritedAnnotation, dedupOne, dedupOnto}
-use Rattle.annotations.specs.Reading.{domsOf}
+use Rattle.annotations.specs.Reading.{domsOf, ofKind}
 use Rattle.dedup.specs.declared.Entry.{Entry}
 use Rattle.dedup.specs.declared.Entries.{Entries}
 use Rattle.dedup.specs.declared.Inherited.{Inherited}
@@ -27,9 +27,9 @@ resourcesAt D r = map (λ w. record { word = w; doms = domsOf (D w) }) (below (h
 unfoldable pub namesAt : List Name → ℕ → List Name
 namesAt names ps = map (λ i. getD names i []) (below (hasBit ps) (length names))
 
--- `names` are the names of all types, in order
+-- `names` are the names of all types, in order. An entry holds no tag, which only an Alias or a Derive has.
 unfoldable pub read : List Name → (ℕ → Row) → Entry → InheritedAnnotation
-read names D e = record { annotation = associate (resourcesAt D (e .words)); parents = namesAt names (e .parents) }
+read names D e = record { annotation = ofKind (e .kind) 0 (resourcesAt D (e .words)); parents = namesAt names (e .parents) }
 
 abbrev pub readAll : List Name → (ℕ → Row) → List Entry → List InheritedAnnotation
 readAll names D l = map (read names D) l
@@ -53,7 +53,7 @@ joined D ws G w = cond (ws w) (either (D w) (G w)) (D w)
 abbrev pub Clean : (ℕ → Row) → List Entry → Type 0
 Clean D l = (w : ℕ) → w < 200 → covers l w ≡ false → D w ≡ empty
 
--- what a list of entries meets: it fits, no two entries share a word, and but for the first each has a word
+-- what a list of entries meets: it fits, each is an Associate, no two share a word, and but for the first each has a word
 pub record Kept (l : Entries) : Type 0 where
   pub room : l .count ≤ 200
   pub apart : Apart (entriesOf l)
@@ -78,7 +78,7 @@ pub record Joins (l : Entries) (n : Entry) (r : Entries) : Type 0 where
 
 -- what a type hands on stands under it
 abbrev pub underPlace : ℕ → Entry → Entry
-underPlace p e = record { words = e .words; parents = p }
+underPlace p e = record { kind = e .kind; words = e .words; parents = p }
 
 -- h with all that p has, under the types at the places `parent`
 pub record JoinsAll (h p : Inherited) (parent : ℕ) (r : Inherited) : Type 0 where

@@ -2,7 +2,7 @@
 use mathlib.Core.Bool.{Bool, true, false, _&&_, _||_, not}
 use mathlib.Core.List.{List, [], _∷_, _++_, map, append-nil}
 use mathlib.Core.Option.{some}
-use mathlib.Core.Path.{_≡_, refl, sym, ap, ap₂, _∙_}
+use mathlib.Core.Path.{_≡_, refl, sym, ap, ap₂, _∙_, subst}
 use Prim.Native.Nat.{ℕ, _<_}
 use native.Mathlib.Omega.{arith}
 use borrow.Author.Tests.{not-false}
@@ -20,12 +20,12 @@ use Rattle.definitions.specs.Records.{Name, Dom, AssociatedResource, associate}
 use Rattle.definitions.specs.Comparisons.{nameBefore, domBefore}
 use Rattle.definitions.specs.Annotations.{hasAssociatedWord, domsIn, united, shared, less, someIf, overlapOf, intersection, difference}
 use Rattle.definitions.specs.Inherited.{InheritedAnnotation, underParents, sharedEntry, restEntry, toList, dedupOne, dedupOnto}
-use Rattle.annotations.specs.Reading.{domAt, domsOf}
+use Rattle.annotations.specs.Reading.{domAt, domsOf, ofKind}
 use Rattle.annotations.specs.Laws.{climbing-doms}
 use Rattle.dedup.specs.declared.Entry.{Entry}
 use Rattle.dedup.specs.Lists.{filter-one, climbing}
 use Rattle.dedup.specs.Entries.{inter, diff, stands, unlessEmpty, merge, join, joinAll, Sound, covers, Apart, nil, cons, Full}
-use Rattle.dedup.specs.EntryLaws.{has-diff, sound-diff, sound-inter, merge-full, merge-empty, join-covers, join-apart}
+use Rattle.dedup.specs.EntryLaws.{diff-is, inter-is, has-diff, sound-diff, sound-inter, merge-full, merge-empty, join-covers, join-apart}
 use Rattle.dedup.specs.Reading.{resourcesAt, namesAt, read, readAll, readSome, joined, Clean, under′, underPlace}
 
 -- ---- words and dom sets of resources by a table
@@ -122,7 +122,14 @@ under-some false ps us = refl
 
 read-tables : (names : List Name) (D E : ℕ → Row) (e : Entry) → ((w : ℕ) → w < 200 → has (e .words) w ≡ true → E w ≡ D w) → read names E e ≡ read names D e
 unfolding read
-read-tables names D E e h = ap (λ us. record { annotation = associate us; parents = namesAt names (e .parents) }) (same-resources D E (e .words) h)
+read-tables names D E e h =
+    ap (λ us. record { annotation = ofKind (e .kind) 0 us; parents = namesAt names (e .parents) }) (same-resources D E (e .words) h)
+
+-- an Associate, read
+pub read-is : (names : List Name) (D : ℕ → Row) (e : Entry) → Sound e
+    → read names D e ≡ record { annotation = associate (resourcesAt D (e .words)); parents = namesAt names (e .parents) }
+unfolding read
+read-is names D e s = ap (λ (k : ℕ). record { annotation = ofKind k 0 (resourcesAt D (e .words)); parents = namesAt names (e .parents) }) (s .kind)
 
 module _ (names : List Name) (asc : ascends nameBefore names ≡ true) where
   names-either : (p q : ℕ) → setOf nameBefore (namesAt names p ++ namesAt names q) ≡ namesAt names (bitOr p q)
@@ -131,26 +138,35 @@ module _ (names : List Name) (asc : ascends nameBefore names ≡ true) where
       set-either nameBefore (λ i. getD names i []) (length names) (climbing names asc) (hasBit p) (hasBit q) (hasBit (bitOr p q)) (λ k l. bit-either p q k)
 
   -- what is left of an entry
-  pub rest-is : (D G E : ℕ → Row) (a n : Entry) → Sound a → ((w : ℕ) → w < 200 → has (a .words) w ≡ true → has (n .words) w ≡ false → E w ≡ D w)
+  pub rest-is : (D G E : ℕ → Row) (a n : Entry) → Sound a → Sound n
+      → ((w : ℕ) → w < 200 → has (a .words) w ≡ true → has (n .words) w ≡ false → E w ≡ D w)
       → restEntry (read names D a) (read names G n) ≡ readSome names E (diff a n)
   unfolding restEntry difference overlapOf read readSome diff
-  rest-is D G E a n s h =
-      under-some (not (null (less (resourcesAt D (a .words)) (resourcesAt G (n .words))))) (namesAt names (a .parents)) (less (resourcesAt D (a .words)) (resourcesAt G (n .words)))
-      ∙ ap (λ us. someIf (not (null us)) (record { annotation = associate us; parents = namesAt names (a .parents) })) (sym (less-is D G E (a .words) (n .words) h))
-      ∙ ap (λ b. someIf b (record { annotation = associate (resourcesAt E (without (a .words) (n .words))); parents = namesAt names (a .parents) })) (null-is E (diff a n) (sound-diff a n s))
+  rest-is D G E a n s t h =
+      let ps = namesAt names (a .parents) in
+      let us = less (resourcesAt D (a .words)) (resourcesAt G (n .words)) in
+      let r = without (a .words) (n .words) in
+      rw (s .kind, t .kind)
+      (under-some (not (null us)) ps us
+      ∙ ap (λ vs. someIf (not (null vs)) (record { annotation = associate vs; parents = ps })) (sym (less-is D G E (a .words) (n .words) h))
+      ∙ ap (λ b. someIf b (record { annotation = associate (resourcesAt E r); parents = ps }))
+      (null-is E (record { kind = a .kind; words = r; parents = a .parents }) (subst Sound (diff-is a n s t) (sound-diff a n s t))))
 
   -- what two entries share
-  pub both-is : (D G E : ℕ → Row) (a n : Entry) → Sound a → ((w : ℕ) → w < 200 → has (a .words) w ≡ true → has (n .words) w ≡ true → E w ≡ either (D w) (G w))
+  pub both-is : (D G E : ℕ → Row) (a n : Entry) → Sound a → Sound n
+      → ((w : ℕ) → w < 200 → has (a .words) w ≡ true → has (n .words) w ≡ true → E w ≡ either (D w) (G w))
       → sharedEntry (read names D a) (read names G n) ≡ readSome names E (inter a n)
   unfolding sharedEntry intersection overlapOf read readSome inter
-  both-is D G E a n s h =
-      under-some (not (null (shared (resourcesAt D (a .words)) (resourcesAt G (n .words))))) (setOf nameBefore (namesAt names (a .parents) ++ namesAt names (n .parents)))
-      (shared (resourcesAt D (a .words)) (resourcesAt G (n .words)))
-      ∙ ap (λ ps. someIf (not (null (shared (resourcesAt D (a .words)) (resourcesAt G (n .words))))) (record { annotation = associate (shared (resourcesAt D (a .words)) (resourcesAt G (n .words))); parents = ps }))
-      (names-either (a .parents) (n .parents))
-      ∙ ap (λ us. someIf (not (null us)) (record { annotation = associate us; parents = namesAt names (bitOr (a .parents) (n .parents)) })) (sym (shared-is D G E (a .words) (n .words) h))
-      ∙ ap (λ b. someIf b (record { annotation = associate (resourcesAt E (common (a .words) (n .words))); parents = namesAt names (bitOr (a .parents) (n .parents)) }))
-      (null-is E (inter a n) (sound-inter a n s))
+  both-is D G E a n s t h =
+      let ps = namesAt names (bitOr (a .parents) (n .parents)) in
+      let us = shared (resourcesAt D (a .words)) (resourcesAt G (n .words)) in
+      let r = common (a .words) (n .words) in
+      rw (s .kind, t .kind)
+      (under-some (not (null us)) (setOf nameBefore (namesAt names (a .parents) ++ namesAt names (n .parents))) us
+      ∙ ap (λ qs. someIf (not (null us)) (record { annotation = associate us; parents = qs })) (names-either (a .parents) (n .parents))
+      ∙ ap (λ vs. someIf (not (null vs)) (record { annotation = associate vs; parents = ps })) (sym (shared-is D G E (a .words) (n .words) h))
+      ∙ ap (λ b. someIf b (record { annotation = associate (resourcesAt E r); parents = ps }))
+      (null-is E (record { kind = a .kind; words = r; parents = bitOr (a .parents) (n .parents) }) (subst Sound (inter-is a n s t) (sound-inter a n s t))))
 
 -- ---- the list
 
@@ -161,13 +177,14 @@ pub record United (D G E : ℕ → Row) (l : List Entry) (n : Entry) : Type 0 wh
   pub new : (w : ℕ) → w < 200 → covers l w ≡ false → has (n .words) w ≡ true → E w ≡ G w
 
 -- what is left of the newcomer meets what is left of the list
-onward : (D G E : ℕ → Row) (a : Entry) (l : List Entry) (n : Entry) → ((w : ℕ) → has (a .words) w ≡ true → covers l w ≡ false) → United D G E (a ∷ l) n → United D G E l (diff n a)
-onward D G E a l n h u =
+onward : (D G E : ℕ → Row) (a : Entry) (l : List Entry) (n : Entry) → Sound a → Sound n → ((w : ℕ) → has (a .words) w ≡ true → covers l w ≡ false)
+    → United D G E (a ∷ l) n → United D G E l (diff n a)
+onward D G E a l n sa s h u =
     record {
-      kept = λ w b c e. u .kept w b (or-right (has (a .words) w) c) (still w c ∙ sym (has-diff n a w) ∙ e);
-      both = λ w b c e. u .both w b (or-right (has (a .words) w) c) (still w c ∙ sym (has-diff n a w) ∙ e);
+      kept = λ w b c e. u .kept w b (or-right (has (a .words) w) c) (still w c ∙ sym (has-diff n a s sa w) ∙ e);
+      both = λ w b c e. u .both w b (or-right (has (a .words) w) c) (still w c ∙ sym (has-diff n a s sa w) ∙ e);
       new = λ w b c e.
-          let q : (has (n .words) w && not (has (a .words) w)) ≡ true = sym (has-diff n a w) ∙ e in
+          let q : (has (n .words) w && not (has (a .words) w)) ≡ true = sym (has-diff n a s sa w) ∙ e in
           u .new w b (rw (not-right (has (n .words) w) (has (a .words) w) q) c) (and-left _ _ q);
     }
   where
@@ -198,11 +215,11 @@ module _ (names : List Name) (asc : ascends nameBefore names ≡ true) (D G E : 
   merge-step a l n s t u i =
       map-append (read names E) (unlessEmpty (diff a n)) (unlessEmpty (inter a n) ++ merge l (diff n a))
       ∙ ap₂ (λ (x y : List InheritedAnnotation). x ++ y)
-      (listed names E (diff a n) ∙ ap toList (sym (rest-is names asc D G E a n s (λ w b x y. u .kept w b (or-left (covers l w) x) y))))
+      (listed names E (diff a n) ∙ ap toList (sym (rest-is names asc D G E a n s t (λ w b x y. u .kept w b (or-left (covers l w) x) y))))
       (map-append (read names E) (unlessEmpty (inter a n)) (merge l (diff n a))
       ∙ ap₂ (λ (x y : List InheritedAnnotation). x ++ y)
-      (listed names E (inter a n) ∙ ap toList (sym (both-is names asc D G E a n s (λ w b x y. u .both w b (or-left (covers l w) x) y))))
-      (i ∙ ap (dedupOne (readAll names D l)) (sym (rest-is names asc G D G n a t (λ w b x y. refl)))))
+      (listed names E (inter a n) ∙ ap toList (sym (both-is names asc D G E a n s t (λ w b x y. u .both w b (or-left (covers l w) x) y))))
+      (i ∙ ap (dedupOne (readAll names D l)) (sym (rest-is names asc G D G n a t s (λ w b x y. refl)))))
 
   -- a newcomer that may have nothing left meets entries with words
   merge-is : (l : List Entry) (n : Entry) → Apart l → Full l → Sound n → United D G E l n → readAll names E (merge l n) ≡ dedupOne (readAll names D l) (readSome names G n)
@@ -214,7 +231,7 @@ module _ (names : List Name) (asc : ascends nameBefore names ≡ true) (D G E : 
       (λ p. rw p refl)
   merge-is (a ∷ l) n (cons sa h f) u s t =
       by (stands n)
-      (λ p. rw p (merge-step a l n sa s t (merge-is l (diff n a) f (and-right (stands a) (all stands l) u) (sound-diff n a s) (onward D G E a l n h t))))
+      (λ p. rw p (merge-step a l n sa s t (merge-is l (diff n a) f (and-right (stands a) (all stands l) u) (sound-diff n a s sa) (onward D G E a l n sa s h t))))
       (λ p.
       let q = not-false _ p in
       ap (readAll names E) (merge-empty (a ∷ l) n (cons sa h f) u s q) ∙ rw p (same-tables names D E (a ∷ l) (λ w b c. t .kept w b c (has-none (n .words) w q))))
@@ -242,11 +259,11 @@ module _ (names : List Name) (asc : ascends nameBefore names ≡ true) where
   join-is D G (a ∷ l) n (cons sa h f) u s c =
       let t = united-joined D G (a ∷ l) n s c in
       let E = joined D (has (n .words)) G in
-      merge-step names asc D G E a l n sa s t (merge-is names asc D G E l (diff n a) f u (sound-diff n a s) (onward D G E a l n h t))
+      merge-step names asc D G E a l n sa s t (merge-is names asc D G E l (diff n a) f u (sound-diff n a s sa) (onward D G E a l n sa s h t))
 
-pub join-clean : (D G : ℕ → Row) (l : List Entry) (n : Entry) → Clean D l → Clean (joined D (has (n .words)) G) (join l n)
-join-clean D G l n c w b e =
-    let q = neither (covers l w) (has (n .words) w) (sym (join-covers l n w) ∙ e) in
+pub join-clean : (D G : ℕ → Row) (l : List Entry) (n : Entry) → Apart l → Sound n → Clean D l → Clean (joined D (has (n .words)) G) (join l n)
+join-clean D G l n f s c w b e =
+    let q = neither (covers l w) (has (n .words) w) (sym (join-covers l n f s w) ∙ e) in
     rw (q .1) (c w b (q .0))
 
 all-rest : (l : List Entry) → Full l → Full (drop 1 l)
@@ -276,20 +293,22 @@ module _ (names : List Name) (asc : ascends nameBefore names ≡ true) (G : ℕ 
   join-all-is D l (n ∷ ns) f u c (cons s h a) =
       let D₁ = joined D (has (n .words)) G in
       same-tables names (joined D₁ (covers ns) G) (joined D (covers (n ∷ ns)) G) (joinAll (join l n) ns) (λ w b e. tables-agree D G n ns w (h w))
-      ∙ join-all-is D₁ (join l n) ns (join-apart l n f s) (join-full l n) (join-clean D G l n c) a
+      ∙ join-all-is D₁ (join l n) ns (join-apart l n f s) (join-full l n) (join-clean D G l n f s c) a
       ∙ ap (λ z. dedupOnto z (readAll names G ns)) (join-is names asc D G l n f u s c)
 
-pub join-all-covers : (l ns : List Entry) (w : ℕ) → covers (joinAll l ns) w ≡ (covers l w || covers ns w)
+pub join-all-covers : (l ns : List Entry) → Apart l → Apart ns → (w : ℕ) → covers (joinAll l ns) w ≡ (covers l w || covers ns w)
 unfolding joinAll
-join-all-covers l [] w = sym (mathlib.Core.Bool.or-false (covers l w))
-join-all-covers l (n ∷ ns) w =
-    join-all-covers (join l n) ns w ∙ ap (λ b. b || covers ns w) (join-covers l n w) ∙ mathlib.Core.Bool.or-assoc (covers l w) (has (n .words) w) (covers ns w)
+join-all-covers l [] f a w = sym (mathlib.Core.Bool.or-false (covers l w))
+join-all-covers l (n ∷ ns) f (cons s h a) w =
+    join-all-covers (join l n) ns (join-apart l n f s) a w
+    ∙ ap (λ b. b || covers ns w) (join-covers l n f s w)
+    ∙ mathlib.Core.Bool.or-assoc (covers l w) (has (n .words) w) (covers ns w)
 
 pub covers-under : (p : ℕ) (l : List Entry) (w : ℕ) → covers (map (underPlace p) l) w ≡ covers l w
 covers-under p l w = any-map (λ (e : Entry). has (e .words) w) (underPlace p) l
 
 pub sound-under : (p : ℕ) (e : Entry) → Sound e → Sound (underPlace p e)
-sound-under p e s = record { small = s .small; words = s .words }
+sound-under p e s = record { kind = s .kind; small = s .small; words = s .words }
 
 pub apart-under : (p : ℕ) (l : List Entry) → Apart l → Apart (map (underPlace p) l)
 apart-under p [] f = nil

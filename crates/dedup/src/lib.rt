@@ -3,18 +3,16 @@ use annotations::Overlap;
 use rows::Row;
 ghost use mathlib.Core.Path.{_≡_};
 ghost use mathlib.Core.List.{[], _∷_, map};
-ghost use Prim.Native.Nat.{_≤_};
+ghost use Prim.Native.Nat.{_<_, _≤_};
 ghost use lib.ListN.{length};
-ghost use Rattle.rows.specs.Rows.{common, without};
-ghost use Rattle.dedup.specs.Entries.{inter, diff, unlessEmpty, merge, joinAll, entriesOf, Sound, Apart};
+ghost use Rattle.dedup.specs.Entries.{overlapAt, sharedBy, leftBy, inter, diff, unlessEmpty, merge, joinAll, entriesOf, Sound, Apart};
 ghost use Rattle.dedup.specs.EntryLaws.{SameWords, SearchFrom};
 ghost use Rattle.dedup.specs.Reading.{noDoms, underPlace, Kept, Good, Nothing, Unites, Joins, JoinsAll};
 
-// The kind of every entry: a NestAssociate is handed on as an Associate (FORMAT 8.7).
-const ASSOCIATE: u8 = 1;
-
-// An inherited Associate: its words as a row of bits, and the types that it is inherited from, by their places in name order.
+// An inherited annotation: the number of its kind, its words as a row of bits, and the types that it is inherited from, by their
+// places in name order.
 pub struct Entry {
+    pub kind: u8,
     pub words: Row,
     pub parents: u64,
 }
@@ -31,11 +29,12 @@ pub struct Inherited {
     pub doms: [Row; 200],
 }
 
-// The words of what two entries share. The kinds decide, as they do for two annotations.
-fn shared_words(x: Row, y: Row) -> Row
-    ensures { λ r. ⌜ r ≡ common x y ⌝ }
+// The words of what two entries of the kinds k and j share. The kinds decide, as they do for two annotations.
+fn shared_words(k: u8, j: u8, x: Row, y: Row) -> Row
+    requires { ⌜ (k < 7) × (j < 7) ⌝ }
+    ensures { λ r. ⌜ r ≡ sharedBy (overlapAt k j) x y ⌝ }
 {
-    let both = annotations::overlap_of(ASSOCIATE, ASSOCIATE);
+    let both = annotations::overlap_of(k, j);
     match both {
         Overlap::Nothing => rows::empty_row(),
         Overlap::Whole => x,
@@ -44,10 +43,11 @@ fn shared_words(x: Row, y: Row) -> Row
 }
 
 // The words of what is left of the first.
-fn left_words(x: Row, y: Row) -> Row
-    ensures { λ r. ⌜ r ≡ without x y ⌝ }
+fn left_words(k: u8, j: u8, x: Row, y: Row) -> Row
+    requires { ⌜ (k < 7) × (j < 7) ⌝ }
+    ensures { λ r. ⌜ r ≡ leftBy (overlapAt k j) x y ⌝ }
 {
-    let both = annotations::overlap_of(ASSOCIATE, ASSOCIATE);
+    let both = annotations::overlap_of(k, j);
     match both {
         Overlap::Nothing => x,
         Overlap::Whole => rows::empty_row(),
@@ -57,12 +57,14 @@ fn left_words(x: Row, y: Row) -> Row
 
 // `InheritedAnnotation::intersection`: what both annotations share, inherited from the parents of both.
 pub fn intersection(x: Entry, y: Entry) -> Entry
+    requires { ⌜ (x .kind < 7) × (y .kind < 7) ⌝ }
     ensures { λ r. ⌜ r ≡ inter x y ⌝ }
 {
     let v = x.words;
     let w = y.words;
-    let words = shared_words(v, w);
+    let words = shared_words(x.kind, y.kind, v, w);
     Entry {
+        kind: x.kind,
         words: words,
         parents: x.parents | y.parents,
     }
@@ -70,12 +72,14 @@ pub fn intersection(x: Entry, y: Entry) -> Entry
 
 // `InheritedAnnotation::difference`: the rest of the first, inherited from the parents of the first.
 pub fn difference(x: Entry, y: Entry) -> Entry
+    requires { ⌜ (x .kind < 7) × (y .kind < 7) ⌝ }
     ensures { λ r. ⌜ r ≡ diff x y ⌝ }
 {
     let v = x.words;
     let w = y.words;
-    let words = left_words(v, w);
+    let words = left_words(x.kind, y.kind, v, w);
     Entry {
+        kind: x.kind,
         words: words,
         parents: x.parents,
     }
@@ -104,8 +108,8 @@ pub fn alone(newcomer: Entry) -> Entries
 }
 
 // The list that a newcomer has joined: each earlier entry split into its rest and what it shares, behind all of them the
-// newcomer's rest (FORMAT 8.9). An entry is stored at k, and k moves on if the entry stands. One that shares nothing is its
-// own rest, and the newcomer stays.
+// newcomer's rest (FORMAT 8.9). An entry is stored at k, and k moves on if the entry stands. One that has no word of the newcomer
+// shares nothing: it is its own rest, and the newcomer stays. Of the others the kinds decide.
 pub fn merged(l: Entries, newcomer: Entry) -> Entries
     requires { ⌜ Apart (entriesOf l) ⌝ }
     requires { ⌜ (l .count ≤ 200) × Sound newcomer ⌝ }
@@ -118,11 +122,14 @@ pub fn merged(l: Entries, newcomer: Entry) -> Entries
     let mut i: usize = 0;
     while i < count {
         let a = l.items[i];
-        let both = intersection(a, n);
-        if standing(both) == 0 {
+        let v = a.words;
+        let w = n.words;
+        let words = rows::in_both(v, w);
+        if rows::is_none(words) {
             out[k] = a;
             k += standing(a);
         } else {
+            let both = intersection(a, n);
             let rest = difference(a, n);
             out[k] = rest;
             k += standing(rest);
@@ -172,6 +179,7 @@ pub fn dedup_inherited_annotations_one(l: Entries, newcomer: Entry) -> Entries
 fn no_entries() -> [Entry; 201] {
     let words = rows::empty_row();
     let e = Entry {
+        kind: 0,
         words: words,
         parents: 0,
     };
@@ -242,6 +250,7 @@ pub fn joined_entries(l: Entries, p: Entries, parent: u64) -> Entries
         let e = p.items[i];
         let words = e.words;
         let n = Entry {
+            kind: e.kind,
             words: words,
             parents: parent,
         };

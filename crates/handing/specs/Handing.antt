@@ -66,7 +66,7 @@ handsUnder ps T l = map (λ a. record { annotation = asAssociate a; parents = ps
 -- what is asked of a parent
 pub record HandsFrom (ts : Types) (st : List ℕ) (place : ℕ) : Type 0 where
   pub low : place < 64
-  pub room : 1801 * place + 1801 ≤ length st
+  pub room : 2001 * place + 2001 ≤ length st
   pub most : length st < 1000000
   pub fit : AllFit (itemAt ts place)
   pub list : Inherited
@@ -115,7 +115,7 @@ pub record Ready (p : Parents) (ts : Types) (st : List ℕ) (t flags : ℕ) : Ty
   pub extensions : Extensions
   pub held : HeldMap sheet ts extensions p
   pub low : t < p .count
-  pub room : 1801 * p .count ≤ length st
+  pub room : 2001 * p .count ≤ length st
   pub most : length st < 1000000
   pub stored : StoredParents p (typeMapOf sheet) st t flags
 

@@ -42,10 +42,10 @@ zeros-hold : (n t : ℕ) → Holds (zeros n) t nothing
 unfolding rowAt noDoms
 zeros-hold n t =
     record {
-      count = zero-at n (1801 * t);
+      count = zero-at n (2001 * t);
       entries = λ i l. absurd (not-suc-le-zero l);
       doms = λ w l.
-          let at = 1801 * t + 1001 + 4 * w in
+          let at = 2001 * t + 1201 + 4 * w in
           rw (zero-at n at, zero-at n (at + 1), zero-at n (at + 2), zero-at n (at + 3)) (sym (getD-replicate 200 w empty empty l));
     }
 
@@ -69,7 +69,7 @@ resource-stored n =
       parents = no-parents;
     }
 
-pub example-ready : Ready exampleParents exampleTypes (zeros 5403) 1 255
+pub example-ready : Ready exampleParents exampleTypes (zeros 6003) 1 255
 example-ready =
     record {
       sheet = example;
@@ -81,9 +81,9 @@ example-ready =
       stored = record { at = only };
     }
   where
-    long : length (zeros 5403) ≡ 5403
-    long = length-replicate {A = ℕ} 5403 0
+    long : length (zeros 6003) ≡ 6003
+    long = length-replicate {A = ℕ} 6003 0
 
-    only : (i : ℕ) → i < howMany exampleParents 1 → hasBit 255 i ≡ true → Stored exampleParents (typeMapOf example) (zeros 5403) (placeAt exampleParents 1 i)
-    only zero l b = resource-stored 5403
+    only : (i : ℕ) → i < howMany exampleParents 1 → hasBit 255 i ≡ true → Stored exampleParents (typeMapOf example) (zeros 6003) (placeAt exampleParents 1 i)
+    only zero l b = resource-stored 6003
     only (suc i) l b = absurd (omega (arith, l))

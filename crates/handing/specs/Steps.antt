@@ -89,7 +89,7 @@ unfolding dedupOnto
 onto-none l = refl
 
 -- one that inherits nothing either hands on nothing
-pub takes-nothing : (h : Inherited) (ts : Types) (st : List ℕ) (place : ℕ) → Good h → Fits h → itemAt ts place .annotations .count ≡ 0 → getD st (1801 * place) 0 ≡ 0 → Takes h ts st place h
+pub takes-nothing : (h : Inherited) (ts : Types) (st : List ℕ) (place : ℕ) → Good h → Fits h → itemAt ts place .annotations .count ≡ 0 → getD st (2001 * place) 0 ≡ 0 → Takes h ts st place h
 takes-nothing h ts st place good fits a z =
     record {
       good = good;

@@ -34,7 +34,7 @@ fn inherit_if(h: Inherited, info: TypeInfo, store: &[u64], place: usize, counts:
 {
     if counts {
         if info.annotations.count == 0 {
-            if store[1801 * place] == 0 {
+            if store[2001 * place] == 0 {
                 return h;
             }
         }

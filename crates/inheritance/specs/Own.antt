@@ -50,6 +50,10 @@ pub record DomsWith (D : List Row) (a : AnnotationInfo) (E : List Row) : Type 0 
   pub doms : a .count ≤ length (a .doms)
   pub at : (w : ℕ) → w < 200 → tableOf E w ≡ joined (tableOf D) (λ v. elem v (wordsIn a)) (rowFor (wordsIn a) (rowsIn a)) w
 
+-- 'an inherited NestAssociate entering it as an Associate'
+unfoldable pub inheritedKind : ℕ → ℕ
+inheritedKind k = cond (eqb k 2) 1 k
+
 -- an own associate as it is handed on
 unfoldable pub handed : List Name → AnnotationInfo → InheritedAnnotation
 handed ps a = record { annotation = asAssociate (infoOf a); parents = ps }

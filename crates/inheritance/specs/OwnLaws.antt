@@ -28,8 +28,8 @@ use Rattle.dedup.specs.declared.Entry.{Entry}
 use Rattle.dedup.specs.declared.Inherited.{Inherited}
 use Rattle.dedup.specs.Entries.{entriesOf, Sound, covers}
 use Rattle.dedup.specs.Reading.{resourcesAt, namesAt, read, readAll, tableOf, inheritedOf, joined, Good, Joins, JoinsAll, under′}
-use Rattle.dedup.specs.ReadingLaws.{same-tables, join-clean}
-use Rattle.inheritance.specs.Own.{wordsIn, rowsIn, Own, rowFor, WordsOf, DomsWith, handed, JoinsOwn, zeros, JoinsOwns, JoinsParent}
+use Rattle.dedup.specs.ReadingLaws.{read-is, same-tables, join-clean}
+use Rattle.inheritance.specs.Own.{wordsIn, rowsIn, Own, rowFor, WordsOf, DomsWith, inheritedKind, handed, JoinsOwn, zeros, JoinsOwns, JoinsParent}
 
 -- ---- ascending words
 
@@ -176,15 +176,26 @@ resources-are a row o s p q =
     ∙ ascending-is (wordsIn a) 200 (o .ascending) (λ w e. elem-bound (a .words) (a .count) w (o .below) e))
     ∙ pairs-are (wordsIn a) (rowsIn a) (length-take-le (a .count) (a .words) p ∙ sym (length-take-le (a .count) (a .doms) q)) (o .ascending)
 
-pub own-sound : (a : AnnotationInfo) (row : Row) (parent : ℕ) → Own a → WordsOf a row → Sound (record { words = row; parents = parent })
-own-sound a row parent o s = record { small = s .small; words = λ w e. elem-bound (a .words) (a .count) w (o .below) (sym (s .at w) ∙ e) }
+-- the entry of an own associate
+abbrev pub entryOf : AnnotationInfo → Row → ℕ → Entry
+entryOf a row parent = record { kind = inheritedKind (a .kind); words = row; parents = parent }
+
+pub own-sound : (a : AnnotationInfo) (row : Row) (parent : ℕ) → Own a → WordsOf a row → Sound (entryOf a row parent)
+unfolding inheritedKind
+own-sound a row parent o s =
+    record {
+      kind = ⊎-elim (λ (e : a .kind ≡ 1). rw e refl) (λ (e : a .kind ≡ 2). rw e refl) (o .kind);
+      small = s .small;
+      words = λ w e. elem-bound (a .words) (a .count) w (o .below) (sym (s .at w) ∙ e);
+    }
 
 module _ (h : Inherited) (a : AnnotationInfo) (parent : ℕ) (row : Row) (r : Inherited) (g : Good h) (o : Own a) (s : WordsOf a row)
-    (j : Joins (h .list) (record { words = row; parents = parent }) (r .list)) (d : DomsWith (h .doms) a (r .doms)) where
-  own-read : (names : List Name) → read names (rowFor (wordsIn a) (rowsIn a)) (record { words = row; parents = parent }) ≡ handed (namesAt names parent) a
-  unfolding read handed
+    (j : Joins (h .list) (entryOf a row parent) (r .list)) (d : DomsWith (h .doms) a (r .doms)) where
+  own-read : (names : List Name) → read names (rowFor (wordsIn a) (rowsIn a)) (entryOf a row parent) ≡ handed (namesAt names parent) a
+  unfolding handed
   own-read names =
-      ap (λ x. record { annotation = x; parents = namesAt names parent }) (ap associate (resources-are a row o s (d .words) (d .doms)) ∙ sym (associate-of a (o .kind)))
+      read-is names (rowFor (wordsIn a) (rowsIn a)) (entryOf a row parent) (own-sound a row parent o s)
+      ∙ ap (λ x. record { annotation = x; parents = namesAt names parent }) (ap associate (resources-are a row o s (d .words) (d .doms)) ∙ sym (associate-of a (o .kind)))
 
   own-tables : (w : ℕ) → w < 200 → tableOf (r .doms) w ≡ joined (tableOf (h .doms)) (has row) (rowFor (wordsIn a) (rowsIn a)) w
   own-tables w b = d .at w b ∙ rw (s .at w) refl
@@ -192,14 +203,11 @@ module _ (h : Inherited) (a : AnnotationInfo) (parent : ℕ) (row : Row) (r : In
   pub joins-own-by : JoinsOwn h a parent r
   unfolding inheritedOf
   joins-own-by =
-      let n : Entry = record { words = row; parents = parent } in
+      let n = entryOf a row parent in
       let G = rowFor (wordsIn a) (rowsIn a) in
+      let c = join-clean (tableOf (h .doms)) G (entriesOf (h .list)) n (g .kept .apart) (own-sound a row parent o s) (g .clean) in
       record {
-        good = record {
-          kept = j .kept;
-          clean = λ w b e.
-              own-tables w b ∙ join-clean (tableOf (h .doms)) G (entriesOf (h .list)) n (g .clean) w b (ap (λ l. covers l w) (sym (j .joins)) ∙ e);
-        };
+        good = record { kept = j .kept; clean = λ w b e. own-tables w b ∙ c w b (ap (λ l. covers l w) (sym (j .joins)) ∙ e) };
         dedup = λ names asc.
             same-tables names (joined (tableOf (h .doms)) (has row) G) (tableOf (r .doms)) (entriesOf (r .list)) (λ w b e. own-tables w b)
             ∙ j .dedup names asc (tableOf (h .doms)) G (g .clean)

@@ -7,7 +7,7 @@ use rows::Row;
 ghost use mathlib.Core.Path.{_≡_};
 ghost use Prim.Native.Nat.{_<_, _≤_};
 ghost use Rattle.dedup.specs.Reading.{Good};
-ghost use Rattle.inheritance.specs.Own.{Own, WordsOf, DomsWith, JoinsOwn, AllOwn, JoinsOwns, JoinsParent};
+ghost use Rattle.inheritance.specs.Own.{Own, WordsOf, inheritedKind, DomsWith, JoinsOwn, AllOwn, JoinsOwns, JoinsParent};
 
 // The words of an associate, as a row of bits.
 pub fn words_of(a: AnnotationInfo) -> Row
@@ -48,14 +48,26 @@ pub fn doms_with(doms: [Row; 200], a: AnnotationInfo) -> [Row; 200]
     out
 }
 
-// A parent's own associate joins what is inherited, as an Associate, also where it is nested (FORMAT 8.7).
+// The kind under which an annotation is inherited: a NestAssociate, 2, is handed on as an Associate, 1 (FORMAT 8.7).
+fn inherited_kind(kind: u8) -> u8
+    ensures { λ r. ⌜ r ≡ inheritedKind kind ⌝ }
+{
+    if kind == 2 {
+        return 1;
+    }
+    kind
+}
+
+// A parent's own associate joins what is inherited.
 pub fn inherit_own(h: Inherited, a: AnnotationInfo, parent: u64) -> Inherited
     requires { ⌜ Good h ⌝ }
     requires { ⌜ Own a ⌝ }
     ensures { λ r. ⌜ JoinsOwn h a parent r ⌝ }
 {
     let words = words_of(a);
+    let kind = inherited_kind(a.kind);
     let n = Entry {
+        kind: kind,
         words: words,
         parents: parent,
     };

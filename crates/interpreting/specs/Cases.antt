@@ -60,7 +60,7 @@ abbrev words : Row
 words = either (single 1) (single 199)
 
 abbrev entry : Entry
-entry = record { words = words; parents = 6 }
+entry = record { kind = 1; words = words; parents = 6 }
 
 abbrev doms : List Row
 doms = set (set (replicate 200 empty) 1 plain) 199 last
@@ -135,7 +135,7 @@ inherited-good =
     record {
       kept = record {
         room = omega arith;
-        apart = cons (record { small = small-either (single 1) (single 199) (small-single 1) (small-single 199); words = λ w h. which w h (λ e. omega arith) (λ e. omega arith) }) (λ w h. refl) nil;
+        apart = cons (record { kind = refl; small = small-either (single 1) (single 199) (small-single 1) (small-single 199); words = λ w h. which w h (λ e. omega arith) (λ e. omega arith) }) (λ w h. refl) nil;
         full = refl;
       };
       clean = λ w b c.

@@ -14,12 +14,14 @@ use Rattle.rows.specs.Rows.{has, hasBit}
 use Rattle.rows.specs.Lists.{below, map-between}
 use Rattle.definitions.specs.Records.{Name}
 use Rattle.definitions.specs.Checks.{resourcesOf}
+use Rattle.definitions.specs.Inherited.{InheritedAnnotation}
 use Rattle.dedup.specs.declared.Entry.{Entry}
 use Rattle.dedup.specs.declared.Inherited.{Inherited}
 use Rattle.dedup.specs.Lists.{many, many-or, many-most}
-use Rattle.dedup.specs.Entries.{entriesOf, covers, Apart, cons}
+use Rattle.dedup.specs.Entries.{entriesOf, Sound, covers, Apart, cons}
 use Rattle.dedup.specs.EntryLaws.{zeros}
 use Rattle.dedup.specs.Reading.{resourcesAt, namesAt, read, readAll, tableOf, inheritedOf, Good}
+use Rattle.dedup.specs.ReadingLaws.{read-is}
 use Rattle.table.specs.declared.Table.{Table}
 use Rattle.table.specs.Table.{nameAt}
 use Rattle.synthetic.specs.Made.{namesIn}
@@ -36,9 +38,8 @@ names-in t ps =
     ∙ map-between (hasBit ps) (hasBit ps) (λ i. getD (tabulate (nameAt t) (t .count)) i []) (nameAt t) 0 (t .count) (λ k p q. refl)
     (λ k p q e. getD-tabulate (nameAt t) (t .count) k [] (omega arith))
 
-pub read-resources : (names : List Name) (D : ℕ → Row) (e : Entry) → resourcesOf (read names D e .annotation) ≡ resourcesAt D (e .words)
-unfolding read
-read-resources names D e = refl
+pub read-resources : (names : List Name) (D : ℕ → Row) (e : Entry) → Sound e → resourcesOf (read names D e .annotation) ≡ resourcesAt D (e .words)
+read-resources names D e s = ap (λ (x : InheritedAnnotation). resourcesOf (x .annotation)) (read-is names D e s)
 
 pub read-parents : (t : Table) (D : ℕ → Row) (e : Entry) → read (typeNames t) D e .parents ≡ namesIn t (e .parents)
 unfolding read

@@ -25,10 +25,11 @@ use Rattle.dedup.specs.declared.Entry.{Entry}
 use Rattle.dedup.specs.declared.Inherited.{Inherited}
 use Rattle.dedup.specs.Lists.{many}
 use Rattle.dedup.specs.Entries.{entriesOf}
-use Rattle.dedup.specs.Reading.{resourcesAt, read, tableOf, inheritedOf, noDoms}
+use Rattle.dedup.specs.Reading.{resourcesAt, tableOf, inheritedOf, noDoms}
+use Rattle.dedup.specs.ReadingLaws.{read-is}
 use Rattle.dedup.specs.JoinLaws.{joins-by, join-none, nothing-by}
 use Rattle.inheritance.specs.Own.{wordsIn, rowsIn, Own, rowFor, WordsOf, DomsWith, handed, zeros}
-use Rattle.inheritance.specs.OwnLaws.{ascending-is, own-sound, joins-own-by}
+use Rattle.inheritance.specs.OwnLaws.{ascending-is, entryOf, own-sound, joins-own-by}
 use Rattle.types.specs.Types.{typeInfoOf}
 use Rattle.types.specs.declared.TypeInfo.{TypeInfo}
 use Rattle.own_associates.specs.declared.OwnAssociates.{OwnAssociates}
@@ -83,13 +84,13 @@ plain-same a k = rw k
 
 module _ (a : AnnotationInfo) (row : Row) (E : List Row) (o : Own a) (s : WordsOf a row) (d : DomsWith noDoms a E) where
   entry-is : associate (resourcesAt (tableOf E) row) ≡ asAssociate (infoOf a)
-  unfolding inheritedOf entriesOf read handed dedupOne
+  unfolding inheritedOf entriesOf handed dedupOne
   entry-is =
-      let n : Entry = record { words = row; parents = 0 } in
+      let n = entryOf a row 0 in
       let g = nothing-by before refl refl .good in
       let j = joins-by (before .list) (behind n E .list) n (g .kept) (own-sound a row 0 o s) (sym (join-none (before .list) n refl)) (omega arith) in
       let q = joins-own-by before a 0 row (behind n E) g o s j d .dedup [] refl in
-      ap (λ (x : InheritedAnnotation). x .annotation) (head-eq-of-cons-eq q)
+      ap (λ (x : InheritedAnnotation). x .annotation) (sym (read-is [] (tableOf E) n (own-sound a row 0 o s)) ∙ head-eq-of-cons-eq q)
 
   -- an Associate has the resources of its entry
   pub own-resources : a .kind ≡ 1 → resourcesOf (infoOf a) ≡ resourcesAt (tableOf E) row

@@ -142,6 +142,7 @@ fn interpret_own(
     let none = no_doms();
     let doms = inheritance::doms_with(none, a);
     let e = Entry {
+        kind: a.kind,
         words: words,
         parents: 0,
     };

@@ -75,7 +75,7 @@ fn write_types(
 {
     let count = p.count;
     let mut at = c;
-    let mut a: usize = 0;
+    let mut a = 0;
     while a < count {
         let mine = own_table::own_at(own, a);
         let k = mine.count;

@@ -16,14 +16,18 @@ use Rattle.dedup.specs.declared.Entry.{Entry}
 use Rattle.dedup.specs.declared.Entries.{Entries}
 use Rattle.dedup.specs.declared.Inherited.{Inherited}
 use Rattle.dedup.specs.Entries.{entriesOf}
+use Rattle.dedup.specs.EntryLaws.{apart-among}
 use Rattle.dedup.specs.Reading.{tableOf, inheritedOf, Good, readAll}
 use Rattle.dedup.specs.ReadingLaws.{same-tables}
-use Rattle.store.specs.Store.{rowAt, entryAt, putRow, putEntry, zeros, Away, Keeps, PutEntries, PutDoms, Holds, Stores}
+use Rattle.store.specs.Store.{rowAt, entryAt, putRow, putEntry, zeros, Away, Keeps, Fetched, PutEntries, PutDoms, Holds, Stores}
 
 -- ---- a row
 
-entry-by : (x y : Entry) → x .words ≡ y .words → x .parents ≡ y .parents → x ≡ y
-entry-by x y p q = ap (λ (z : Row). record { words = z; parents = x .parents }) p ∙ ap (λ (z : ℕ). record { words = y .words; parents = z }) q
+entry-by : (x y : Entry) → x .kind ≡ y .kind → x .words ≡ y .words → x .parents ≡ y .parents → x ≡ y
+entry-by x y k p q =
+    ap (λ (z : ℕ). record { kind = z; words = x .words; parents = x .parents }) k
+    ∙ ap (λ (z : Row). record { kind = y .kind; words = z; parents = x .parents }) p
+    ∙ ap (λ (z : ℕ). record { kind = y .kind; words = y .words; parents = z }) q
 
 module _ (s : List ℕ) (at : ℕ) (r : Row) where
   pub row-long : length (putRow s at r) ≡ length s
@@ -67,41 +71,53 @@ row-same s t at h =
 module _ (s : List ℕ) (at : ℕ) (e : Entry) where
   pub entry-long : length (putEntry s at e) ≡ length s
   unfolding putEntry
-  entry-long = length-set (putRow s at (e .words)) (at + 4) (e .parents) ∙ row-long s at (e .words)
+  entry-long = simp length-set (row-long s at (e .words))
 
-  pub entry-keeps : Keeps s at 5 (putEntry s at e)
+  pub entry-keeps : Keeps s at 6 (putEntry s at e)
   unfolding putEntry
   entry-keeps q h =
-      getD-set-other (putRow s at (e .words)) (at + 4) q (e .parents) 0 (h 4 (omega arith)) ∙ row-keeps s at (e .words) q (λ j l. h j (omega arith))
+      let p = putRow s at (e .words) in
+      getD-set-other (set p (at + 4) (e .parents)) (at + 5) q (e .kind) 0 (h 5 (omega arith))
+      ∙ getD-set-other p (at + 4) q (e .parents) 0 (h 4 (omega arith))
+      ∙ row-keeps s at (e .words) q (λ j l. h j (omega arith))
 
-  pub entry-there : at + 5 ≤ length s → entryAt (putEntry s at e) at ≡ e
+  pub entry-there : at + 6 ≤ length s → entryAt (putEntry s at e) at ≡ e
   unfolding entryAt putEntry
   entry-there l =
       let p = putRow s at (e .words) in
       let m : length p ≡ length s = row-long s at (e .words) in
-      entry-by (record { words = rowAt (set p (at + 4) (e .parents)) at; parents = getD (set p (at + 4) (e .parents)) (at + 4) 0 }) e
-      (row-same p (set p (at + 4) (e .parents)) at (λ j b. getD-set-other p (at + 4) (at + j) (e .parents) 0 (λ q. absurd (omega arith))) ∙ row-there s at (e .words) (omega arith))
-      (getD-set-same p (at + 4) (e .parents) 0 (omega arith))
+      let q = set p (at + 4) (e .parents) in
+      let n : length q ≡ length s = length-set p (at + 4) (e .parents) ∙ m in
+      let r = set q (at + 5) (e .kind) in
+      entry-by (record { kind = getD r (at + 5) 0; words = rowAt r at; parents = getD r (at + 4) 0 }) e
+      (getD-set-same q (at + 5) (e .kind) 0 (omega arith))
+      (row-same p r at
+      (λ j b.
+      getD-set-other q (at + 5) (at + j) (e .kind) 0 (λ z. absurd (omega arith))
+      ∙ getD-set-other p (at + 4) (at + j) (e .parents) 0 (λ z. absurd (omega arith)))
+      ∙ row-there s at (e .words) (omega arith))
+      (getD-set-other q (at + 5) (at + 4) (e .kind) 0 (λ z. absurd (omega arith)) ∙ getD-set-same p (at + 4) (e .parents) 0 (omega arith))
 
-pub entry-same : (s t : List ℕ) (at : ℕ) → ((j : ℕ) → j < 5 → getD t (at + j) 0 ≡ getD s (at + j) 0) → entryAt t at ≡ entryAt s at
+pub entry-same : (s t : List ℕ) (at : ℕ) → ((j : ℕ) → j < 6 → getD t (at + j) 0 ≡ getD s (at + j) 0) → entryAt t at ≡ entryAt s at
 unfolding entryAt
 entry-same s t at h =
-    entry-by (record { words = rowAt t at; parents = getD t (at + 4) 0 }) (record { words = rowAt s at; parents = getD s (at + 4) 0 })
-    (row-same s t at (λ j l. h j (omega arith))) (h 4 (omega arith))
+    entry-by (record { kind = getD t (at + 5) 0; words = rowAt t at; parents = getD t (at + 4) 0 })
+    (record { kind = getD s (at + 5) 0; words = rowAt s at; parents = getD s (at + 4) 0 })
+    (h 5 (omega arith)) (row-same s t at (λ j l. h j (omega arith))) (h 4 (omega arith))
 
 -- ---- loops
 
 -- one entry read more
-pub fetched-step : (s : List ℕ) (at i : ℕ) (items : List Entry) → i < length items → ((j : ℕ) → j < i → entryAt s (at + 5 * j) ≡ getD items j zeros)
-    → (j : ℕ) → j < i + 1 → entryAt s (at + 5 * j) ≡ getD (set items i (entryAt s (at + 5 * i))) j zeros
+pub fetched-step : (s : List ℕ) (at i : ℕ) (items : List Entry) → i < length items → ((j : ℕ) → j < i → entryAt s (at + 6 * j) ≡ getD items j zeros)
+    → (j : ℕ) → j < i + 1 → entryAt s (at + 6 * j) ≡ getD (set items i (entryAt s (at + 6 * i))) j zeros
 fetched-step s at i items l h j b =
     by (eqb j i)
     (λ e.
     let z : j ≡ i = eqb-true j i e in
-    rw z (sym (getD-set-same items i (entryAt s (at + 5 * i)) zeros l)))
+    rw z (sym (getD-set-same items i (entryAt s (at + 6 * i)) zeros l)))
     (λ e.
     let z = eqb-false j i e in
-    h j (omega (arith, z)) ∙ sym (getD-set-other items i j (entryAt s (at + 5 * i)) zeros z))
+    h j (omega (arith, z)) ∙ sym (getD-set-other items i j (entryAt s (at + 6 * i)) zeros z))
 
 pub fetched-row : (s : List ℕ) (at i : ℕ) (ds : List Row) → i < length ds → ((j : ℕ) → j < i → rowAt s (at + 4 * j) ≡ tableOf ds j)
     → (j : ℕ) → j < i + 1 → rowAt s (at + 4 * j) ≡ tableOf (set ds i (rowAt s (at + 4 * i))) j
@@ -116,15 +132,15 @@ fetched-row s at i ds l h j b =
 
 -- one entry put more
 pub record PutSome (s : List ℕ) (at : ℕ) (items : List Entry) (i : ℕ) (t : List ℕ) : Type 0 where
-  pub there : (j : ℕ) → j < i → entryAt t (at + 5 * j) ≡ getD items j zeros
-  pub keeps : Keeps s at 1000 t
+  pub there : (j : ℕ) → j < i → entryAt t (at + 6 * j) ≡ getD items j zeros
+  pub keeps : Keeps s at 1200 t
   pub long : length t ≡ length s
 
 pub put-none : (s : List ℕ) (at : ℕ) (items : List Entry) → PutSome s at items 0 s
 put-none s at items = record { there = λ j h. absurd (native.Mathlib.Nat.not-suc-le-zero h); keeps = λ q h. refl; long = refl }
 
-pub put-step : (s : List ℕ) (at : ℕ) (items : List Entry) (i : ℕ) (t : List ℕ) → i < 200 → at + 1000 ≤ length s → PutSome s at items i t
-    → PutSome s at items (i + 1) (putEntry t (at + 5 * i) (getD items i zeros))
+pub put-step : (s : List ℕ) (at : ℕ) (items : List Entry) (i : ℕ) (t : List ℕ) → i < 200 → at + 1200 ≤ length s → PutSome s at items i t
+    → PutSome s at items (i + 1) (putEntry t (at + 6 * i) (getD items i zeros))
 put-step s at items i t b l p =
     let e = getD items i zeros in
     record {
@@ -132,13 +148,13 @@ put-step s at items i t b l p =
           by (eqb j i)
           (λ q.
           let z : j ≡ i = eqb-true j i q in
-          rw z (entry-there t (at + 5 * i) e (omega (arith, p .long))))
+          rw z (entry-there t (at + 6 * i) e (omega (arith, p .long))))
           (λ q.
           let z = eqb-false j i q in
-          entry-same t (putEntry t (at + 5 * i) e) (at + 5 * j) (λ k m. entry-keeps t (at + 5 * i) e (at + 5 * j + k) (λ n o y. absurd (omega (arith, z))))
+          entry-same t (putEntry t (at + 6 * i) e) (at + 6 * j) (λ k m. entry-keeps t (at + 6 * i) e (at + 6 * j + k) (λ n o y. absurd (omega (arith, z))))
           ∙ p .there j (omega (arith, z)));
-      keeps = λ q h. entry-keeps t (at + 5 * i) e q (λ n o y. h (5 * i + n) (omega arith) (omega arith)) ∙ p .keeps q h;
-      long = entry-long t (at + 5 * i) e ∙ p .long;
+      keeps = λ q h. entry-keeps t (at + 6 * i) e q (λ n o y. h (6 * i + n) (omega arith) (omega arith)) ∙ p .keeps q h;
+      long = entry-long t (at + 6 * i) e ∙ p .long;
     }
 
 pub record PutRows (s : List ℕ) (at : ℕ) (ds : List Row) (i : ℕ) (t : List ℕ) : Type 0 where
@@ -176,22 +192,22 @@ away-after at n q h j l e = absurd (omega arith)
 away-before : (at n q : ℕ) → q < at → Away at n q
 away-before at n q h j l e = absurd (omega arith)
 
-module _ (s s₁ s₂ s₃ : List ℕ) (t : ℕ) (h : Inherited) (room : 1801 * t + 1801 ≤ length s) (few : h .list .count ≤ 200) (c : s₁ ≡ set s (1801 * t) (h .list .count))
-    (p : PutEntries s₁ (1801 * t + 1) (h .list) s₂) (d : PutDoms s₂ (1801 * t + 1001) (h .doms) s₃) where
+module _ (s s₁ s₂ s₃ : List ℕ) (t : ℕ) (h : Inherited) (room : 2001 * t + 2001 ≤ length s) (few : h .list .count ≤ 200) (c : s₁ ≡ set s (2001 * t) (h .list .count))
+    (p : PutEntries s₁ (2001 * t + 1) (h .list) s₂) (d : PutDoms s₂ (2001 * t + 1201) (h .doms) s₃) where
   -- a place outside the block keeps its number
-  outside : (q : ℕ) → Away (1801 * t) 1801 q → getD s₃ q 0 ≡ getD s q 0
+  outside : (q : ℕ) → Away (2001 * t) 2001 q → getD s₃ q 0 ≡ getD s q 0
   outside q a =
-      d .keeps q (λ j l e. a (1001 + j) (omega arith) (omega arith)) ∙ p .keeps q (λ j l e. a (1 + j) (omega arith) (omega arith))
-      ∙ ap (λ (z : List ℕ). getD z q 0) c ∙ getD-set-other s (1801 * t) q (h .list .count) 0 (λ e. a 0 (omega arith) (omega arith))
+      d .keeps q (λ j l e. a (1201 + j) (omega arith) (omega arith)) ∙ p .keeps q (λ j l e. a (1 + j) (omega arith) (omega arith))
+      ∙ ap (λ (z : List ℕ). getD z q 0) c ∙ getD-set-other s (2001 * t) q (h .list .count) 0 (λ e. a 0 (omega arith) (omega arith))
 
   here : Holds s₃ t h
   here =
       record {
         count =
-            d .keeps (1801 * t) (away-before (1801 * t + 1001) 800 (1801 * t) (omega arith)) ∙ p .keeps (1801 * t) (away-before (1801 * t + 1) 1000 (1801 * t) (omega arith))
-            ∙ ap (λ (z : List ℕ). getD z (1801 * t) 0) c ∙ getD-set-same s (1801 * t) (h .list .count) 0 (omega arith);
+            d .keeps (2001 * t) (away-before (2001 * t + 1201) 800 (2001 * t) (omega arith)) ∙ p .keeps (2001 * t) (away-before (2001 * t + 1) 1200 (2001 * t) (omega arith))
+            ∙ ap (λ (z : List ℕ). getD z (2001 * t) 0) c ∙ getD-set-same s (2001 * t) (h .list .count) 0 (omega arith);
         entries = λ i l.
-            entry-same s₂ s₃ (1801 * t + 1 + 5 * i) (λ j m. d .keeps (1801 * t + 1 + 5 * i + j) (away-before (1801 * t + 1001) 800 (1801 * t + 1 + 5 * i + j) (omega arith)))
+            entry-same s₂ s₃ (2001 * t + 1 + 6 * i) (λ j m. d .keeps (2001 * t + 1 + 6 * i + j) (away-before (2001 * t + 1201) 800 (2001 * t + 1 + 6 * i + j) (omega arith)))
             ∙ p .there i l;
         doms = d .there;
       }
@@ -199,11 +215,11 @@ module _ (s s₁ s₂ s₃ : List ℕ) (t : ℕ) (h : Inherited) (room : 1801 * 
   there : (u : ℕ) (g : Inherited) → (u ≡ t → ⊥) → g .list .count ≤ 200 → Holds s u g → Holds s₃ u g
   there u g n b k =
       record {
-        count = outside (1801 * u) (λ j l e. n (omega arith)) ∙ k .count;
+        count = outside (2001 * u) (λ j l e. n (omega arith)) ∙ k .count;
         entries = λ i l.
-            entry-same s s₃ (1801 * u + 1 + 5 * i) (λ j m. outside (1801 * u + 1 + 5 * i + j) (λ v o e. n (omega arith))) ∙ k .entries i l;
+            entry-same s s₃ (2001 * u + 1 + 6 * i) (λ j m. outside (2001 * u + 1 + 6 * i + j) (λ v o e. n (omega arith))) ∙ k .entries i l;
         doms = λ w l.
-            row-same s s₃ (1801 * u + 1001 + 4 * w) (λ j m. outside (1801 * u + 1001 + 4 * w + j) (λ v o e. n (omega arith))) ∙ k .doms w l;
+            row-same s s₃ (2001 * u + 1201 + 4 * w) (λ j m. outside (2001 * u + 1201 + 4 * w + j) (λ v o e. n (omega arith))) ∙ k .doms w l;
       }
 
   pub stores-by : Stores s t h s₃
@@ -211,8 +227,21 @@ module _ (s s₁ s₂ s₃ : List ℕ) (t : ℕ) (h : Inherited) (room : 1801 * 
       record {
         holds = here;
         others = there;
-        long = d .long ∙ p .long ∙ ap length c ∙ length-set s (1801 * t) (h .list .count);
+        long = d .long ∙ p .long ∙ ap length c ∙ length-set s (2001 * t) (h .list .count);
       }
+
+-- a list that stands there can be fetched
+pub held-fetched : (s : List ℕ) (t : ℕ) (h : Inherited) → Holds s t h → h .list .count ≤ length (h .list .items) → Good h → Fetched s t
+unfolding entryAt entriesOf
+held-fetched s t h p l g =
+    record {
+      count = omega (arith, p .count, g .kept .room);
+      kinds = λ i b.
+          let c : i < h .list .count = omega (arith, p .count) in
+          let k : getD s (2001 * t + 1 + 6 * i + 5) 0 ≡ 1 =
+          ap (λ (e : Entry). e .kind) (p .entries i c) ∙ apart-among (h .list .items) (h .list .count) i zeros (g .kept .apart) c l .kind in
+          omega (arith, k);
+    }
 
 -- ---- two lists that stand at one place read alike
 

@@ -47,7 +47,7 @@ pub record Receives (p : Parents) (ts : Types) (st : List ℕ) (t : ℕ) (f : Fl
 
 -- the lent slices have room
 pub record Room (p : Parents) (st b : List ℕ) : Type 0 where
-  pub store : 1801 * p .count ≤ length st
+  pub store : 2001 * p .count ≤ length st
   pub most : length st < 1000000
   pub slice : 1536 ≤ length b
 
@@ -86,7 +86,7 @@ pub record ReadyIn (n : ℕ) (tb : Table) (ts : Types) (p : Parents) (b : List �
 -- and in any that has room
 pub record ReadyInRoom (tb : Table) (ts : Types) (p : Parents) (b : List ℕ) (r : Trail) : Type 0 where
   pub most : p .count ≤ 64
-  pub within : (n : ℕ) → 1801 * p .count ≤ n → n < 1000000 → ReadyIn n tb ts p b r
+  pub within : (n : ℕ) → 2001 * p .count ≤ n → n < 1000000 → ReadyIn n tb ts p b r
 
 -- the first i types of the trail were played
 pub record PlayedTo (tb : Table) (ts : Types) (p : Parents) (old : List ℕ) (r : Trail) (i : ℕ) (st b : List ℕ) (d : Played) : Type 0 where

@@ -23,7 +23,7 @@ use Rattle.synthesis.specs.Playing.{AllReady, ReadyInRoom, AllPlayed}
 use Rattle.synthesis.specs.Synthesized.{Synthesizes, Synthesized, few, many}
 
 module _ (ts : Types) (es : Extensions) (resource : ℕ) (p : Parents) (tb : Table) (k : Tabled ts es resource tb) (r : Trail) (w : TrailOf p r) where
-  pub all-ready : (s : Sheet) → Synthesizes s ts es resource p → (b : List ℕ) → 1536 ≤ length b → (n : ℕ) → 1801 * p .count ≤ n → n < 1000000
+  pub all-ready : (s : Sheet) → Synthesizes s ts es resource p → (b : List ℕ) → 1536 ≤ length b → (n : ℕ) → 2001 * p .count ≤ n → n < 1000000
       → (st : List ℕ) → length st ≡ n → AllReady tb ts p st b r
   all-ready s z b h n l m st e =
       record {

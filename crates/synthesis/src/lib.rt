@@ -109,28 +109,28 @@ fn play_all(
 
 // What all types inherit is kept in 1,801 numbers a type, which are all set to 0 first: few for few types. Here for 8.
 fn play_few(table: Table, types: Types, p: Parents, diagnosis: &mut [u8], trail: Trail) -> usize
-    requires { ⌜ ReadyIn 14408 table types p (now diagnosis) trail ⌝ }
+    requires { ⌜ ReadyIn 16008 table types p (now diagnosis) trail ⌝ }
     ensures { λ r. ⌜ AllPlayed table types p (now (diagnosis .entry)) trail (now (diagnosis .exit)) r ⌝ }
 {
-    let mut store = [0u64; 14408];
+    let mut store = [0u64; 16008];
     play_all(table, types, p, &mut store, diagnosis, trail)
 }
 
 // For 24 types.
 fn play_some(table: Table, types: Types, p: Parents, diagnosis: &mut [u8], trail: Trail) -> usize
-    requires { ⌜ ReadyIn 43224 table types p (now diagnosis) trail ⌝ }
+    requires { ⌜ ReadyIn 48024 table types p (now diagnosis) trail ⌝ }
     ensures { λ r. ⌜ AllPlayed table types p (now (diagnosis .entry)) trail (now (diagnosis .exit)) r ⌝ }
 {
-    let mut store = [0u64; 43224];
+    let mut store = [0u64; 48024];
     play_all(table, types, p, &mut store, diagnosis, trail)
 }
 
 // For all 64.
 fn play_most(table: Table, types: Types, p: Parents, diagnosis: &mut [u8], trail: Trail) -> usize
-    requires { ⌜ ReadyIn 115264 table types p (now diagnosis) trail ⌝ }
+    requires { ⌜ ReadyIn 128064 table types p (now diagnosis) trail ⌝ }
     ensures { λ r. ⌜ AllPlayed table types p (now (diagnosis .entry)) trail (now (diagnosis .exit)) r ⌝ }
 {
-    let mut store = [0u64; 115264];
+    let mut store = [0u64; 128064];
     play_all(table, types, p, &mut store, diagnosis, trail)
 }
 

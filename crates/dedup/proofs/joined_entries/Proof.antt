@@ -2,7 +2,7 @@ use mathlib.Core.Bool.{true}
 use mathlib.Core.Logic.{⊎-elim}
 use mathlib.Core.Path.{_≡_, refl, sym, ap, _∙_}
 use mathlib.Core.List.{map}
-use Prim.Native.Nat.{_+_, _-_, _≤_, _<_}
+use Prim.Native.Nat.{ℕ, _+_, _-_, _≤_, _<_}
 use native.Mathlib.Omega.{arith}
 use lib.ListN.{length, take, drop, getD, set, length-set}
 use lib.Seq.{length-take-le}
@@ -10,7 +10,7 @@ use Rattle.lists.specs.Tabulating.{length-mapped}
 use Rattle.dedup.specs.declared.Entry.{Entry}
 use Rattle.dedup.specs.declared.Entries.{Entries}
 use Rattle.dedup.specs.Entries.{entriesOf, joinAll, stands, Sound}
-use Rattle.dedup.specs.EntryLaws.{zeros, PlaceOf}
+use Rattle.dedup.specs.EntryLaws.{apart-among, zeros, PlaceOf}
 use Rattle.dedup.specs.Reading.{underPlace, Kept, Joins}
 use Rattle.dedup.specs.JoinLaws.{sound-at, all-step, all-done, joins-shared}
 use Rattle.dedup.proofs.joined_entries.Statement.{statement}
@@ -50,6 +50,11 @@ sound c =
     let s = c .before .before in
     let l = long s in
     sound-at (s .args .t2 .items) (s .args .t2 .count) (c .before .loop .i) (s .args .parent) zeros (s .pre .1 .apart) (c .loop-test .taken) (omega (arith, s .pre .1 .room))
+
+-- an entry that stands
+standing-at : (l : Entries) (i : ℕ) → Kept l → length (l .items) ≡ 201 → i < l .count → Sound (getD (l .items) i zeros)
+unfolding entriesOf
+standing-at l i k e h = apart-among (l .items) (l .count) i zeros (k .apart) h (omega (arith, e, k .room))
 
 -- the entry joins, and the rest follows
 next : (c : tie.In-loop Inv-loop2 μ-loop2 Inv-loop μ-loop) (r : Entries) →
@@ -124,7 +129,11 @@ element-copy-out-y c = omega (arith, c .before .before .before .before .before .
 
 -- src/lib.rt:259:17
 intersection-requires : tie.Need-intersection-requires Inv-loop2 μ-loop2 Inv-loop μ-loop
-intersection-requires c κs = tt
+intersection-requires c κs =
+    let i = c .before .before .before .before .before .before .before .before .before .loop in
+    let y = standing-at (i .out) (c .before .before .before .loop2 .at) (i .inv .1) (i .inv .3) (c .before .if2 .taken) in
+    let n = sound (c .before .before .before .before .before .before .before .before) in
+    (omega (arith, y .kind), omega (arith, n .kind))
 
 -- src/lib.rt:260:13
 mul-both : tie.Need-mul-both Inv-loop2 μ-loop2 Inv-loop μ-loop

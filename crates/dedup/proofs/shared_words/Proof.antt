@@ -1,8 +1,7 @@
-use mathlib.Core.Path.{ap}
+use mathlib.Core.Path.{sym, ap, _∙_}
 use borrow.Author.Needs.{needs}
-use Rattle.lists.specs.Tests.{never}
 use Rattle.annotations.specs.Reading.{asOverlap}
-use Rattle.annotations.specs.Laws.{isByWord}
+use Rattle.dedup.specs.Entries.{sharedBy}
 use Rattle.dedup.proofs.shared_words.Statement.{statement}
 use Rattle.dedup.proofs.shared_words.Tie as tie
 
@@ -25,13 +24,19 @@ in-both-requires : tie.Need-in-both-requires
 in-both-requires c κs = search needs
 
 returns : tie.Need-returns
-returns c = never (ap isByWord (c .before .before .before .overlap-of .ensures)) (ap (λ o. isByWord (asOverlap o)) (c .before .enum-told .given .1))
+returns c =
+    let a = c .before .before .before .before .args in
+    c .empty-row .ensures ∙ ap (λ o. sharedBy o (a .x) (a .y)) (sym (ap asOverlap (c .before .enum-told .given .1)) ∙ c .before .before .before .overlap-of .ensures)
 
 returns-2 : tie.Need-returns-2
-returns-2 c = never (ap isByWord (c .before .before .overlap-of .ensures)) (ap (λ o. isByWord (asOverlap o)) (c .enum-told2 .given .1))
+returns-2 c =
+    let a = c .before .before .before .args in
+    ap (λ o. sharedBy o (a .x) (a .y)) (sym (ap asOverlap (c .enum-told2 .given .1)) ∙ c .before .before .overlap-of .ensures)
 
 returns-3 : tie.Need-returns-3
-returns-3 c = search needs
+returns-3 c =
+    let a = c .before .before .before .before .args in
+    c .in-both .ensures ∙ ap (λ o. sharedBy o (a .x) (a .y)) (sym (ap asOverlap (c .before .enum-told3 .given .1)) ∙ c .before .before .before .overlap-of .ensures)
 
 pub shared-words-spec : {M : Type 1} → statement M
 shared-words-spec =

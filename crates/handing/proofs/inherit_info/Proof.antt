@@ -9,7 +9,7 @@ use Rattle.types.specs.declared.TypeInfo.{TypeInfo}
 use Rattle.own_associates.specs.Owning.{AllFit, OwnOf}
 use Rattle.dedup.specs.declared.Inherited.{Inherited}
 use Rattle.inheritance.specs.Own.{JoinsParent}
-use Rattle.store.specs.StoreLaws.{held-good}
+use Rattle.store.specs.StoreLaws.{held-fetched, held-good}
 use Rattle.handing.specs.Handing.{Fits}
 use Rattle.handing.specs.Steps.{takes-by}
 use Rattle.handing.proofs.inherit_info.Statement.{statement}
@@ -28,7 +28,7 @@ own-associates-requires c κs =
 fetch-requires : tie.Need-fetch-requires
 fetch-requires c κs =
     let q = c .before .before .before .pre .1 .hands in
-    (q .room, q .most, omega (arith, q .holds .count, q .good .kept .room))
+    (q .room, q .most, held-fetched _ _ (q .list) (q .holds) (q .fits) (q .good))
 
 shl-bit : tie.Need-shl-bit
 shl-bit c = search needs

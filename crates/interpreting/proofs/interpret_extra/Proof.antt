@@ -3,7 +3,7 @@ use Prim.Native.Nat.{ℕ, _-_, _≤_, _<_}
 use native.Mathlib.Omega.{arith}
 use lib.ListN.{length, take, getD}
 use Rattle.lists.specs.Tabulating.{length-mapped}
-use Rattle.dedup.specs.EntryLaws.{zeros}
+use Rattle.dedup.specs.EntryLaws.{apart-among, zeros}
 use Rattle.dedup.specs.Reading.{tableOf, read, readAll}
 use Rattle.interpreting.specs.Annotations.{typeReached, typeNames, Added}
 use Rattle.interpreting.specs.AnnotationsLaws.{added-none, added-then, added-as}
@@ -78,12 +78,14 @@ loop-again c =
     let e = getD (a .h .list .items) (l .i) zeros in
     let D = tableOf (a .h .doms) in
     let n = long s in
+    let z = apart-among (a .h .list .items) (a .h .list .count) (l .i) zeros (apart-items (a .h) (s .pre .1 .0 .good)) (omega arith)
+    (omega (arith, s .pre .1 .0 .good .kept .room)) in
     let p : l .i < length (a .h .list .items) = omega (arith, s .pre .1 .0 .good .kept .room) in (
       omega arith,
       c .before .before .with-entry .kept .1 .1 .1 .1 .1 .1 .0 ∙ l .inv .1,
       added-as (a .t) (a .place) (a .limit) _ _ _ _ (typeReached (a .s) (a .made .now)) (a .buf .now) _ _ (read-step (typeNames (a .t)) D (a .h .list .items) (l .i) p) (omega (arith, total-more (a .h .list .items) (l .i) p))
           (added-then (a .t) (a .place) (a .limit) _ _ _ _ (typeReached (a .s) (a .made .now)) (typeReached (l .p) (l .made)) _ (a .buf .now) (l .buf) _ (l .inv .2)
-          (c .before .before .with-entry .ensures .added (read (typeNames (a .t)) D e) (read-resources (typeNames (a .t)) D e) (read-parents (a .t) D e))),
+          (c .before .before .with-entry .ensures .added (read (typeNames (a .t)) D e) (read-resources (typeNames (a .t)) D e z) (read-parents (a .t) D e))),
     )
 
 -- src/lib.rt:176:1

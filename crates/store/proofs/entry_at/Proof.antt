@@ -18,10 +18,34 @@ mul-parents c = search needs
 shared-slice-read-parents : tie.Need-shared-slice-read-parents
 shared-slice-read-parents c = search needs
 
+add-kind : tie.Need-add-kind
+add-kind c = search needs
+
+mul-kind : tie.Need-mul-kind
+mul-kind c = search needs
+
+shared-slice-read-kind : tie.Need-shared-slice-read-kind
+shared-slice-read-kind c = search needs
+
+cast-kind : tie.Need-cast-kind
+cast-kind c = search needs
+
 returns : tie.Need-returns
 unfolding entryAt
-returns c = ap (λ r. record { words = r; parents = getD (c .before .before .before .args .s .now) (c .before .before .before .args .at + 4) 0 }) (c .before .row-at .ensures)
+returns c =
+    let a = c .before .before .before .before .args in
+    ap (λ r. record { kind = getD (a .s .now) (a .at + 5) 0; words = r; parents = getD (a .s .now) (a .at + 4) 0 }) (c .before .before .row-at .ensures)
 
 pub entry-at-spec : {M : Type 1} → statement M
 entry-at-spec =
-    tie.close (tie.spec row-at-requires add-parents mul-parents shared-slice-read-parents returns)
+    tie.close
+    (tie.spec
+    row-at-requires
+    add-parents
+    mul-parents
+    shared-slice-read-parents
+    add-kind
+    mul-kind
+    shared-slice-read-kind
+    cast-kind
+    returns)

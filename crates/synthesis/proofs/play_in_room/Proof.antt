@@ -6,7 +6,7 @@ use Rattle.synthesis.proofs.play_in_room.Tie as tie
 play-few-requires : tie.Need-play-few-requires
 play-few-requires c κs =
     let s = c .before .before .before .before .pre in
-    s .within 14408 (omega (arith, s .most)) (omega arith)
+    s .within 16008 (omega (arith, s .most)) (omega arith)
 
 same-length : tie.Need-same-length
 same-length c = search needs
@@ -17,7 +17,7 @@ returns c = search needs
 play-some-requires : tie.Need-play-some-requires
 play-some-requires c κs =
     let s = c .before .before .before .before .before .before .pre in
-    s .within 43224 (omega (arith, s .most)) (omega arith)
+    s .within 48024 (omega (arith, s .most)) (omega arith)
 
 same-length-2 : tie.Need-same-length-2
 same-length-2 c = search needs
@@ -28,7 +28,7 @@ returns-2 c = search needs
 play-most-requires : tie.Need-play-most-requires
 play-most-requires c κs =
     let s = c .before .before .before .before .before .before .pre in
-    s .within 115264 (omega (arith, s .most)) (omega arith)
+    s .within 128064 (omega (arith, s .most)) (omega arith)
 
 same-length-3 : tie.Need-same-length-3
 same-length-3 c = search needs
