@@ -50,7 +50,7 @@ pub record DomsWith (D : List Row) (a : AnnotationInfo) (E : List Row) : Type 0 
   pub doms : a .count ≤ length (a .doms)
   pub at : (w : ℕ) → w < 200 → tableOf E w ≡ joined (tableOf D) (λ v. elem v (wordsIn a)) (rowFor (wordsIn a) (rowsIn a)) w
 
--- 'an inherited NestAssociate entering it as an Associate'
+-- The kind under which an associate is handed on: a NestAssociate becomes an Associate (FORMAT 8.7).
 unfoldable pub inheritedKind : ℕ → ℕ
 inheritedKind k = cond (eqb k 2) 1 k
 

@@ -128,7 +128,7 @@ added-few n r (e ∷ es) d h =
 module _ {m : TypeMap} {t : Table} (o : TableOf m t) where
   extensions-are : ofExtensions (t .extensions) ≡ m .extensions
   unfolding tableMap bareMap lineMapOf
-  extensions-are = ap (λ (M : Rattle.definitions.specs.Map.Map). M .extensions) (o .map)
+  extensions-are = ap (λ (M : Rattle.definitions.specs.Map.LineMap). M .extensions) (o .map)
 
   few-parents : (e : Extension) → In e (ofExtensions (t .extensions)) → length (e .parents) ≤ 8
   unfolding ofExtensions places extensionOf

@@ -27,7 +27,8 @@ use Rattle.reading_laws.specs.Answers.{first-seven-exactly}
 use Rattle.line_laws.specs.Statements.{lineMap, anyRefused}
 use Rattle.synthesis_laws.specs.Statements.{Ordered}
 use Rattle.synthesis_laws.specs.Rows.{rows-are-tested}
-use Rattle.relisting_laws.specs.Statements.{AnswersAlike, SchedulesEqual, ListingsEqual, HeldIsCompared, numberAlone, ShortSlice, ShortSlicesAlike}
+use Rattle.schedule_laws.specs.OneToOne.{bytes-determine, order-bytes-determine}
+use Rattle.relisting_laws.specs.Statements.{AnswersAlike, SchedulesEqual, ReadAlike, OrderReadAlike, ListingsEqual, HeldIsCompared, numberAlone, ShortSlice, ShortSlicesAlike}
 
 -- ---- 2
 
@@ -180,6 +181,12 @@ kept i =
     (λ r. record { behind = sym (take-append-drop (r .size tt) (i .listing)); whole = λ n. refl })
     (record { behind = overwritten (pack (bitsWritten (i .call) (scheduleOf (i .call) (typeMapIn i)))) (i .listing); whole = λ n. absurd (n refl) })
     (refusals i)
+
+pub read-alike : ReadAlike
+read-alike i j h e W W′ s t l k p q = bytes-determine W W′ s t l k (sym p ∙ answers-alike i j h .written e ∙ q)
+
+pub order-read-alike : OrderReadAlike
+order-read-alike i j h e W W′ ns ms l k p q = order-bytes-determine W W′ ns ms l k (sym p ∙ answers-alike i j h .written e ∙ q)
 
 pub listings-equal : ListingsEqual
 listings-equal i j h l =

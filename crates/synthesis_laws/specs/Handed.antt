@@ -419,7 +419,7 @@ module _ (s : Sheet) where
           let a = merged-ascending (heard T) (heard-ascending T) e i in
           record {
             sorted = a .doms u j;
-            each = λ d.
+            exactly = λ d.
                 let x = use-doms e a u j d in
                 let y = merged-entry (heard T) (u .word) (dom d) i (has-in j refl) in
                 let z = heard-says T (u .word) (some d) in
@@ -431,7 +431,7 @@ module _ (s : Sheet) where
           let a = merged-ascending (heard T) (heard-ascending T) e i in
           record {
             sorted = a .parents;
-            each = λ q.
+            exactly = λ q.
                 let y = merged-entry (heard T) r (parent q) i w in
                 let z = heard-parent T r q in
                 (λ k. z .0 (y .0 (w, k)), λ h. y .1 (z .1 h) .1);

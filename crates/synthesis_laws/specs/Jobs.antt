@@ -160,7 +160,7 @@ module _ (s : Sheet) (ok : Readable s) (order : hasOrder (typeMapOf s) ≡ true)
   pub job-is : (e : Entry) → In e left → (u : AssociatedResource) → In u (e .uses) → jobOf (e .parents) u ≡ inheritedJob (lineMap s) (lineTypeOf T) As (u .word)
   job-is e i u j =
       let r = u .word in
-      let w : Annotations.hasWord (e .uses) r ≡ true = has-in j refl in
+      let w : Annotations.hasAssociatedWord (e .uses) r ≡ true = has-in j refl in
       let ds : u .doms ≡ domsAbove As r = doms-one (u .doms) (domsAbove As r) (left-doms s (ok .once) order T e i u j) (doms-are s ok T r) in
       let p = left-parents s (ok .once) order T e i r w in
       let ps : e .parents ≡ namesPassing (lineMap s) (lineTypeOf T) r =
@@ -178,7 +178,7 @@ module _ (s : Sheet) (ok : Readable s) (order : hasOrder (typeMapOf s) ≡ true)
 
   words-once : Distinct words
   words-once =
-      sorted-each (λ a b. (r : ℕ) → Annotations.hasWord (a .uses) r ≡ true → Annotations.hasWord (b .uses) r ≡ true → ⊥) (λ r q. r ≡ q → ⊥)
+      sorted-each (λ a b. (r : ℕ) → Annotations.hasAssociatedWord (a .uses) r ≡ true → Annotations.hasAssociatedWord (b .uses) r ≡ true → ⊥) (λ r q. r ≡ q → ⊥)
       (λ (e : Entry). map (λ (u : AssociatedResource). u .word) (e .uses)) left
       (λ e i.
       sorted-map (λ (u v : AssociatedResource). ltb (u .word) (v .word) ≡ true) (λ r q. r ≡ q → ⊥) (λ (u : AssociatedResource). u .word) (e .uses)
