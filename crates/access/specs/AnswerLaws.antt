@@ -3,8 +3,8 @@ use mathlib.Core.Bool.{Bool, true, false, not}
 use mathlib.Core.List.{List, [], _∷_, _++_}
 use mathlib.Core.Logic.{⊎-elim}
 use mathlib.Core.Path.{_≡_, refl, sym, ap, _∙_}
-use Prim.Native.Nat.{ℕ, _≤_, _<_}
-use borrow.Author.Tests.{lt-ltb, le-ltb}
+use Prim.Native.Nat.{ℕ, _≤_}
+use borrow.Author.Tests.{le-ltb}
 use lib.Dec.{ltb}
 use lib.ListN.{length, take, drop}
 use Rattle.lists.specs.Lists.{null}
@@ -28,13 +28,10 @@ use Rattle.decoding.specs.Decoding.{turnedBack, decoded}
 use Rattle.decoding.specs.Statements.{Why, unread, fill, words, twice}
 use Rattle.decoding.specs.DecodingLaws.{turned-back-why}
 use Rattle.laws.specs.Alike.{first-holds, first-passed}
-use Rattle.access.specs.declared.Answer.{Answer}
-use Rattle.access.specs.Answers.{outcomeOf, inputOf}
+use Rattle.answers.specs.declared.Answer.{Answer}
+use Rattle.answers.specs.Answers.{outcomeOf, inputOf}
+use Rattle.answers.specs.Telling.{hasParts, untouched}
 use Rattle.access.specs.Ending.{bitsFor, ended}
-
--- refusals 1 to 7 leave both lent slices as they were (FORMAT 7.4)
-abbrev pub untouched : ℕ → List ℕ → List ℕ → Outcome
-untouched n l d = outcomeOf (Answer.Refused n) l d
 
 module _ (call : Call) (s l d : List ℕ) where
   abbrev i : Input
@@ -100,15 +97,7 @@ module _ (call : Call) (s l d : List ℕ) where
         (λ k. with-rows h k))
         (λ h. no-order h)
 
-  -- ---- 1 to 7
-
-  pub one : 40960 < length s → untouched 1 l d ≡ outcome i
-  unfolding outcome refusals
-  one h = bare-first 1 _ [] (drop 1 (refusals i)) tt (lt-ltb 40960 (length s) h)
-
-  pub two : length s ≤ 40960 → length d < 1536 → untouched 2 l d ≡ outcome i
-  unfolding outcome refusals
-  two h k = bare-first 2 _ (take 1 (refusals i)) (drop 2 (refusals i)) (le-ltb 40960 (length s) h, tt) (lt-ltb (length d) 1536 k)
+  -- ---- 3 to 7
 
   module _ (h : length s ≤ 40960) (k : 1536 ≤ length d) where
     p1 : ltb 40960 (length s) ≡ false
@@ -176,3 +165,13 @@ module _ (call : Call) (s l d : List ℕ) where
     -- what remains of a sheet: 8, 9, 10 and acceptance
     pub remains : (t : Sheet) → Holds s t → outcome i ≡ ended call (typeMapOf t) l d
     remains t q = left-over t (q .rest) (q .read) (q .fill) (q .words) (q .once)
+
+-- and its number stands alone
+pub turned-alone : (s : List ℕ) (n : ℕ) → decoded s ≡ turnedBack n → hasParts n ≡ false
+turned-alone s n e = go (turned-back-why s n e)
+  where
+    go : Why s n → hasParts n ≡ false
+    go (unread q) = ⊎-elim (λ (t : n ≡ 3). ap hasParts t) (λ (t : n ≡ 4). ap hasParts t) (refused-with-3-or-4 (bitsOf s) n q)
+    go (fill t rest q a g) = ap hasParts g
+    go (words t rest q a b g) = ap hasParts g
+    go (twice t rest q a b c g) = ap hasParts g

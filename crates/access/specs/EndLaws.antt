@@ -1,5 +1,5 @@
 -- What the parts of a call leave is what is due.
-use mathlib.Core.Bool.{Bool, true, false, not}
+use mathlib.Core.Bool.{Bool, true, false, not, cond}
 use mathlib.Core.List.{List}
 use mathlib.Core.Path.{_≡_, sym, ap, _∙_}
 use Prim.Native.Nat.{ℕ, _<_}
@@ -9,6 +9,7 @@ use Rattle.lists.specs.Tests.{by}
 use Rattle.lists.specs.Appending.{map-checked}
 use Rattle.definitions.specs.Map.{TypeMap}
 use Rattle.definitions.specs.Order.{organizeTypeMap}
+use Rattle.definitions.specs.OrderRows.{orderRows}
 use Rattle.definitions.specs.Packing.{orderBits}
 use Rattle.definitions.specs.Answer.{Call, order, scheduleOf}
 use Rattle.ordering.specs.declared.Parents.{Parents}
@@ -18,33 +19,42 @@ use Rattle.ordering.specs.Organized.{Organized, placesIn}
 use Rattle.diagnosis.specs.Reported.{Reported}
 use Rattle.packing.specs.declared.Listed.{Listed}
 use Rattle.packing.specs.Order.{nameAt, orderNames, Listing}
-use Rattle.access.specs.declared.Answer.{Answer}
-use Rattle.access.specs.Answers.{outcomeOf}
-use Rattle.access.specs.Ending.{listed, ended, Unordered, answerFor, Ended}
+use Rattle.answers.specs.declared.Answer.{Answer}
+use Rattle.answers.specs.Answers.{parts, Answered}
+use Rattle.answers.specs.Telling.{Tells}
+use Rattle.answers.specs.TellingLaws.{answered, answered-as}
+use Rattle.access.specs.Ending.{diagnosed, listed, ended, Unordered, Ended}
 
 -- ---- the parts that both calls have
 
 -- 8
-pub diagnosed-so : (p : Parents) (d d′ : List ℕ) (rows : ℕ) (more : Bool) → Reported p 256 d d′ rows more → Unordered p d d′ (Answer.Diagnosed 8 rows more)
-diagnosed-so p d d′ rows more q = record { due = λ m e l. rw (q .written m e, q .counted m e, q .rest m e) }
+pub diagnosed-so : (p : Parents) (d d′ : List ℕ) (rows : ℕ) (more : Bool) (a : Answer) → Reported p 256 d d′ rows more → Tells a (parts 8 0 rows more) → Unordered p d d′ a
+diagnosed-so p d d′ rows more a q t = record { due = λ m e l. answered a _ l d′ _ t (eight m e l) }
+  where
+    eight : (m : TypeMap) → Reads p m → (l : List ℕ) → record { answer = parts 8 0 rows more; listing = l; diagnosis = d′ } ≡ diagnosed 8 (orderRows m) l d
+    eight m e l = rw (q .written m e, q .counted m e, q .rest m e)
 
 -- 10 and acceptance
-pub listed-so : (bits : List Bool) (l l′ d : List ℕ) (w : Listed) (a : Answer) → Listing l l′ bits w → a ≡ answerFor w → outcomeOf a l′ d ≡ listed bits l d
-listed-so bits l l′ d w a q e =
-    by (w .short)
-    (λ s. rw (e, sym (q .short) ∙ s, q .listing, s, q .sized))
-    (λ s. rw (e, sym (q .short) ∙ s, q .listing, s, q .sized))
+pub listed-so : (bits : List Bool) (l l′ d : List ℕ) (w : Listed) (a : Answer) → Listing l l′ bits w → Tells a (parts (cond (w .short) 10 0) (w .size) 0 false) →
+    Answered a l′ d (listed bits l d)
+listed-so bits l l′ d w a q t = answered a _ l′ d _ t due
+  where
+    due : record { answer = parts (cond (w .short) 10 0) (w .size) 0 false; listing = l′; diagnosis = d } ≡ listed bits l d
+    due =
+        by (w .short)
+        (λ s. rw (sym (q .short) ∙ s, q .listing, s, q .sized))
+        (λ s. rw (sym (q .short) ∙ s, q .listing, s, q .sized))
 
 -- where the code finds no order, 8 is due to either call
 pub unordered-so : (call : Call) (p : Parents) (r : Order) → Organized p r → (m : TypeMap) → Reads p m → (l d d′ : List ℕ) (a : Answer) → not (r .found) ≡ true →
-    Unordered p d d′ a → outcomeOf a l d′ ≡ ended call m l d
+    Unordered p d d′ a → Answered a l d′ (ended call m l d)
 unfolding ended
-unordered-so call p r o m e l d d′ a f q = q .due m e l ∙ sym (rw (sym (o .found m e) ∙ not-true (r .found) f))
+unordered-so call p r o m e l d d′ a f q = answered-as a l d′ _ _ (q .due m e l) (sym (rw (sym (o .found m e) ∙ not-true (r .found) f)))
 
 -- ---- the order-only call
 
 module _ (p : Parents) (r : Order) (o : Organized p r) where
-  pub no-order : (l d d′ : List ℕ) (a : Answer) → not (r .found) ≡ true → Unordered p d d′ a → Ended p l d (outcomeOf a l d′)
+  pub no-order : (l d d′ : List ℕ) (a : Answer) → not (r .found) ≡ true → Unordered p d d′ a → Ended p l d a l d′
   no-order l d d′ a f q = record { due = λ m e n. unordered-so order p r o m e l d d′ a f q }
 
   -- the names that are written are those of the order
@@ -58,11 +68,13 @@ module _ (p : Parents) (r : Order) (o : Organized p r) where
   abbrev written : List Bool
   written = orderBits (orderNames (p .firsts) (p .seconds) (r .items) (r .count))
 
-  pub ordered : (l l′ d : List ℕ) (w : Listed) (a : Answer) → not (r .found) ≡ false → Listing l l′ written w → a ≡ answerFor w → Ended p l d (outcomeOf a l′ d)
+  pub ordered : (l l′ d : List ℕ) (w : Listed) (a : Answer) → not (r .found) ≡ false → Listing l l′ written w →
+      Tells a (parts (cond (w .short) 10 0) (w .size) 0 false) → Ended p l d a l′ d
   unfolding ended scheduleOf
-  ordered l l′ d w a f q g = record {
+  ordered l l′ d w a f q t = record {
     due = λ m e n.
-        listed-so written l l′ d w a q g
-        ∙ ap (λ (names : List (List ℕ)). listed (orderBits names) l d) (names-are m e n)
-        ∙ sym (rw (sym (o .found m e) ∙ not-false (r .found) f));
+        answered-as a l′ d _ _
+        (listed-so written l l′ d w a q t)
+        (ap (λ (names : List (List ℕ)). listed (orderBits names) l d) (names-are m e n)
+        ∙ sym (rw (sym (o .found m e) ∙ not-false (r .found) f)));
   }

@@ -1,5 +1,5 @@
 -- What a call does with a map that tests 1 to 7 let pass: 8, 9, 10 or acceptance.
-use mathlib.Core.Bool.{Bool, cond}
+use mathlib.Core.Bool.{Bool, false, cond}
 use mathlib.Core.List.{List}
 use mathlib.Core.Path.{_≡_}
 use Prim.Native.Nat.{ℕ, _<_, min}
@@ -15,23 +15,25 @@ use Rattle.definitions.specs.Packing.{rowBytes}
 use Rattle.definitions.specs.Answer.{Call, order, Outcome, scheduleOf, bitsWritten, synthesisRows, overwrite}
 use Rattle.ordering.specs.declared.Parents.{Parents}
 use Rattle.ordering.specs.Reading.{Reads, typeAt}
-use Rattle.packing.specs.declared.Listed.{Listed}
 use Rattle.packing.specs.Order.{nameAt}
-use Rattle.access.specs.declared.Answer.{Answer}
-use Rattle.access.specs.Answers.{outcomeOf}
+use Rattle.answers.specs.declared.Answer.{Answer}
+use Rattle.answers.specs.Answers.{parts, Answered}
 
 -- 8 and 9: at most 256 rows are written, and no byte behind them changes (FORMAT 8.2)
 abbrev pub diagnosed : ℕ → List Row → List ℕ → List ℕ → Outcome
-diagnosed n rows listing diagnosis =
-    outcomeOf (Answer.Diagnosed n (min 256 (length rows)) (ltb 256 (length rows))) listing (overwrite (each rowBytes (take 256 rows)) diagnosis)
+diagnosed n rows listing diagnosis = record {
+  answer = parts n 0 (min 256 (length rows)) (ltb 256 (length rows));
+  listing = listing;
+  diagnosis = overwrite (each rowBytes (take 256 rows)) diagnosis;
+}
 
 -- 10 names the size that is needed and touches nothing; acceptance writes the bits and names their size (FORMAT 7.4)
 abbrev pub listed : List Bool → List ℕ → List ℕ → Outcome
 listed bits listing diagnosis =
     cond
     (ltb (length listing) (size (length bits)))
-    (outcomeOf (Answer.TooShort (size (length bits))) listing diagnosis)
-    (outcomeOf (Answer.Accepted (size (length bits))) (overwrite (pack bits) listing) diagnosis)
+    (record { answer = parts 10 (size (length bits)) 0 false; listing = listing; diagnosis = diagnosis })
+    (record { answer = parts 0 (size (length bits)) 0 false; listing = overwrite (pack bits) listing; diagnosis = diagnosis })
 
 -- the bits that a call writes for a map
 abbrev pub bitsFor : Call → TypeMap → List Bool
@@ -48,12 +50,9 @@ ended call m listing diagnosis =
 
 -- 8, for every map that p reads
 pub record Unordered (p : Parents) (entry exit : List ℕ) (r : Answer) : Type 0 where
-  pub due : (m : TypeMap) → Reads p m → (listing : List ℕ) → outcomeOf r listing exit ≡ diagnosed 8 (orderRows m) listing entry
-
--- what is answered of a listing: 10 or acceptance
-abbrev pub answerFor : Listed → Answer
-answerFor w = cond (w .short) (Answer.TooShort (w .size)) (Answer.Accepted (w .size))
+  pub due : (m : TypeMap) → Reads p m → (listing : List ℕ) → Answered r listing exit (diagnosed 8 (orderRows m) listing entry)
 
 -- what the order-only call owes to every map that p reads with the names of its types
-pub record Ended (p : Parents) (listing diagnosis : List ℕ) (o : Outcome) : Type 0 where
-  pub due : (m : TypeMap) → Reads p m → ((t : ℕ) → t < p .count → nameAt (p .firsts) (p .seconds) t ≡ typeAt m t .name) → o ≡ ended order m listing diagnosis
+pub record Ended (p : Parents) (listing diagnosis : List ℕ) (r : Answer) (listing′ diagnosis′ : List ℕ) : Type 0 where
+  pub due : (m : TypeMap) → Reads p m → ((t : ℕ) → t < p .count → nameAt (p .firsts) (p .seconds) t ≡ typeAt m t .name)
+      → Answered r listing′ diagnosis′ (ended order m listing diagnosis)

@@ -1,4 +1,3 @@
-pub mod Answers
 pub mod Ending
 pub mod Lines
 pub mod Starting

@@ -27,8 +27,8 @@ use Rattle.reading_laws.specs.Statements.{NoneHolds}
 use Rattle.reading_laws.specs.Refusals.{all-pass}
 use Rattle.reading_laws.specs.Answers.{accepted-exactly}
 use Rattle.reading_laws.specs.RoundTrip.{refused-with-3-or-4}
-use Rattle.access.specs.declared.Answer.{Answer}
-use Rattle.access.specs.Answers.{outcomeOf, scheduleInput}
+use Rattle.answers.specs.declared.Answer.{Answer}
+use Rattle.answers.specs.Answers.{answerOf, Answered, scheduleInput}
 use Rattle.access.specs.Lines.{Lists, LinesListed}
 
 -- no row: no type is refused, and each line stands once among the items
@@ -110,10 +110,11 @@ module _ (s l d : List ℕ) (e : outcome (scheduleInput s l d) .answer .number �
     lines = items-listed t (record { readable = record { words = holds .words; once = holds .once }; order = has-order }) no-rows;
   }
 
--- so the answer that is due has this too
-pub due-lists : (s l d l′ d′ : List ℕ) (a : Answer) → outcomeOf a l′ d′ ≡ outcome (scheduleInput s l d) → LinesListed s l l′ a
-due-lists s l d l′ d′ a e = record {
+-- so what a call promises has this too
+pub due-lists : (s l d l′ d′ : List ℕ) (a : Answer) → Answered a l′ d′ (outcome (scheduleInput s l d)) → LinesListed s l l′ (answerOf a .number)
+due-lists s l d l′ d′ a h = record {
   accepted = λ q.
+      let e = h .outcome in
       let n : outcome (scheduleInput s l d) .answer .number ≡ 0 = sym (ap (λ (o : Outcome). o .answer .number) e) ∙ q in
       let g : outcome (scheduleInput s l d) .listing ≡ l′ = sym (ap (λ (o : Outcome). o .listing) e) in
       rw g at (accepted-lists s l d n);

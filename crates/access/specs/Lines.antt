@@ -9,8 +9,6 @@ use Rattle.definitions.specs.Packing.{scheduleBits}
 use Rattle.definitions.specs.Answer.{schedule, scheduleOf, overwrite}
 use Rattle.definitions.specs.Relisted.{Holds}
 use Rattle.synthesis_laws.specs.Statements.{MakesLines}
-use Rattle.access.specs.declared.Answer.{Answer}
-use Rattle.access.specs.Answers.{answerOf}
 
 -- the listing has the schedule of the sheet that the bytes hold: each line of its map once, and nothing else (FORMAT 5.2)
 pub record Lists (bytes entry exit : List ℕ) : Type 0 where
@@ -19,6 +17,6 @@ pub record Lists (bytes entry exit : List ℕ) : Type 0 where
   pub written : exit ≡ overwrite (pack (scheduleBits (scheduleOf schedule (typeMapOf s)))) entry
   pub lines : MakesLines s (scheduleOf schedule (typeMapOf s) .items)
 
--- so it is where the call accepts
-pub record LinesListed (bytes entry exit : List ℕ) (r : Answer) : Type 0 where
-  pub accepted : answerOf r .number ≡ 0 → Lists bytes entry exit
+-- so it is where the number that is answered is 0, acceptance
+pub record LinesListed (bytes entry exit : List ℕ) (number : ℕ) : Type 0 where
+  pub accepted : number ≡ 0 → Lists bytes entry exit

@@ -1,11 +1,12 @@
 -- What the parts of the schedule call leave is what is due.
-use mathlib.Core.Bool.{Bool, true, false, not}
-use mathlib.Core.List.{List, [], _∷_}
-use mathlib.Core.Path.{_≡_, refl, sym, ap, _∙_}
-use Prim.Native.Nat.{ℕ, _≤_, _<_}
-use native.Mathlib.Omega.{arith}
-use lib.ListN.{length, take}
+use mathlib.Core.Bool.{Bool, true, false, not, cond}
+use mathlib.Core.List.{List, []}
+use mathlib.Core.Path.{_≡_, sym, ap, _∙_}
+use Prim.Native.Nat.{ℕ}
+use borrow.Author.Tests.{not-true, not-false}
+use lib.ListN.{take}
 use Rattle.lists.specs.Lists.{null, each}
+use Rattle.lists.specs.Tests.{null-nil}
 use Rattle.definitions.specs.Records.{Sheet, Row}
 use Rattle.definitions.specs.Map.{typeMapOf}
 use Rattle.definitions.specs.Order.{hasOrder}
@@ -22,26 +23,20 @@ use Rattle.packing.specs.declared.Listed.{Listed}
 use Rattle.packing.specs.Order.{Listing}
 use Rattle.line_laws.specs.Statements.{lineMap, anyRefused}
 use Rattle.synthesis_laws.specs.Rows.{rows-are-tested}
-use Rattle.access.specs.declared.Answer.{Answer}
-use Rattle.access.specs.Answers.{outcomeOf}
-use Rattle.access.specs.Ending.{ended, Unordered, answerFor}
+use Rattle.answers.specs.declared.Answer.{Answer}
+use Rattle.answers.specs.Answers.{parts, Answered}
+use Rattle.answers.specs.Telling.{Tells, RowsRefuse}
+use Rattle.answers.specs.TellingLaws.{answered, answered-as}
+use Rattle.access.specs.Ending.{ended, Unordered}
 use Rattle.access.specs.EndLaws.{unordered-so, listed-so}
 use Rattle.access.specs.Starting.{Starts, Started, rowsOf, Rows}
-
-none-null : (l : List Row) → length l ≡ 0 → l ≡ []
-none-null [] h = refl
-none-null (x ∷ l) h = absurd (omega (arith, h))
-
-some-not-null : (l : List Row) → 0 < length l → null l ≡ false
-some-not-null [] h = absurd (omega (arith, h))
-some-not-null (x ∷ l) h = refl
 
 pub starts-valid : (ts : Types) (es : Extensions) (resource : ℕ) (p : Parents) → Started ts es resource p → Valid p
 starts-valid ts es resource p h = valid p (typeMapOf (h .s)) (h .starts .reads)
 
 module _ (ts : Types) (es : Extensions) (resource : ℕ) (p : Parents) (r : Order) (o : Organized p r) (s : Sheet) (h : Starts s ts es resource p) where
   -- 8
-  pub no-order : (l d d′ : List ℕ) (a : Answer) → not (r .found) ≡ true → Unordered p d d′ a → outcomeOf a l d′ ≡ ended schedule (typeMapOf s) l d
+  pub no-order : (l d d′ : List ℕ) (a : Answer) → not (r .found) ≡ true → Unordered p d d′ a → Answered a l d′ (ended schedule (typeMapOf s) l d)
   no-order l d d′ a f q = unordered-so schedule p r o (typeMapOf s) (h .reads) l d d′ a f q
 
   module _ (f : r .found ≡ true) where
@@ -54,28 +49,31 @@ module _ (ts : Types) (es : Extensions) (resource : ℕ) (p : Parents) (r : Orde
 
     -- 10 and acceptance
     module _ (n : rowsOf s ≡ []) where
-      pub accepted : (l l′ d : List ℕ) (w : Listed) (a : Answer) → Listing l l′ (scheduleBits (scheduleOf schedule (typeMapOf s))) w → a ≡ answerFor w →
-          outcomeOf a l′ d ≡ ended schedule (typeMapOf s) l d
+      pub accepted : (l l′ d : List ℕ) (w : Listed) (a : Answer) → Listing l l′ (scheduleBits (scheduleOf schedule (typeMapOf s))) w →
+          Tells a (parts (cond (w .short) 10 0) (w .size) 0 false) → Answered a l′ d (ended schedule (typeMapOf s) l d)
       unfolding ended
-      accepted l l′ d w a g e = listed-so (scheduleBits (scheduleOf schedule (typeMapOf s))) l l′ d w a g e ∙ sym (rw (has-order, ap null n))
+      accepted l l′ d w a g t =
+          answered-as a l′ d _ _ (listed-so (scheduleBits (scheduleOf schedule (typeMapOf s))) l l′ d w a g t) (sym (rw (has-order, ap null n)))
 
     -- no type is refused
     pub tested : anyRefused (lineMap s) ≡ false → rowsOf s ≡ []
     tested e = rows-are-tested s (record { readable = h .readable; order = has-order }) .1 e
 
-    module _ (d d′ : List ℕ) (count : ℕ) (more : Bool) (q : Rows s d d′ count more) where
+    module _ (d d′ : List ℕ) (count : ℕ) (more : Bool) (q : Rows s d d′ count more) (b : Bool) (x : RowsRefuse count b) where
       -- 9
-      pub with-rows : (l : List ℕ) → 0 < count → outcomeOf (Answer.Diagnosed 9 count more) l d′ ≡ ended schedule (typeMapOf s) l d
+      pub with-rows : (l : List ℕ) (a : Answer) → b ≡ true → Tells a (parts 9 0 count more) → Answered a l d′ (ended schedule (typeMapOf s) l d)
       unfolding ended
-      with-rows l n = rw (has-order, some-not-null (rowsOf s) (omega (arith, q .counted)), q .counted, q .rest, q .written)
+      with-rows l a n t =
+          let some : null (rowsOf s) ≡ false = not-true (null (rowsOf s)) (sym (x .exactly (rowsOf s) (q .counted)) ∙ n) in
+          answered a _ l d′ _ t (rw (has-order, some, q .counted, q .rest, q .written))
 
-      no-rows : count ≤ 0 → rowsOf s ≡ []
-      no-rows n = none-null (rowsOf s) (omega (arith, q .counted))
+      no-rows : b ≡ false → rowsOf s ≡ []
+      no-rows n = null-nil (rowsOf s) (not-false (null (rowsOf s)) (sym (x .exactly (rowsOf s) (q .counted)) ∙ n))
 
       -- no row was written
-      untouched : count ≤ 0 → d′ ≡ d
+      untouched : b ≡ false → d′ ≡ d
       untouched n = q .written ∙ ap (λ (rs : List Row). overwrite (each rowBytes (take 256 rs)) d) (no-rows n)
 
-      pub scheduled : (l l′ : List ℕ) (w : Listed) (a : Answer) → count ≤ 0 → Listing l l′ (scheduleBits (scheduleOf schedule (typeMapOf s))) w → a ≡ answerFor w →
-          outcomeOf a l′ d′ ≡ ended schedule (typeMapOf s) l d
-      scheduled l l′ w a n g e = ap (λ (x : List ℕ). outcomeOf a l′ x) (untouched n) ∙ accepted (no-rows n) l l′ d w a g e
+      pub scheduled : (l l′ : List ℕ) (w : Listed) (a : Answer) → b ≡ false → Listing l l′ (scheduleBits (scheduleOf schedule (typeMapOf s))) w →
+          Tells a (parts (cond (w .short) 10 0) (w .size) 0 false) → Answered a l′ d′ (ended schedule (typeMapOf s) l d)
+      scheduled l l′ w a n g t = rw (untouched n) (accepted (no-rows n) l l′ d w a g t)

@@ -10,7 +10,7 @@ use Rattle.definitions.specs.Records.{Sheet, Row}
 use Rattle.definitions.specs.Map.{typeMapOf}
 use Rattle.definitions.specs.Synthesis.{synthesis}
 use Rattle.definitions.specs.Packing.{rowBytes}
-use Rattle.definitions.specs.Answer.{schedule, Outcome, overwrite}
+use Rattle.definitions.specs.Answer.{schedule, overwrite}
 use Rattle.line_laws.specs.Statements.{Readable}
 use Rattle.line_laws.specs.Within.{Within}
 use Rattle.types.specs.declared.Types.{Types}
@@ -19,6 +19,8 @@ use Rattle.types.specs.Types.{ofTypes}
 use Rattle.types.specs.Extensions.{ofExtensions}
 use Rattle.ordering.specs.declared.Parents.{Parents}
 use Rattle.ordering.specs.Reading.{Reads}
+use Rattle.answers.specs.declared.Answer.{Answer}
+use Rattle.answers.specs.Answers.{Answered}
 use Rattle.access.specs.Ending.{ended}
 
 -- the map of a sheet that none of 1 to 7 refuses, as the code holds it; it may have no order
@@ -44,5 +46,5 @@ pub record Rows (s : Sheet) (entry exit : List ℕ) (count : ℕ) (more : Bool) 
   pub written : exit ≡ overwrite (each rowBytes (take 256 (rowsOf s))) entry
 
 -- what is due to every such sheet
-pub record Scheduled (ts : Types) (es : Extensions) (resource : ℕ) (p : Parents) (listing diagnosis : List ℕ) (o : Outcome) : Type 0 where
-  pub due : (s : Sheet) → Starts s ts es resource p → o ≡ ended schedule (typeMapOf s) listing diagnosis
+pub record Scheduled (ts : Types) (es : Extensions) (resource : ℕ) (p : Parents) (listing diagnosis : List ℕ) (r : Answer) (listing′ diagnosis′ : List ℕ) : Type 0 where
+  pub due : (s : Sheet) → Starts s ts es resource p → Answered r listing′ diagnosis′ (ended schedule (typeMapOf s) listing diagnosis)

@@ -1,8 +1,8 @@
 // The public calls.
+use answers::Answer;
 use decoding::Decoded;
 use ordering::Order;
 use ordering::Parents;
-use packing::Listed;
 use types::Extensions;
 use types::Types;
 ghost use mathlib.Core.Bool.{true};
@@ -12,37 +12,18 @@ ghost use lib.ListN.{length};
 ghost use Rattle.definitions.specs.Answer.{outcome};
 ghost use Rattle.ordering.specs.Organized.{Organized};
 ghost use Rattle.ordering.specs.Reading.{Valid};
-ghost use Rattle.access.specs.Answers.{outcomeOf, orderInput, scheduleInput};
-ghost use Rattle.access.specs.Ending.{Unordered, answerFor, Ended};
+ghost use Rattle.answers.specs.Answers.{answerOf, Answered, orderInput, scheduleInput};
+ghost use Rattle.access.specs.Ending.{Unordered, Ended};
 ghost use Rattle.access.specs.Lines.{LinesListed};
 ghost use Rattle.access.specs.Starting.{Started, Scheduled};
-ghost use Rattle.access.specs.Testing.{early, Tests};
-
-// What a call answers: the size written; the number of a refusal; its number, how many rows were
-// written and whether there are more; the size that the listing lacks.
-pub enum Answer {
-    Accepted(usize),
-    Refused(usize),
-    Diagnosed(usize, usize, bool),
-    TooShort(usize),
-}
-
-// Tests 1 and 2, for a sheet of `size` bytes and a diagnosis slice of `room`; 0 where both pass.
-fn refused_early(size: usize, room: usize) -> usize
-    ensures { λ r. ⌜ r ≡ early size room ⌝ }
-{
-    if 40960 < size {
-        return 1;
-    }
-    if room < 1536 { 2 } else { 0 }
-}
+ghost use Rattle.access.specs.Testing.{Tests};
 
 // Tests 1 to 7, for a diagnosis slice of `room` bytes: 1 and 2 before the sheet is read, the others as the decoder finds them
 // (FORMAT 7.3).
 fn test(sheet: &[u8], room: usize) -> Decoded
     ensures { λ r. ⌜ Tests (now (sheet .entry)) room r ⌝ }
 {
-    let number = refused_early(sheet.len(), room);
+    let number = answers::refused_early(sheet.len(), room);
     if 0 < number {
         return decoding::turned_back(number);
     }
@@ -55,25 +36,15 @@ fn no_order(p: Parents, diagnosis: &mut [u8]) -> Answer
     requires { ⌜ 1536 ≤ length (now diagnosis) ⌝ }
     ensures { λ r. ⌜ Unordered p (now (diagnosis .entry)) (now (diagnosis .exit)) r ⌝ }
 {
-    let report = diagnosis::diagnose(p, diagnosis, 256);
-    Answer::Diagnosed(8, report.rows, report.more)
-}
-
-// 10, or acceptance.
-fn answer_for(listed: Listed) -> Answer
-    ensures { λ r. ⌜ r ≡ answerFor listed ⌝ }
-{
-    if listed.short {
-        return Answer::TooShort(listed.size);
-    }
-    Answer::Accepted(listed.size)
+    let report = diagnosis::diagnose(p, diagnosis, answers::ROWS);
+    answers::no_order(report.rows, report.more)
 }
 
 // Writes the order, if there is one: 8, 10 or acceptance.
 fn end_order(p: Parents, listing: &mut [u8], diagnosis: &mut [u8]) -> Answer
     requires { ⌜ Valid p ⌝ }
     requires { ⌜ 1536 ≤ length (now diagnosis) ⌝ }
-    ensures { λ r. ⌜ Ended p (now (listing .entry)) (now (diagnosis .entry)) (outcomeOf r (now (listing .exit)) (now (diagnosis .exit))) ⌝ }
+    ensures { λ r. ⌜ Ended p (now (listing .entry)) (now (diagnosis .entry)) r (now (listing .exit)) (now (diagnosis .exit)) ⌝ }
 {
     let order = ordering::organize_type_map(p);
     if !order.found {
@@ -83,16 +54,16 @@ fn end_order(p: Parents, listing: &mut [u8], diagnosis: &mut [u8]) -> Answer
     let seconds = p.seconds;
     let items = order.items;
     let listed = packing::write_order(listing, firsts, seconds, items, order.count);
-    answer_for(listed)
+    answers::listed(listed.short, listed.size)
 }
 
 // The order-only call.
 pub fn order(sheet: &[u8], listing: &mut [u8], diagnosis: &mut [u8]) -> Answer
-    ensures { λ r. ⌜ outcomeOf r (now (listing .exit)) (now (diagnosis .exit)) ≡ outcome (orderInput (now (sheet .entry)) (now (listing .entry)) (now (diagnosis .entry))) ⌝ }
+    ensures { λ r. ⌜ Answered r (now (listing .exit)) (now (diagnosis .exit)) (outcome (orderInput (now (sheet .entry)) (now (listing .entry)) (now (diagnosis .entry)))) ⌝ }
 {
     let tested = test(sheet, diagnosis.len());
     if !tested.ok {
-        return Answer::Refused(tested.refusal);
+        return answers::refused(tested.refusal);
     }
     let types = tested.types;
     let parents = parents::parents_of(types, tested.self_word);
@@ -112,15 +83,15 @@ fn end_synthesis(
     requires { ⌜ Started types extensions resource p ⌝ }
     requires { ⌜ Organized p order ⌝ }
     requires { ⌜ (order .found ≡ true) × (1536 ≤ length (now diagnosis)) ⌝ }
-    ensures { λ r. ⌜ Scheduled types extensions resource p (now (listing .entry)) (now (diagnosis .entry)) (outcomeOf r (now (listing .exit)) (now (diagnosis .exit))) ⌝ }
+    ensures { λ r. ⌜ Scheduled types extensions resource p (now (listing .entry)) (now (diagnosis .entry)) r (now (listing .exit)) (now (diagnosis .exit)) ⌝ }
 {
     let report = synthesis::apply_associate_annotations(types, extensions, resource, p, diagnosis);
-    if 0 < report.rows {
-        return Answer::Diagnosed(9, report.rows, report.more);
+    if answers::rows_refuse(report.rows) {
+        return answers::type_refused(report.rows, report.more);
     }
     let tried = listing::write_schedule(listing, true, types, extensions, resource, p, order);
     let listed = tried.listed;
-    answer_for(listed)
+    answers::listed(listed.short, listed.size)
 }
 
 // Writes the schedule, if there is one: 8, 9, 10 or acceptance. The synthesis runs where the quick test can't tell that no
@@ -135,7 +106,7 @@ fn end_schedule(
 ) -> Answer
     requires { ⌜ Started types extensions resource p ⌝ }
     requires { ⌜ 1536 ≤ length (now diagnosis) ⌝ }
-    ensures { λ r. ⌜ Scheduled types extensions resource p (now (listing .entry)) (now (diagnosis .entry)) (outcomeOf r (now (listing .exit)) (now (diagnosis .exit))) ⌝ }
+    ensures { λ r. ⌜ Scheduled types extensions resource p (now (listing .entry)) (now (diagnosis .entry)) r (now (listing .exit)) (now (diagnosis .exit)) ⌝ }
 {
     let order = ordering::organize_type_map(p);
     if !order.found {
@@ -144,19 +115,19 @@ fn end_schedule(
     let tried = listing::write_schedule(listing, false, types, extensions, resource, p, order);
     if tried.decided {
         let listed = tried.listed;
-        return answer_for(listed);
+        return answers::listed(listed.short, listed.size);
     }
     end_synthesis(types, extensions, resource, p, order, listing, diagnosis)
 }
 
 // The schedule call.
 pub fn schedule(sheet: &[u8], listing: &mut [u8], diagnosis: &mut [u8]) -> Answer
-    ensures { λ r. ⌜ outcomeOf r (now (listing .exit)) (now (diagnosis .exit)) ≡ outcome (scheduleInput (now (sheet .entry)) (now (listing .entry)) (now (diagnosis .entry))) ⌝ }
-    ensures { λ r. ⌜ LinesListed (now (sheet .entry)) (now (listing .entry)) (now (listing .exit)) r ⌝ }
+    ensures { λ r. ⌜ Answered r (now (listing .exit)) (now (diagnosis .exit)) (outcome (scheduleInput (now (sheet .entry)) (now (listing .entry)) (now (diagnosis .entry)))) ⌝ }
+    ensures { λ r. ⌜ LinesListed (now (sheet .entry)) (now (listing .entry)) (now (listing .exit)) (answerOf r .number) ⌝ }
 {
     let tested = test(sheet, diagnosis.len());
     if !tested.ok {
-        return Answer::Refused(tested.refusal);
+        return answers::refused(tested.refusal);
     }
     let types = tested.types;
     let extensions = tested.extensions;

@@ -8,14 +8,17 @@ use borrow.Author.Tests.{lt-ltb, le-ltb}
 use lib.Dec.{eqb, ltb}
 use lib.ListN.{length, getD, set}
 use lib.Seq.{sets-eq}
-use Rattle.lists.specs.Tests.{by}
+use Rattle.lists.specs.Tests.{by, never}
+use Rattle.definitions.specs.Relisted.{Alike}
 use Rattle.definitions.specs.Answer.{standard, Input, Answer, Outcome, overwrite, outcome}
-use Rattle.definitions.specs.Relisted.{RelistedInputs, Alike}
-use Rattle.access.specs.declared.Answer as held
-use Rattle.access.specs.Answers.{answerOf, outcomeOf}
+use Rattle.answers.specs.declared.Answer as held
+use Rattle.answers.specs.Answers.{answerOf, Answered}
+use Rattle.access.specs.Lines.{LinesListed}
 use Rattle.relisting_laws.specs.Alike.{answers-alike, listings-equal}
 use Rattle.answer_laws.specs.Sizes as sizes
-use Rattle.exports.specs.Exports.{flag, tooFewParts, told, exported, Exported, Small}
+use Rattle.exports.specs.Exports.{flag, tooFewParts, told, exported, Exported}
+use Rattle.exports.specs.Parts.{Small}
+use Rattle.exports.specs.Statements.{ExportedAlike, ExportsAlike}
 
 pub small : (i : Input) → i .settings ≡ standard → Small (outcome i .answer)
 small i e = record {
@@ -51,37 +54,64 @@ three l a b c h = sets-eq (a ∷ b ∷ c ∷ []) l 0 h
 
 -- ---- the calls
 
-pub too-few : (i : Input) (parts : List ℕ) → length parts < 3 → record { number = tooFewParts; parts = parts; listing = i .listing; diagnosis = i .diagnosis } ≡ exported i parts
-unfolding exported
-too-few i parts h = rw (lt-ltb (length parts) 3 h)
+-- what is told where fewer than three numbers are lent, and where more are
+module _ (i : Input) (parts : List ℕ) where
+  nothing-told : ltb (length parts) 3 ≡ true → exported i parts ≡ record { number = tooFewParts; parts = parts; listing = i .listing; diagnosis = i .diagnosis }
+  unfolding exported
+  nothing-told e = rw e
 
-module _ (i : Input) (e : i .settings ≡ standard) (a : held.Answer) (l d : List ℕ) (o : outcomeOf a l d ≡ outcome i) where
+  all-told : ltb (length parts) 3 ≡ false → exported i parts ≡ told (outcome i) parts
+  unfolding exported
+  all-told e = rw e
+
+  pub too-few : length parts < 3 → record { number = tooFewParts; parts = parts; listing = i .listing; diagnosis = i .diagnosis } ≡ exported i parts
+  too-few h = sym (nothing-told (lt-ltb (length parts) 3 h))
+
+-- then no line is promised
+pub none-listed : (s l l′ : List ℕ) → LinesListed s l l′ tooFewParts
+none-listed s l l′ = record { accepted = λ e. absurd (omega (arith, e)) }
+
+module _ (i : Input) (e : i .settings ≡ standard) (a : held.Answer) (l d : List ℕ) (h : Answered a l d (outcome i)) where
   pub small-answer : Small (answerOf a)
-  small-answer = subst Small (sym (ap (λ (x : Outcome). x .answer) o)) (small i e)
+  small-answer = subst Small (sym (ap (λ (x : Outcome). x .answer) (h .outcome))) (small i e)
 
   pub told-all : (number : ℕ) (parts new : List ℕ) → 3 ≤ length parts → number ≡ answerOf a .number
       → new ≡ overwrite (answerOf a .size ∷ answerOf a .rows ∷ flag (answerOf a .more) ∷ []) parts
       → record { number = number; parts = new; listing = l; diagnosis = d } ≡ exported i parts
-  unfolding exported
-  told-all number parts new h n p =
+  told-all number parts new k n p =
       ap₂ (λ (x : ℕ) (y : List ℕ). record { number = x; parts = y; listing = l; diagnosis = d }) n p
-      ∙ ap (λ (x : Outcome). told x parts) o
-      ∙ sym (rw (le-ltb (length parts) 3 h))
+      ∙ ap (λ (x : Outcome). told x parts) (h .outcome)
+      ∙ sym (all-told i parts (le-ltb (length parts) 3 k))
 
 -- ---- demand 3
 
--- what relisted sheets have in common (FORMAT 5.5), for callers who lend as many numbers; and the listings are equal where
--- the lent ones were
-pub record ExportedAlike (i j : Input) (x y : Exported) : Type 0 where
-  pub number : x .number ≡ y .number
-  pub size : getD (x .parts) 0 0 ≡ getD (y .parts) 0 0
-  pub answers : Alike i j
-  pub listings : i .listing ≡ j .listing → x .listing ≡ y .listing
+pub exports-alike : ExportsAlike
+exports-alike i j a b n h = by (ltb (length a) 3) few enough
+  where
+    k : Alike i j
+    k = answers-alike i j h
 
-pub exports-alike : (i j : Input) (a : List ℕ) → RelistedInputs i j → ExportedAlike i j (exported i a) (exported j a)
-unfolding exported
-exports-alike i j a h =
-    let k = answers-alike i j h in
-    by (ltb (length a) 3)
-    (λ e. rw e (record { number = refl; size = refl; answers = k; listings = λ l. l }))
-    (λ e. rw e (record { number = k .number; size = k .size; answers = k; listings = λ l. listings-equal i j h l }))
+    as-many : (t : Bool) → ltb (length a) 3 ≡ t → ltb (length b) 3 ≡ t
+    as-many t e = sym (ap (λ (m : ℕ). ltb m 3) n) ∙ e
+
+    few : ltb (length a) 3 ≡ true → ExportedAlike i j a b
+    few e =
+        let x = nothing-told i a e in
+        let y = nothing-told j b (as-many true e) in
+        record {
+          answers = k;
+          number = ap (λ (z : Exported). z .number) x ∙ sym (ap (λ (z : Exported). z .number) y);
+          size = λ l. never e (le-ltb (length a) 3 l);
+          listings = λ l. ap (λ (z : Exported). z .listing) x ∙ l ∙ sym (ap (λ (z : Exported). z .listing) y);
+        }
+
+    enough : ltb (length a) 3 ≡ false → ExportedAlike i j a b
+    enough e =
+        let x = all-told i a e in
+        let y = all-told j b (as-many false e) in
+        record {
+          answers = k;
+          number = ap (λ (z : Exported). z .number) x ∙ k .number ∙ sym (ap (λ (z : Exported). z .number) y);
+          size = λ _. ap (λ (z : Exported). getD (z .parts) 0 0) x ∙ k .size ∙ sym (ap (λ (z : Exported). getD (z .parts) 0 0) y);
+          listings = λ l. ap (λ (z : Exported). z .listing) x ∙ listings-equal i j h l ∙ sym (ap (λ (z : Exported). z .listing) y);
+        }

@@ -1,20 +1,15 @@
--- What the exported calls answer: the number is returned, and the size, the count of rows and the flag go into a lent slice
--- of three numbers.
+-- What the exported calls tell: the number is returned; the size, the count of rows and the flag go into three lent numbers.
 use mathlib.Core.Bool.{Bool, true, false, cond}
 use mathlib.Core.List.{List, [], _∷_}
-use Prim.Native.Nat.{ℕ, _^_, _<_}
-use lib.Dec.{eqb, ltb}
+use Prim.Native.Nat.{ℕ}
+use lib.Dec.{ltb}
 use lib.ListN.{length}
-use Rattle.definitions.specs.Answer.{Answer, Input, Outcome, overwrite, outcome}
-use Rattle.exports.specs.declared.Parts.{Parts}
+use Rattle.definitions.specs.Answer.{Input, Outcome, overwrite, outcome}
 
 -- 1 if more rows exist
 abbrev pub flag : Bool → ℕ
 flag true = 1
 flag false = 0
-
-abbrev pub partsOf : Parts → Answer
-partsOf p = record { number = p .number; size = p .size; rows = p .rows; more = eqb (p .more) 1 }
 
 -- the returned number, and the lent slices at exit
 pub record Exported : Type 0 where
@@ -40,9 +35,3 @@ tooFewParts = 255
 unfoldable pub exported : Input → List ℕ → Exported
 exported i parts =
     cond (ltb (length parts) 3) (record { number = tooFewParts; parts = parts; listing = i .listing; diagnosis = i .diagnosis }) (told (outcome i) parts)
-
--- the parts fit 32 bits
-pub record Small (a : Answer) : Type 0 where
-  pub number : a .number < 2 ^ 32
-  pub size : a .size < 2 ^ 32
-  pub rows : a .rows < 2 ^ 32

@@ -1,2 +1,4 @@
 pub mod Exports
+pub mod Parts
+pub mod Statements
 pub mod ExportLaws

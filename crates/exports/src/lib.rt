@@ -1,12 +1,14 @@
 // The calls for C and Rust, for `rt staticlib exports`. See include/gidzelma.h.
-use access::Answer;
+use answers::Answer;
 ghost use mathlib.Core.List.{[], _∷_};
 ghost use mathlib.Core.Path.{_≡_};
 ghost use Prim.Native.Nat.{_<_, _≤_};
 ghost use lib.ListN.{length};
 ghost use Rattle.definitions.specs.Answer.{overwrite};
-ghost use Rattle.access.specs.Answers.{answerOf, orderInput, scheduleInput};
-ghost use Rattle.exports.specs.Exports.{partsOf, exported, Small};
+ghost use Rattle.answers.specs.Answers.{answerOf, orderInput, scheduleInput};
+ghost use Rattle.access.specs.Lines.{LinesListed};
+ghost use Rattle.exports.specs.Exports.{exported};
+ghost use Rattle.exports.specs.Parts.{partsOf, Small};
 
 // What is answered where fewer than three numbers are lent for the parts.
 const TOO_FEW_PARTS: u32 = 255;
@@ -87,7 +89,7 @@ pub extern "C" fn gidzelma_order(
     tell(answer, parts)
 }
 
-// The schedule call, likewise.
+// The schedule call, likewise; the lines of an accepted map stand in the listing, as `access::schedule` promises.
 #[no_mangle]
 pub extern "C" fn gidzelma_schedule(
     sheet: &[u8],
@@ -96,6 +98,7 @@ pub extern "C" fn gidzelma_schedule(
     parts: &mut [u32],
 ) -> u32
     ensures { λ r. ⌜ record { number = r; parts = now (parts .exit); listing = now (listing .exit); diagnosis = now (diagnosis .exit) } ≡ exported (scheduleInput (now (sheet .entry)) (now (listing .entry)) (now (diagnosis .entry))) (now (parts .entry)) ⌝ }
+    ensures { λ r. ⌜ LinesListed (now (sheet .entry)) (now (listing .entry)) (now (listing .exit)) r ⌝ }
 {
     if parts.len() < 3 { // no room for size, rows and flag
         return TOO_FEW_PARTS; // and nothing is touched

@@ -1,7 +1,7 @@
 // Answers for each sheet of standard input: with its refusal by 3 to 7, 0 for none, of the sheet alone, or also of the sheet
 // cut to each shorter length and with each single bit flipped; or with what the order program prints for it. tools/damage
 // makes the input, and by a model of its own what must come out.
-use access::Answer;
+use answers::Answer;
 ghost use Prim.Native.Nat.{_+_, _≤_, _<_};
 ghost use lib.ListN.{length};
 
@@ -14,7 +14,7 @@ fn wide(b: u8) -> usize
 // A listing of one byte is too short or is filled: neither 8 nor 10 is asked for here.
 fn refusal(sheet: &[u8]) -> usize {
     let mut listing = [0u8; 1];
-    let mut diagnosis = [0u8; 1536];
+    let mut diagnosis = [0u8; answers::DIAGNOSIS];
     match access::order(sheet, &mut listing, &mut diagnosis) {
         Answer::Accepted(_) => 0,
         Answer::Refused(n) => n,

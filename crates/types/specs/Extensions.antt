@@ -1,6 +1,6 @@
 -- What the answers of the code on extensions mean, as the definitions' parsers give it.
 use mathlib.Core.Bool.{Bool, cond}
-use mathlib.Core.List.{List, []}
+use mathlib.Core.List.{List, [], _∷_}
 use lib.ListN.{drop}
 use Rattle.lists.specs.Tabulating.{places}
 use Rattle.definitions.specs.Parse.{Parsed, done, refused}
@@ -16,6 +16,10 @@ extensionOf e = record { name = nameOf (e .name); word = e .word; parents = ofNa
 
 abbrev pub ofExtensionRead : List Bool → ExtensionRead → Parsed records.Extension
 ofExtensionRead bs r = cond (r .ok) (done (extensionOf (r .extension)) (drop (r .next .at) bs)) (refused (r .refusal))
+
+-- an extension that is none yet: 255, which numbers no word, for its type's name and its word, and no parents
+abbrev pub noExtension : records.Extension
+noExtension = record { name = 255 ∷ []; word = 255; parents = [] }
 
 -- what stands past the end of an array of extensions
 abbrev pub zeroExtension : Extension

@@ -66,6 +66,10 @@ typeInfoOf t = record {
 abbrev pub ofTypeInfoRead : List Bool → TypeInfoRead → Parsed records.TypeInfo
 ofTypeInfoRead bs r = cond (r .ok) (done (typeInfoOf (r .info)) (drop (r .next .at) bs)) (refused (r .refusal))
 
+-- a type that is none yet: no parents, no annotations, no marks, and 255, which numbers no word, for its name
+abbrev pub noType : records.TypeInfo
+noType = record { name = 255 ∷ []; variant = domain; virtual = false; trait = false; parents = []; annotations = []; marks = [] }
+
 -- what stands past the end of an array of types
 abbrev pub zeroType : TypeInfo
 zeroType = record {

@@ -16,8 +16,8 @@ ghost use lib.ListN.{length, drop};
 ghost use Rattle.definitions.specs.Bits.{bitsOf};
 ghost use Rattle.definitions.specs.Parse.{repeat, counted};
 ghost use Rattle.definitions.specs.Reading.{typeInfo, extension};
-ghost use Rattle.types.specs.Types.{headingOf, head, body, ofHeadRead, typeInfoOf, ofTypeInfoRead, ofTypes};
-ghost use Rattle.types.specs.Extensions.{extensionOf, ofExtensionRead, ofExtensions, ofExtensionsRead};
+ghost use Rattle.types.specs.Types.{headingOf, head, body, ofHeadRead, typeInfoOf, ofTypeInfoRead, noType, ofTypes};
+ghost use Rattle.types.specs.Extensions.{extensionOf, ofExtensionRead, noExtension, ofExtensions, ofExtensionsRead};
 
 // What a type begins with. The variant is the sheet's number: 0 a domain, 1 a resource, 2 any other (FORMAT 2.6).
 pub struct Head {
@@ -110,7 +110,10 @@ fn read_head(s: &[u8], c: Cursor, limit: usize) -> HeadRead
     }
 }
 
-pub fn no_type() -> TypeInfo {
+// What an array of types is filled with.
+pub fn no_type() -> TypeInfo
+    ensures { λ r. ⌜ typeInfoOf r ≡ noType ⌝ }
+{
     let parents = fields::no_names();
     let annotations = records::no_annotations();
     let marks = records::no_marks();
@@ -201,7 +204,10 @@ pub fn no_types() -> Types
     }
 }
 
-pub fn no_extension() -> Extension {
+// What an array of extensions is filled with.
+pub fn no_extension() -> Extension
+    ensures { λ r. ⌜ extensionOf r ≡ noExtension ⌝ }
+{
     let parents = fields::no_names();
     Extension {
         name: Name {

@@ -1,6 +1,7 @@
-use mathlib.Core.Path.{refl, ap, _∙_}
+use mathlib.Core.Path.{refl, ap}
 use mathlib.Core.List.{List}
 use Prim.Native.Nat.{ℕ}
+use Rattle.answers.specs.TellingLaws.{answered-as}
 use Rattle.access.specs.ScheduleLaws.{starts-valid, no-order, held, tested, accepted}
 use Rattle.definitions.specs.Map.{typeMapOf}
 use Rattle.definitions.specs.Answer.{schedule}
@@ -32,8 +33,8 @@ write-schedule-requires c κs =
     let f = not-false _ (c .before .if1 .left) in
     (record { sheet = p .0 .s; held = held _ _ _ _ (o .result) (o .ensures) (p .0 .s) (p .0 .starts) f; word = p .0 .starts .word }, (o .ensures, f))
 
-answer-for-requires : tie.Need-answer-for-requires
-answer-for-requires c κs = search needs
+listed-requires : tie.Need-listed-requires
+listed-requires c κs = search needs
 
 same-length-2 : tie.Need-same-length-2
 same-length-2 c = search needs
@@ -48,7 +49,7 @@ returns-2 c =
           let k = held _ _ _ _ (o .result) (o .ensures) s h f in
           let d = c .before .before .if2 .taken in
           accepted _ _ _ _ (o .result) (o .ensures) s h f (tested _ _ _ _ (o .result) (o .ensures) s h f (w .ensures .tests refl d s k (h .word)))
-          _ _ _ (w .result .listed) (c .answer-for .result) (w .ensures .lists d .lists s k (h .word)) (c .answer-for .ensures);
+          _ _ _ (w .result .listed) (c .listed2 .result) (w .ensures .lists d .lists s k (h .word)) (c .listed2 .ensures);
     }
 
 end-synthesis-requires : tie.Need-end-synthesis-requires
@@ -69,7 +70,7 @@ returns-3 c =
     let y = c .before .before .before .before .end-synthesis in
     let w = c .before .before .before .before .before .before .before .before .before .before .write-schedule in
     let e = w .ensures .untouched (c .before .before .before .before .before .before .before .if2 .left) in
-    record { due = λ s h. y .ensures .due s h ∙ ap (λ (l : List ℕ). ended schedule (typeMapOf s) l (a .diagnosis .now)) e }
+    record { due = λ s h. answered-as (y .result) _ _ _ _ (y .ensures .due s h) (ap (λ (l : List ℕ). ended schedule (typeMapOf s) l (a .diagnosis .now)) e) }
 
 pub end-schedule-spec : {M : Type 1} → statement M
 end-schedule-spec =
@@ -80,7 +81,7 @@ end-schedule-spec =
     same-length
     returns
     write-schedule-requires
-    answer-for-requires
+    listed-requires
     same-length-2
     returns-2
     end-synthesis-requires

@@ -2,23 +2,20 @@ use Rattle.access.specs.EndLaws.{diagnosed-so}
 use borrow.Author.Needs.{needs}
 use Rattle.access.proofs.no_order.Statement.{statement}
 use Rattle.access.proofs.no_order.Tie as tie
-use Rattle.access.proofs.no_order.Reads as reads
-use Rattle.access.proofs.no_order.Lts as lts
-use Rattle.diagnosis.proofs.diagnose.Reads as diagnose-reads
 
--- src/lib.rt:42:9
 diagnose-requires : tie.Need-diagnose-requires
 diagnose-requires c κs = search needs
 
--- src/lib.rt:37:1
+no-order-requires : tie.Need-no-order-requires
+no-order-requires c κs = search needs
+
 same-length : tie.Need-same-length
 same-length c = search needs
 
--- src/lib.rt:37:1
 returns : tie.Need-returns
 returns c =
-    let d = c .before .before .diagnose in
-    diagnosed-so _ _ _ (d .result .rows) (d .result .more) (d .ensures)
+    let d = c .before .before .before .diagnose in
+    diagnosed-so _ _ _ (d .result .rows) (d .result .more) (c .no-order .result) (d .ensures) (c .no-order .ensures)
 
 pub no-order-spec : {M : Type 1} → statement M
-no-order-spec = tie.close (tie.spec diagnose-requires same-length returns)
+no-order-spec = tie.close (tie.spec diagnose-requires no-order-requires same-length returns)

@@ -1,5 +1,4 @@
-use denote.Ref.{now}
-use Rattle.access.specs.TestLaws.{as-early, not-early, as-decoded}
+use Rattle.access.specs.TestLaws.{as-early, as-decoded}
 use borrow.Author.Needs.{needs}
 use Rattle.access.proofs.test.Statement.{statement}
 use Rattle.access.proofs.test.Tie as tie
@@ -14,14 +13,11 @@ returns : tie.Need-returns
 returns c = as-early _ _ _ _ (c .before .before .refused-early .ensures) (c .before .if1 .taken) (c .turned-back .ensures)
 
 decode-requires : tie.Need-decode-requires
-decode-requires c κs =
-    let a = c .before .before .before .args in
-    not-early (now (a .sheet)) (a .room) _ (c .before .refused-early .ensures) (c .if1 .left) .0
+decode-requires c κs = c .before .refused-early .ensures .passed (c .if1 .left) .0
 
 returns-2 : tie.Need-returns-2
 returns-2 c =
-    let a = c .before .before .before .before .args in
-    let q = not-early (now (a .sheet)) (a .room) _ (c .before .before .refused-early .ensures) (c .before .if1 .left) in
+    let q = c .before .before .refused-early .ensures .passed (c .before .if1 .left) in
     as-decoded _ _ _ (q .0) (q .1) (c .decode .ensures)
 
 pub test-spec : {M : Type 1} → statement M

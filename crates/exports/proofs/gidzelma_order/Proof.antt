@@ -4,10 +4,6 @@ use Rattle.exports.specs.ExportLaws.{too-few, small-answer, told-all}
 use borrow.Author.Needs.{needs}
 use Rattle.exports.proofs.gidzelma_order.Statement.{statement}
 use Rattle.exports.proofs.gidzelma_order.Tie as tie
-use Rattle.exports.proofs.gidzelma_order.Reads as reads
-use Rattle.exports.proofs.gidzelma_order.Lts as lts
-use Rattle.access.proofs.order.Reads as order-reads
-use Rattle.exports.proofs.tell.Reads as tell-reads
 
 returns : tie.Need-returns
 returns c = too-few _ _ (c .if1 .taken)

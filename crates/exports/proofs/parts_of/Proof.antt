@@ -3,15 +3,12 @@ use mathlib.Core.Bool.{Bool}
 use mathlib.Core.Path.{sym, ap, _∙_}
 use Prim.Native.Nat.{ℕ}
 use lib.Dec.{eqb}
-use Rattle.access.specs.Answers.{answerOf}
+use Rattle.answers.specs.Answers.{answerOf}
 use Rattle.exports.specs.Exports.{flag}
 use Rattle.exports.specs.ExportLaws.{flag-is, accepted, refused, diagnosed-number, diagnosed-rows, too-short}
 use borrow.Author.Needs.{needs}
 use Rattle.exports.proofs.parts_of.Statement.{statement}
 use Rattle.exports.proofs.parts_of.Tie as tie
-use Rattle.exports.proofs.parts_of.Reads as reads
-use Rattle.exports.proofs.parts_of.Lts as lts
-use Rattle.exports.proofs.flag.Reads as flag-reads
 
 enum-known-a : tie.Need-enum-known-a
 enum-known-a c = search needs

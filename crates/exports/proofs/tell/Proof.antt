@@ -4,14 +4,11 @@ use Prim.Native.Nat.{ℕ}
 use native.Mathlib.Omega.{arith}
 use lib.ListN.{length-set}
 use Rattle.definitions.specs.Answer.{Answer, overwrite}
-use Rattle.access.specs.Answers.{answerOf}
+use Rattle.answers.specs.Answers.{answerOf}
 use Rattle.exports.specs.ExportLaws.{three}
 use borrow.Author.Needs.{needs}
 use Rattle.exports.proofs.tell.Statement.{statement}
 use Rattle.exports.proofs.tell.Tie as tie
-use Rattle.exports.proofs.tell.Reads as reads
-use Rattle.exports.proofs.tell.Lts as lts
-use Rattle.exports.proofs.parts_of.Reads as parts-of-reads
 
 parts-of-requires : tie.Need-parts-of-requires
 parts-of-requires c κs = search needs

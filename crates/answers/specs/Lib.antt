@@ -1,0 +1,5 @@
+pub mod Answers
+pub mod Telling
+pub mod Statements
+pub mod TellingLaws
+pub mod Cases
