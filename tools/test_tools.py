@@ -877,7 +877,7 @@ BELIEVED = {
         "pub enum Answer {\n    Yes,\n}\n\nfn helper() -> u8\n    ensures { private }\n{\n    1\n}\n\n"
         "// The call.\npub fn order() -> Answer\n    ensures { λ r. ⌜ answerOf r ≡ outcome ⌝ }\n    ensures { Promised }\n{\n    helper()\n}\n",
     "crates/exports/src/lib.rt": "fn none() -> u8 {\n    1\n}\n",
-    "README.md": "Before.\n<!-- believed: written by tools/believed --write README.md -->\n<!-- end of believed -->\nAfter.\n",
+    "README.md": "Before.\n<!-- believed: written by tools/believed --write -->\n<!-- end of believed -->\nAfter.\n",
 }
 
 
@@ -922,7 +922,8 @@ class Believed(unittest.TestCase):
     def test_repository(self):
         """What the definitions use of the lists counts; README.md has the table as it is printed."""
         self.assertIn("`crates/lists/specs/Lists.antt`", self.tool("believed")[1].decode())
-        self.assertEqual(self.tool("believed", "--check", os.path.join(ROOT, "README.md"))[::2], (0, ""))
+        for name in ("README.md", os.path.join("docs", "BELIEVE.md")):
+            self.assertEqual(self.tool("believed", "--check", os.path.join(ROOT, name))[::2], (0, ""))
 
 
 if __name__ == "__main__":
