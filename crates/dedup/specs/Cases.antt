@@ -54,6 +54,23 @@ pub joined-read :
 unfolding join merge unlessEmpty inter diff none common without either read resourcesAt namesAt domsOf between has hasBit single
 joined-read = refl
 
+-- ---- the kinds decide: a NestAssociate (2) shares words with another, and nothing with an Associate
+
+abbrev nested : Entry → Entry
+nested e = record { kind = 2; words = e .words; parents = e .parents }
+
+pub nested-shared : inter (nested first) (nested second) ≡ nested (inter first second)
+unfolding inter
+nested-shared = refl
+
+pub unlike-shared : unlessEmpty (inter first (nested second)) ≡ []
+unfolding unlessEmpty inter none
+unlike-shared = refl
+
+pub unlike-left : diff first (nested second) ≡ first
+unfolding diff
+unlike-left = refl
+
 -- ---- what the functions require is met by lists at the limits
 
 pub first-sound : Sound first

@@ -8,7 +8,7 @@ use native.Mathlib.Omega.{arith}
 use lib.Bits.{bitAnd, bitOr, bitXor, and-zero-r, and-comm, and-self, xor-zero-r, xor-self}
 use lib.ListN.{length, getD, set, take}
 use lib.Seq.{getD-take, length-take-le}
-use Rattle.lists.specs.Lists.{all, filter}
+use Rattle.lists.specs.Lists.{all}
 use Rattle.lists.specs.Tests.{by, never, and-left, and-right, neither, and-both}
 use Rattle.lists.specs.Appending.{any-append, all-append}
 use Rattle.rows.specs.declared.Row.{Row}

@@ -2,7 +2,7 @@
 use mathlib.Core.Bool.{true}
 use mathlib.Core.List.{List, [], _∷_, map}
 use mathlib.Core.Path.{_≡_, refl, sym, ap, ap₂, _∙_}
-use Prim.Native.Nat.{ℕ, zero, suc, _+_, _<_, _≤_}
+use Prim.Native.Nat.{ℕ, _+_, _<_, _≤_}
 use native.Mathlib.Numerals.{add-one}
 use native.Mathlib.Omega.{arith}
 use lib.Bits.{or-zero-r}
@@ -15,7 +15,7 @@ use Rattle.definitions.specs.Inherited.{dedupOnto}
 use Rattle.dedup.specs.declared.Entry.{Entry}
 use Rattle.dedup.specs.declared.Entries.{Entries}
 use Rattle.dedup.specs.declared.Inherited.{Inherited}
-use Rattle.dedup.specs.Entries.{inter, merge, join, joinAll, entriesOf, stands, Sound, covers, Apart, nil, cons, Full}
+use Rattle.dedup.specs.Entries.{inter, merge, join, joinAll, entriesOf, stands, Sound, covers, Apart, nil, Full}
 use Rattle.dedup.specs.EntryLaws.{join-apart, apart-among, zeros, PlaceOf, merge-same}
 use Rattle.dedup.specs.Reading.{readAll, tableOf, inheritedOf, joined, Clean, Kept, Good, Joins, JoinsAll, Nothing, Unites, noDoms, underPlace}
 use Rattle.dedup.specs.ReadingLaws.{join-is, join-full, join-all-is, join-all-covers, same-tables, covers-under, apart-under, sound-under, read-under}

@@ -96,11 +96,12 @@ pub fn standing(e: Entry) -> usize
     1
 }
 
-// The newcomer alone.
-pub fn alone(newcomer: Entry) -> Entries
+// The newcomer alone. What stands at the other places does not count.
+fn alone(l: Entries, newcomer: Entry) -> Entries
     ensures { λ r. ⌜ (entriesOf r ≡ newcomer ∷ []) × (r .count ≡ 1) ⌝ }
 {
-    let items = [newcomer; 201];
+    let mut items = l.items;
+    items[0] = newcomer;
     Entries {
         count: 1,
         items: items,
@@ -170,7 +171,7 @@ pub fn dedup_inherited_annotations_one(l: Entries, newcomer: Entry) -> Entries
     ensures { λ r. ⌜ Joins l newcomer r ⌝ }
 {
     if l.count == 0 {
-        return alone(newcomer);
+        return alone(l, newcomer);
     }
     merged(l, newcomer)
 }

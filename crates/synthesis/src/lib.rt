@@ -107,7 +107,7 @@ fn play_all(
     d.rows
 }
 
-// What all types inherit is kept in 1,801 numbers a type, which are all set to 0 first: few for few types. Here for 8.
+// What all types inherit is kept in 2,001 numbers a type, which are all set to 0 first: few for few types. Here for 8.
 fn play_few(table: Table, types: Types, p: Parents, diagnosis: &mut [u8], trail: Trail) -> usize
     requires { ⌜ ReadyIn 16008 table types p (now diagnosis) trail ⌝ }
     ensures { λ r. ⌜ AllPlayed table types p (now (diagnosis .entry)) trail (now (diagnosis .exit)) r ⌝ }

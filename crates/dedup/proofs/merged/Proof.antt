@@ -1,4 +1,4 @@
-use mathlib.Core.Bool.{true, false}
+use mathlib.Core.Bool.{true}
 use mathlib.Core.Logic.{⊎-elim}
 use mathlib.Core.Path.{_≡_, refl, sym, ap, _∙_}
 use Prim.Native.Nat.{_+_, _-_, _<_, _≤_}
@@ -121,10 +121,10 @@ add-k c =
     omega (arith, r .most, c .standing .ensures)
 
 intersection-requires : tie.Need-intersection-requires Inv-loop μ-loop
-intersection-requires c κs = kinds (c .before .before .before .before .before .before)
+intersection-requires c κs = let k = kinds (c .before .before .before .before .before .before) in omega arith
 
 difference-requires : tie.Need-difference-requires Inv-loop μ-loop
-difference-requires c κs = kinds (c .before .before .before .before .before .before .before)
+difference-requires c κs = let k = kinds (c .before .before .before .before .before .before .before) in omega arith
 
 mul-out-2 : tie.Need-mul-out-2 Inv-loop μ-loop
 mul-out-2 c = search needs
@@ -154,7 +154,7 @@ add-k-3 : tie.Need-add-k-3 Inv-loop μ-loop
 add-k-3 c = omega (arith, room c)
 
 difference-requires-2 : tie.Need-difference-requires-2 Inv-loop μ-loop
-difference-requires-2 c κs = let k = kinds (c .before .before .before .before .before .before .before .before .before) in (k .1, k .0)
+difference-requires-2 c κs = let k = kinds (c .before .before .before .before .before .before .before .before .before) in omega arith
 
 add-i : tie.Need-add-i Inv-loop μ-loop
 add-i c = search needs
