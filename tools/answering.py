@@ -165,8 +165,12 @@ class Answers:
         several at a time."""
         if self.calls is None:
             self.ready_program()
-            import exported  # pylint: disable=import-outside-toplevel
-            self.calls = exported.calls(root(), self.say)
+            path = building.shared_object(root(), self.say)
+            import gidzelma  # pylint: disable=import-outside-toplevel
+            try:
+                self.calls = gidzelma.load(path)
+            except OSError as error:
+                raise Trouble(f"{path} cannot be loaded: {error}") from None
         return self.calls
 
     def text(self, sheet):
@@ -175,7 +179,12 @@ class Answers:
 
     def packed(self, sheet):
         """The number of the exported call, and the packed bytes where it is 0."""
-        return self.ready_calls().answer(self.call, sheet)
+        calls = self.ready_calls()
+        import gidzelma  # pylint: disable=import-outside-toplevel
+        try:
+            return 0, calls.packed(self.call, sheet)
+        except gidzelma.Refused as refused:
+            return refused.number, b""
 
 
 def at_terminal():

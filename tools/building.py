@@ -4,12 +4,15 @@ The sources of a program are crates.txt and the files of its crate and of every 
 takes them. Only their times are looked at, so that a run that builds nothing is quick; `rt` itself then
 goes by their contents, and proves what has changed. Where there are no sources, as in an unpacked archive,
 the programs stand in libexec/ and the shared object in lib/, and nothing is built.
+
+`rt staticlib exports` writes the archive of the proved calls, and a C compiler links it to a shared object.
 """
 
 import contextlib
 import fcntl
 import os
 import re
+import shlex
 import shutil
 import signal
 import subprocess
@@ -267,3 +270,45 @@ def ready(root, target, say):
     except OSError as error:
         raise NotBuilt(f"{error.filename or 'target'}: {(error.strerror or str(error)).lower()}") from None
     return target.path
+
+
+# --------------------------------------------------------- the shared object
+
+def compiler():
+    """The words that begin a command of the C compiler."""
+    given = shlex.split(os.environ.get("CC", ""))
+    for words in ([given] if given else [["cc"], ["gcc"], ["clang"]]):
+        if shutil.which(words[0]):
+            return words
+    raise NotBuilt(f"the library has to be linked by a C compiler, and there is none "
+                   f"({given[0] if given else 'cc, gcc, clang'})")
+
+
+def link(archive, path, log_path, options=()):
+    """Links an archive to a shared object, under another name first, so that no half of one is loaded.
+    It gets the archive's time, by which the two belong together."""
+    part = f"{path}.{os.getpid()}"
+    words = [*compiler(), "-shared", *options, "-o", part, "-Wl,--whole-archive", archive,
+             "-Wl,--no-whole-archive"]
+    os.makedirs(os.path.dirname(log_path), exist_ok=True)
+    with open(log_path, "wb") as log:
+        done = subprocess.run(words, stdin=subprocess.DEVNULL, stdout=log, stderr=log, check=False)
+    if done.returncode:
+        raise NotBuilt(f"{words[0]} cannot link the library; {log_path} has what it said")
+    when = os.stat(archive).st_mtime_ns
+    os.utime(part, ns=(when, when))
+    os.replace(part, path)
+
+
+def shared_object(root, say):
+    """The path of a shared object that is no older than the sources of the calls."""
+    if not has_sources(root):
+        return os.path.join(root, "lib", "libgidzelma.so")
+    archive = ready(root, library(root), say)
+    path = os.path.join(os.path.dirname(archive), "libgidzelma.so")
+    try:
+        if not os.path.exists(path) or os.stat(path).st_mtime_ns != os.stat(archive).st_mtime_ns:
+            link(archive, path, os.path.join(root, "target", "log", "libgidzelma.link"))
+    except OSError as error:
+        raise NotBuilt(f"{error.filename}: {error.strerror.lower()}") from None
+    return path

@@ -1,0 +1,131 @@
+"""The proved calls from Python, through the shared object libgidzelma.so.
+
+    import gidzelma
+    library = gidzelma.load()               # or gidzelma.load("lib/libgidzelma.so")
+    try:
+        packed = library.schedule(sheet)    # bytes to bytes; or library.order(sheet)
+    except gidzelma.Refused as refused:
+        print(refused, refused.rows)
+
+include/gidzelma.h says what the calls do, docs/FORMAT.md what the bytes hold. Nothing is needed but Python's
+standard library, and refusals.py beside this file. Threads may call at the same time; a thread that is
+started where little stack is given needs threading.stack_size(gidzelma.STACK_LEN) before.
+"""
+
+import ctypes
+import ctypes.util
+import os
+from collections import namedtuple
+
+import refusals
+
+DIAGNOSIS_LEN = 1536     # bytes that a diagnosis slice needs
+ROW_LEN = 6              # bytes of a row
+ABSENT = 255             # in a row, for a word that is not there
+STACK_LEN = 4 << 20      # bytes of stack that suffice for a call
+LISTING_TOO_SHORT = 10   # the refusal that answers the size that is needed
+LENT = 65536             # bytes of the listing that is lent first
+CALLS = ("schedule", "order")
+
+# What a call answers: its number, the size written or needed, how many rows were written, and whether
+# there are more.
+Answer = namedtuple("Answer", "number size rows more")
+# A row of a diagnosis. Names are tuples of one or two words, a word is its place in the sheet's word list;
+# what is absent is None.
+Row = namedtuple("Row", "kind subject other word")
+
+
+class Refused(Exception):
+    """A sheet that is turned back: the number, the rows after 8 and 9, and whether there are more of them."""
+
+    def __init__(self, number, rows=(), more=False):
+        super().__init__(number, rows, more)
+        self.number, self.rows, self.more = number, list(rows), more
+
+    def __str__(self):
+        return f"refused {self.number}: {refusals.meaning_of(self.number)}"
+
+
+def name_of(first, second):
+    """A name in a row."""
+    if first == ABSENT:
+        return None
+    return (first,) if second == ABSENT else (first, second)
+
+
+def rows_of(diagnosis, count):
+    """The first rows of a diagnosis slice."""
+    out = []
+    for at in range(0, ROW_LEN * count, ROW_LEN):
+        kind, one, two, other, another, word = diagnosis[at:at + ROW_LEN]
+        out.append(Row(kind, name_of(one, two), name_of(other, another), None if word == ABSENT else word))
+    return out
+
+
+def lent(data):
+    """Writable bytes as a slice for C. One of no bytes has a place too, since no pointer may be null."""
+    return (ctypes.c_uint8 * len(data)).from_buffer(data) if data else (ctypes.c_uint8 * 1)()
+
+
+class Library:
+    """The calls of a shared object."""
+
+    def __init__(self, path):
+        self.path = path
+        library, size = ctypes.CDLL(path), ctypes.c_size_t
+        self.calls = {}
+        for name in CALLS:
+            try:
+                call = getattr(library, "gidzelma_" + name)
+            except AttributeError as error:
+                raise OSError(f"{path}: has no gidzelma_{name}") from error
+            call.restype = ctypes.c_uint32
+            call.argtypes = [ctypes.c_char_p, size, ctypes.c_void_p, size, ctypes.c_void_p, size,
+                             ctypes.c_void_p, size]
+            self.calls[name] = call
+
+    def lend(self, call, sheet, listing, diagnosis):
+        """One call, "schedule" or "order", on two bytearrays, which it may write to; its Answer."""
+        parts = (ctypes.c_uint32 * 3)()
+        sheet = bytes(sheet)
+        number = self.calls[call](sheet, len(sheet), lent(listing), len(listing),
+                                  lent(diagnosis), len(diagnosis), parts, len(parts))
+        return Answer(number, parts[0], parts[1], parts[2] == 1)
+
+    def packed(self, call, sheet):
+        """The packed bytes that a call writes, in a listing of the size that is needed."""
+        listing, diagnosis = bytearray(LENT), bytearray(DIAGNOSIS_LEN)
+        answer = self.lend(call, sheet, listing, diagnosis)
+        if answer.number == LISTING_TOO_SHORT:
+            listing = bytearray(answer.size)
+            answer = self.lend(call, sheet, listing, diagnosis)
+        if answer.number:
+            raise Refused(answer.number, rows_of(diagnosis, answer.rows), answer.more)
+        return bytes(listing[:answer.size])
+
+    def schedule(self, sheet):
+        """The packed access schedule of a sheet."""
+        return self.packed("schedule", sheet)
+
+    def order(self, sheet):
+        """The packed order of the types of a sheet."""
+        return self.packed("order", sheet)
+
+
+def places():
+    """Where the shared object is looked for: the folder that GIDZELMA_LIB_DIR names, else that of an
+    unpacked archive, that of a repository, those of the system."""
+    given = os.environ.get("GIDZELMA_LIB_DIR")
+    if given:
+        return [os.path.join(given, "libgidzelma.so")]
+    above = os.path.dirname(os.path.dirname(os.path.realpath(__file__)))
+    out = [os.path.join(above, *folder, "libgidzelma.so") for folder in (["lib"], ["target", "staticlib"])]
+    return [path for path in out if os.path.exists(path)] or [ctypes.util.find_library("gidzelma")]
+
+
+def load(path=None):
+    """The library at a path, or the first that is found; OSError where there is none."""
+    path = path or places()[0]
+    if not path:
+        raise OSError("libgidzelma.so is not found; GIDZELMA_LIB_DIR can name its folder")
+    return Library(path)
