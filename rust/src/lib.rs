@@ -1,109 +1,89 @@
-//! The proved calls, from Rust: `include/gidzelma.h` behind safe functions.
+//! Access schedules of dosing controllers, from Rust: the proved calls behind safe functions.
 //!
-//! The calls are compiled Rattle; what each answers and leaves in its slices is proved to be what
-//! document 01 says, for every input. `schedule` uses up to 1.75 MiB of stack, `order` half a MiB.
+//! A call turns a *sheet* (a bit-packed type map) into a bit-packed listing, or answers with one of ten
+//! refusals. The calls are compiled Rattle; what each answers, and what it leaves in the slices that it is
+//! lent, is proved for every input. What this package adds is not proved: the owning calls, and the readers
+//! of words, rows and listings, which are tested, and which take any bytes without a panic.
+//!
+//! | to have | use |
+//! |---|---|
+//! | a schedule, or the order of its types, as bytes | [`schedule_vec`], [`order_vec`] |
+//! | the same without allocation, in lent slices | [`schedule`], [`order`] |
+//! | what a schedule holds | [`Schedule`], and [`Words`] of the sheet to spell it |
+//! | why a sheet is turned back | [`Refused`] with its [`Row`]s, or [`Answer::rows`] |
+//!
+//! ```
+//! use gidzelma::{schedule_vec, Item, Schedule, Words};
+//!
+//! # fn main() -> Result<(), Box<dyn std::error::Error>> {
+//! let sheet = std::fs::read("../examples/base.sheet")?;
+//! let packed = schedule_vec(&sheet)?;
+//!
+//! let words = Words::read(&sheet).expect("a sheet that is accepted has words");
+//! let schedule = Schedule::read(&packed)?;
+//! let types: Vec<String> = schedule.names().iter().map(|name| words.spell(name)).collect();
+//! assert_eq!(types, ["base", "resource", "file"]);
+//!
+//! for item in schedule.items() {
+//!     match item? {
+//!         Item::Resource(made) => {
+//!             assert_eq!(words.spell(&made.name()), "base.file");
+//!             assert_eq!(made.parents.len(), 2);
+//!         }
+//!         Item::Extension(line) => assert_eq!(words.spell(&line.owner), "base"),
+//!     }
+//! }
+//! # Ok(())
+//! # }
+//! ```
+//!
+//! # Threads
+//!
+//! The calls keep nothing, so that threads may call at the same time. They need stack, on the maps that
+//! were tried up to 1.8 MB for a schedule and half a MB for an order; a thread that has less is ended by a
+//! signal. A thread of [`std::thread::spawn`] has 2 MiB, which leaves little for its caller:
+//!
+//! ```
+//! let sheet = std::fs::read("../examples/base.sheet").unwrap();
+//! let thread = std::thread::Builder::new()
+//!     .stack_size(gidzelma::STACK_LEN)
+//!     .spawn(move || gidzelma::schedule_vec(&sheet))
+//!     .unwrap();
+//! assert_eq!(thread.join().unwrap().unwrap().len(), 16);
+//! ```
 
-/// What a call answers.
-#[derive(Clone, Copy, Debug, PartialEq, Eq)]
-pub enum Answer {
-    /// The listing's first `size` bytes are the answer. The rest of it, and the diagnosis slice,
-    /// are as before.
-    Accepted { size: usize },
-    /// Turned back by one of 1 to 7; both slices are as before.
-    Refused(u32),
-    /// Turned back by 8 or 9: the diagnosis slice's first `6 * rows` bytes are its rows, and `more`
-    /// says whether there are more than these. All else is as before.
-    Diagnosed {
-        number: u32,
-        rows: usize,
-        more: bool,
-    },
-    /// Turned back by 10: a listing of `size` bytes would do. Both slices are as before.
-    TooShort { size: usize },
-}
+#![deny(missing_docs)]
 
-impl Answer {
-    /// 01's number: 0 for acceptance, else that of the refusal.
-    pub fn number(self) -> u32 {
-        match self {
-            Answer::Accepted { .. } => 0,
-            Answer::Refused(number) | Answer::Diagnosed { number, .. } => number,
-            Answer::TooShort { .. } => 10,
-        }
-    }
-}
+mod calls;
+mod listing;
+mod names;
+mod refusal;
+mod rows;
+
+pub use calls::{order, order_vec, schedule, schedule_vec, Answer, Refused};
+pub use listing::{read_order, Extension, Item, Items, Malformed, Mark, Resource, Schedule};
+pub use names::{Name, Words};
+pub use refusal::Refusal;
+pub use rows::{Kind, Row, Rows};
+
+/// The bytes of the longest sheet that is read; a longer one is refused by 1.
+pub const SHEET_MAX: usize = 40_960;
+
+/// The bytes of a diagnosis row.
+pub const ROW_LEN: usize = 6;
+
+/// The rows that are written at most.
+pub const ROWS_MAX: usize = 256;
 
 /// The bytes that a diagnosis slice needs; a shorter one is refused by 2.
-pub const DIAGNOSIS_LEN: usize = 1536;
+pub const DIAGNOSIS_LEN: usize = ROWS_MAX * ROW_LEN;
 
-type Call =
-    unsafe extern "C" fn(*const u8, usize, *mut u8, usize, *mut u8, usize, *mut u32, usize) -> u32;
+/// The bytes that always suffice for an order.
+pub const ORDER_MAX: usize = 137;
 
-extern "C" {
-    fn gidzelma_schedule(
-        sheet: *const u8,
-        sheet_len: usize,
-        listing: *mut u8,
-        listing_len: usize,
-        diagnosis: *mut u8,
-        diagnosis_len: usize,
-        parts: *mut u32,
-        parts_len: usize,
-    ) -> u32;
-    fn gidzelma_order(
-        sheet: *const u8,
-        sheet_len: usize,
-        listing: *mut u8,
-        listing_len: usize,
-        diagnosis: *mut u8,
-        diagnosis_len: usize,
-        parts: *mut u32,
-        parts_len: usize,
-    ) -> u32;
-}
+/// The bytes that always suffice for a schedule, by a proved bound. The longest that was found has
+/// 239,675 bytes, and those of ordinary maps a few hundred.
+pub const SCHEDULE_MAX: usize = 20_949_739;
 
-/// The schedule call: the order of a sheet's types and the items of its access schedule, packed. The
-/// longest schedule that was found has 239,675 bytes; it is proved that none is longer than
-/// 20,950,000. A listing that is too short is answered with the size that is needed.
-pub fn schedule(sheet: &[u8], listing: &mut [u8], diagnosis: &mut [u8]) -> Answer {
-    answer(gidzelma_schedule, sheet, listing, diagnosis)
-}
-
-/// The order-only call: the number of a sheet's types and their names, in order and packed.
-pub fn order(sheet: &[u8], listing: &mut [u8], diagnosis: &mut [u8]) -> Answer {
-    answer(gidzelma_order, sheet, listing, diagnosis)
-}
-
-fn answer(call: Call, sheet: &[u8], listing: &mut [u8], diagnosis: &mut [u8]) -> Answer {
-    // Three are lent, so 255, the answer to fewer, does not come.
-    let mut parts = [0u32; 3];
-    // SAFETY: pointers and lengths are those of slices, so they are not null, good for their
-    // lengths, and do not overlap where one is written. The calls keep none of them.
-    let number = unsafe {
-        call(
-            sheet.as_ptr(),
-            sheet.len(),
-            listing.as_mut_ptr(),
-            listing.len(),
-            diagnosis.as_mut_ptr(),
-            diagnosis.len(),
-            parts.as_mut_ptr(),
-            parts.len(),
-        )
-    };
-    let [size, rows, flag] = parts;
-    match number {
-        0 => Answer::Accepted {
-            size: size as usize,
-        },
-        8 | 9 => Answer::Diagnosed {
-            number,
-            rows: rows as usize,
-            more: flag == 1,
-        },
-        10 => Answer::TooShort {
-            size: size as usize,
-        },
-        _ => Answer::Refused(number),
-    }
-}
+/// The bytes of stack that suffice for a call.
+pub const STACK_LEN: usize = 4 << 20;

@@ -1,0 +1,101 @@
+//! The ten refusals.
+
+use std::error::Error;
+use std::fmt;
+
+/// Why a sheet is turned back. `docs/FORMAT.md`, section 7, has the condition of each.
+#[derive(Clone, Copy, Debug, PartialEq, Eq, PartialOrd, Ord, Hash)]
+#[non_exhaustive]
+pub enum Refusal {
+    /// 1: the sheet has more than [`SHEET_MAX`](crate::SHEET_MAX) bytes.
+    SheetTooLong,
+    /// 2: the diagnosis slice has fewer than [`DIAGNOSIS_LEN`](crate::DIAGNOSIS_LEN) bytes.
+    DiagnosisTooShort,
+    /// 3: a field passes the end of the sheet.
+    FieldPastEnd,
+    /// 4: a field has a value that is not allowed.
+    ValueNotAllowed,
+    /// 5: the words don't ascend, or lack `resource` or `self`.
+    BadWords,
+    /// 6: something stands twice.
+    Twice,
+    /// 7: the sheet does not end where its last field does.
+    BadFill,
+    /// 8: the types have no order; the rows of the diagnosis say why.
+    NoOrder,
+    /// 9: what a type associates cannot be made; the rows of the diagnosis say why.
+    RefusedInSynthesis,
+    /// 10: the schedule, or the order, is longer than the listing.
+    ListingTooShort,
+    /// A number that this version of the package does not know.
+    Other(u32),
+}
+
+impl Refusal {
+    /// The number: 1 to 10, or that of [`Refusal::Other`].
+    ///
+    /// ```
+    /// use gidzelma::Refusal;
+    /// assert_eq!(Refusal::NoOrder.number(), 8);
+    /// assert_eq!(Refusal::from(8), Refusal::NoOrder);
+    /// assert_eq!(Refusal::NoOrder.to_string(), "refused 8: the types have no order");
+    /// ```
+    pub fn number(self) -> u32 {
+        match self {
+            Refusal::SheetTooLong => 1,
+            Refusal::DiagnosisTooShort => 2,
+            Refusal::FieldPastEnd => 3,
+            Refusal::ValueNotAllowed => 4,
+            Refusal::BadWords => 5,
+            Refusal::Twice => 6,
+            Refusal::BadFill => 7,
+            Refusal::NoOrder => 8,
+            Refusal::RefusedInSynthesis => 9,
+            Refusal::ListingTooShort => 10,
+            Refusal::Other(number) => number,
+        }
+    }
+
+    /// In words.
+    fn said(self) -> &'static str {
+        match self {
+            Refusal::SheetTooLong => "the sheet is too long",
+            Refusal::DiagnosisTooShort => "the diagnosis slice is too short",
+            Refusal::FieldPastEnd => "a field passes the end of the sheet",
+            Refusal::ValueNotAllowed => "a value that is not allowed",
+            Refusal::BadWords => "the words do not ascend, or one that is needed is missing",
+            Refusal::Twice => "something stands twice",
+            Refusal::BadFill => "the sheet does not end where its last field does",
+            Refusal::NoOrder => "the types have no order",
+            Refusal::RefusedInSynthesis => "what a type associates cannot be made",
+            Refusal::ListingTooShort => "the schedule is longer than the listing",
+            Refusal::Other(_) => "a number that this version does not know",
+        }
+    }
+}
+
+impl From<u32> for Refusal {
+    fn from(number: u32) -> Refusal {
+        match number {
+            1 => Refusal::SheetTooLong,
+            2 => Refusal::DiagnosisTooShort,
+            3 => Refusal::FieldPastEnd,
+            4 => Refusal::ValueNotAllowed,
+            5 => Refusal::BadWords,
+            6 => Refusal::Twice,
+            7 => Refusal::BadFill,
+            8 => Refusal::NoOrder,
+            9 => Refusal::RefusedInSynthesis,
+            10 => Refusal::ListingTooShort,
+            _ => Refusal::Other(number),
+        }
+    }
+}
+
+impl fmt::Display for Refusal {
+    fn fmt(&self, to: &mut fmt::Formatter<'_>) -> fmt::Result {
+        write!(to, "refused {}: {}", self.number(), self.said())
+    }
+}
+
+impl Error for Refusal {}
