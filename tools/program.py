@@ -153,19 +153,32 @@ def said_by(*words):
     return lines[0] if lines and not done.returncode else None
 
 
-def version(name):
-    """Version, commit and toolchain."""
+def number_of_version():
+    """What the file VERSION has."""
     try:
         with open(os.path.join(root(), "VERSION"), encoding="utf-8") as source:
-            number = source.read().strip()
+            return source.read().strip()
     except OSError:
-        number = "of unknown version"
-    commit = None
+        return "of unknown version"
+
+
+def provenance():
+    """Where an unpacked archive is from, by key; of a repository nothing."""
+    try:
+        with open(os.path.join(root(), "PROVENANCE"), encoding="utf-8") as source:
+            return dict(line.rstrip("\n").split(": ", 1) for line in source)
+    except OSError:
+        return {}
+
+
+def version(name):
+    """Version, commit and toolchain. Those of an archive are those that it was made with."""
+    known, commit = provenance(), None
     if os.path.exists(os.path.join(root(), ".git")):
         commit = said_by("git", "describe", "--always", "--dirty", "--abbrev=12", "--exclude=*")
-    toolchain = said_by("rt", "version")
-    return (f"{name} {number}\ncommit {commit or 'unknown'}\n"
-            f"toolchain {toolchain or 'unknown: rt is not on the path'}\n")
+    commit = known.get("commit") or commit or "unknown"
+    toolchain = known.get("toolchain") or said_by("rt", "version") or "unknown: rt is not on the path"
+    return f"{name} {number_of_version()}\ncommit {commit}\ntoolchain {toolchain}\n"
 
 
 # --------------------------------------------------------------- running
