@@ -1,297 +1,20 @@
-"""Sheets of document 01: a readable text of a type map, its bytes, and back.
+"""Sheets of document 01: the bytes of a type map, and back.
 
-The text is read line by line. `#` at a line's start or after white space
-begins a comment; blank lines are ignored.
-
-    version 2                 the version field (1 if absent)
-    words zz extra            words that no record uses; the words used,
-                              `resource` and `self` are listed by themselves,
-                              sorted by bytes
-    words! self resource      instead: exactly these words, in this order
-    domain base virtual trait : p q.r self
-                              a type: variant (domain, resource, other), name,
-                              flags, and after `:` the parents, repeats kept
-      makelist                its annotations, in the order given
-      associate file net.file
-      nest p.file
-      alias w
-      inherit a b.c
-      derive 7
-      noderive
-      mark makelist           its marks, in the order given
-      mark derive 7
-    extend base file : p q    an extension: its type, its word and, after `:`, parents
-
-For damaged sheets: `@N` stands for the word number N, `""` for a word without
-bytes, `variant3` for the variant 3 and `kind7` for the annotation kind 7.
-Limits are not checked, only the widths of the fields.
+sheet_records.py has the records, sheet_text.py the readable text; both are
+brought in here, so that one import serves. Limits are not checked here, only
+the widths of the fields: sheet_checks.py has the rules.
 """
 
-from dataclasses import dataclass, field
+from places import counted, place_of, quoted
+from sheet_records import (ALIAS, ANNOTATIONS, ASSOCIATE, DERIVE, EXTENSIONS, INHERIT, KINDS, LISTED, MAKE_LIST,
+                           NEST_ASSOCIATE, NO_DERIVE, OTHER, PARENTS, TYPES, VARIANTS, WORD_BYTES, WORD_CHARACTERS,
+                           WORDS, Annotation, Extension, SheetError, TypeMap, TypeRecord)
+from sheet_text import parse_text, show_mark, show_name, show_word, to_text
 
-VARIANTS = ["domain", "resource", "other", "variant3"]
-KINDS = ["makelist", "associate", "nest", "alias", "inherit", "derive",
-         "noderive", "kind7"]
-MAKE_LIST, ASSOCIATE, NEST_ASSOCIATE, ALIAS, INHERIT, DERIVE, NO_DERIVE = range(7)
+__all__ = ["ALIAS", "ASSOCIATE", "DERIVE", "INHERIT", "KINDS", "MAKE_LIST", "NEST_ASSOCIATE", "NO_DERIVE", "VARIANTS",
+           "Annotation", "Extension", "SheetError", "TypeMap", "TypeRecord", "Writer", "Reader",
+           "decode", "encode", "parse_text", "sheet_of", "show_mark", "show_name", "text_of", "to_text"]
 
-
-class SheetError(Exception):
-    """A text that makes no sheet, or bytes that hold none."""
-
-
-# A word is a str, one character a byte; a word given by its number is an int.
-# A name is a tuple of one or two words. `line` is the line of the text, 0 if none.
-
-@dataclass
-class Annotation:
-    """One annotation; the parts that its kind lacks keep their defaults."""
-    kind: int
-    resources: list = field(default_factory=list)  # pairs: word, dom or None
-    word: object = None                            # of an alias
-    names: list = field(default_factory=list)      # of an inherit
-    tag: int = 0                                   # of a derive
-    line: int = field(default=0, compare=False)
-
-    def used_words(self):
-        """The words that the annotation holds."""
-        out = [w for pair in self.resources for w in pair if w is not None]
-        out += [w for name in self.names for w in name]
-        return out + [self.word] if self.kind == ALIAS else out
-
-
-@dataclass
-class TypeRecord:
-    """One type; a mark is None for makelist, else the tag of a derive."""
-    name: tuple
-    variant: int = 0
-    is_virtual: bool = False
-    is_trait: bool = False
-    parents: list = field(default_factory=list)
-    annotations: list = field(default_factory=list)
-    marks: list = field(default_factory=list)
-    line: int = field(default=0, compare=False)
-
-
-@dataclass
-class Extension:
-    """The parents added to the resource of a type."""
-    name: tuple
-    word: object
-    parents: list = field(default_factory=list)
-    line: int = field(default=0, compare=False)
-
-
-@dataclass
-class TypeMap:
-    """A whole sheet; `words` is None where the used words are to be listed."""
-    types: list = field(default_factory=list)
-    extensions: list = field(default_factory=list)
-    extra: list = field(default_factory=list)
-    words: list = None
-    version: int = 1
-
-    def used_words(self):
-        """The set of the words that some record uses."""
-        used = set()
-        for record in self.types:
-            used.update(record.name, *record.parents)
-            for ann in record.annotations:
-                used.update(ann.used_words())
-        for extension in self.extensions:
-            used.update(extension.name, [extension.word], *extension.parents)
-        return {w for w in used if isinstance(w, str)}
-
-    def word_list(self):
-        """The words of the sheet, in its order."""
-        if self.words is not None:
-            return self.words
-        return sorted(self.used_words() | set(self.extra) | {"resource", "self"})
-
-
-# ---------------------------------------------------------------- the text
-
-def _word(token, line):
-    if token == '""':
-        return ""
-    if token.startswith("@") and token[1:].isdigit():
-        return int(token[1:])
-    if "." in token or not token:
-        raise SheetError(f"line {line}: `{token}` is not a word")
-    return token
-
-
-def _listed(token):
-    """An entry of the word list: any bytes, also such as no sheet allows."""
-    return "" if token == '""' else token
-
-
-def _name(token, line):
-    parts = token.split(".")
-    if len(parts) > 2 or "" in parts:
-        raise SheetError(f"line {line}: `{token}` is not a name of one or two words")
-    return tuple(_word(part, line) for part in parts)
-
-
-def _resource(token, line):
-    name = _name(token, line)
-    return (name[0], None) if len(name) == 1 else (name[1], name[0])
-
-
-def _tag(tokens, line):
-    if len(tokens) != 1 or not tokens[0].isdigit():
-        raise SheetError(f"line {line}: `derive` takes one tag, a number")
-    return int(tokens[0])
-
-
-def _split(tokens):
-    """The tokens before `:` and those after it."""
-    if ":" in tokens:
-        at = tokens.index(":")
-        return tokens[:at], tokens[at + 1:]
-    return tokens, []
-
-
-def _tokens(text_line):
-    out = []
-    for token in text_line.split():
-        if token.startswith("#"):
-            break
-        out.append(token)
-    return out
-
-
-def parse_text(text):
-    """The type map that a text describes."""
-    out = TypeMap()
-    record = None
-    for line, text_line in enumerate(text.split("\n"), 1):
-        tokens = _tokens(text_line)
-        if not tokens:
-            continue
-        first, rest = tokens[0], tokens[1:]
-        if first == "version":
-            if len(rest) != 1 or not rest[0].isdigit():
-                raise SheetError(f"line {line}: `version` takes one number")
-            out.version = int(rest[0])
-        elif first == "words":
-            out.extra += [_listed(t) for t in rest]
-        elif first == "words!":
-            out.words = (out.words or []) + [_listed(t) for t in rest]
-        elif first == "extend":
-            head, parents = _split(rest)
-            if len(head) != 2:
-                raise SheetError(f"line {line}: `extend` takes a type name and a word")
-            out.extensions.append(Extension(_name(head[0], line), _word(head[1], line),
-                                            [_name(t, line) for t in parents], line))
-            record = None
-        elif first in VARIANTS:
-            head, parents = _split(rest)
-            if not head:
-                raise SheetError(f"line {line}: `{first}` takes a name")
-            record = TypeRecord(_name(head[0], line), VARIANTS.index(first), line=line)
-            for flag in head[1:]:
-                if flag == "virtual":
-                    record.is_virtual = True
-                elif flag == "trait":
-                    record.is_trait = True
-                else:
-                    raise SheetError(f"line {line}: `{flag}` is no flag; parents follow ` : `")
-            record.parents = [_name(t, line) for t in parents]
-            out.types.append(record)
-        elif first == "mark" or first in KINDS:
-            if record is None:
-                raise SheetError(f"line {line}: `{first}` stands under no type")
-            if first == "mark":
-                record.marks.append(_mark(rest, line))
-            else:
-                record.annotations.append(_annotation(first, rest, line))
-        else:
-            raise SheetError(f"line {line}: `{first}` begins no line of a type map")
-    return out
-
-
-def _mark(rest, line):
-    if rest == ["makelist"]:
-        return None
-    if rest[:1] == ["derive"]:
-        return _tag(rest[1:], line)
-    raise SheetError(f"line {line}: a mark is `makelist` or `derive TAG`")
-
-
-def _annotation(first, rest, line):
-    ann = Annotation(KINDS.index(first), line=line)
-    if ann.kind in (ASSOCIATE, NEST_ASSOCIATE):
-        ann.resources = [_resource(t, line) for t in rest]
-    elif ann.kind == ALIAS:
-        if len(rest) != 1:
-            raise SheetError(f"line {line}: `alias` takes one word")
-        ann.word = _word(rest[0], line)
-    elif ann.kind == INHERIT:
-        ann.names = [_name(t, line) for t in rest]
-    elif ann.kind == DERIVE:
-        ann.tag = _tag(rest, line)
-    elif rest:
-        raise SheetError(f"line {line}: `{first}` takes nothing")
-    return ann
-
-
-def _show_word(word):
-    return f"@{word}" if isinstance(word, int) else word or '""'
-
-
-def show_name(name):
-    """A name as the text has it: its words joined by a dot."""
-    return ".".join(_show_word(word) for word in name)
-
-
-def _show_record(head, parents):
-    return " ".join(head + ([":"] + [show_name(p) for p in parents] if parents else []))
-
-
-def _show_annotation(ann):
-    out = [KINDS[ann.kind]]
-    if ann.kind in (ASSOCIATE, NEST_ASSOCIATE):
-        out += [show_name((w,) if d is None else (d, w)) for w, d in ann.resources]
-    elif ann.kind == ALIAS:
-        out.append(_show_word(ann.word))
-    elif ann.kind == INHERIT:
-        out += [show_name(n) for n in ann.names]
-    elif ann.kind == DERIVE:
-        out.append(str(ann.tag))
-    return " ".join(out)
-
-
-def show_mark(mark):
-    """A mark as the text has it."""
-    return "makelist" if mark is None else f"derive {mark}"
-
-
-def to_text(type_map):
-    """The text of a type map; `parse_text` reads it back to the same sheet."""
-    out = []
-    if type_map.version != 1:
-        out.append(f"version {type_map.version}")
-    words = type_map.word_list()
-    used = type_map.used_words() | {"resource", "self"}
-    if words == sorted(set(words) | used):
-        extra = [w for w in words if w not in used]
-        if extra:
-            out.append(" ".join(["words"] + [_show_word(w) for w in extra]))
-    else:
-        out.append(" ".join(["words!"] + [_show_word(w) for w in words]))
-    for record in type_map.types:
-        head = [VARIANTS[record.variant], show_name(record.name)]
-        head += ["virtual"] * record.is_virtual + ["trait"] * record.is_trait
-        out.append(_show_record(head, record.parents))
-        out += ["  " + _show_annotation(ann) for ann in record.annotations]
-        out += ["  mark " + show_mark(mark) for mark in record.marks]
-    for extension in type_map.extensions:
-        head = ["extend", show_name(extension.name), _show_word(extension.word)]
-        out.append(_show_record(head, extension.parents))
-    return "".join(line + "\n" for line in out)
-
-
-# --------------------------------------------------------------- the bytes
 
 class Writer:
     """Fields packed most significant bit first."""
@@ -312,144 +35,220 @@ class Writer:
                      for at in range(0, len(bits), 8))
 
 
-def _where(record, what):
-    return f"line {record.line}: {what}" if record.line else what
+class Packing:
+    """A type map put into a writer; what does not fit is an error with the place of its record."""
+
+    def __init__(self, type_map):
+        self.map, self.out, self.place = type_map, Writer(), None
+        self.words = type_map.word_list()
+        self.number = {word: at for at, word in reversed(list(enumerate(self.words)))}
+
+    def put(self, width, value, what):
+        """One field."""
+        try:
+            self.out.put(width, value, what)
+        except SheetError as error:
+            raise SheetError(error.text, self.place) from None
+
+    def put_word(self, word, what):
+        """A word by its number in the list."""
+        if isinstance(word, str):
+            if word not in self.number:
+                raise SheetError(f"{what}: the word {quoted(word)} is not in the word list", self.place)
+            word = self.number[word]
+        self.put(8, word, what)
+
+    def put_name(self, name, what):
+        """A name: a word, a flag, and a second word if the flag is 1."""
+        self.put_word(name[0], what)
+        self.put(1, len(name) - 1, what)
+        for word in name[1:]:
+            self.put_word(word, what)
+
+    def put_names(self, names, what):
+        """A count and its names."""
+        self.put(4, len(names), what + ": count")
+        for name in names:
+            self.put_name(name, what)
+
+    def put_annotation(self, ann, what):
+        """An annotation by its kind."""
+        self.place = ann.place or self.place
+        self.put(3, ann.kind, what)
+        if ann.associates():
+            self.put(4, len(ann.resources), what + ": count")
+            for word, dom in ann.resources:
+                self.put_word(word, what)
+                self.put(1, dom is not None, what)
+                if dom is not None:
+                    self.put_word(dom, what)
+        elif ann.kind == ALIAS:
+            self.put_word(ann.word, what)
+        elif ann.kind == INHERIT:
+            self.put_names(ann.names, what)
+        elif ann.kind == DERIVE:
+            self.put(8, ann.tag, what + ": tag")
+
+    def put_type(self, record):
+        """A type's record."""
+        self.place, what = record.place, f"type {show_name(record.name)}"
+        self.put_name(record.name, what)
+        self.put(2, record.variant, what)
+        self.put(1, record.is_virtual, what)
+        self.put(1, record.is_trait, what)
+        self.put_names(record.parents, what + ": parents")
+        self.put(4, len(record.annotations), what + ": annotations: count")
+        for ann in record.annotations:
+            self.put_annotation(ann, f"{what}: {KINDS[ann.kind]}")
+        self.place = record.place
+        self.put(3, len(record.marks), what + ": marks: count")
+        for at, mark in enumerate(record.marks):
+            self.place = record.mark_place(at)
+            self.put(1, mark is not None, what)
+            if mark is not None:
+                self.put(8, mark, what + ": mark: tag")
+
+    def put_extension(self, extension):
+        """An extension's record."""
+        self.place = extension.place
+        what = f"extension {show_name(extension.name)} {show_word(extension.word)}"
+        self.put_name(extension.name, what)
+        self.put_word(extension.word, what)
+        self.put_names(extension.parents, what + ": parents")
+
+    def data(self):
+        """The bytes of the whole sheet."""
+        self.place = self.map.version_place
+        self.put(4, self.map.version, "version")
+        self.put(8, len(self.words), "words: count")
+        for word in self.words:
+            self.place = place_of(word)
+            what = f"word {quoted(word)}"
+            self.put(5, len(word), what + ": length")
+            for character in word:
+                self.put(8, ord(character), what)
+        self.place = None
+        self.put(7, len(self.map.types), "types: count")
+        for record in self.map.types:
+            self.put_type(record)
+        self.place = None
+        self.put(6, len(self.map.extensions), "extensions: count")
+        for extension in self.map.extensions:
+            self.put_extension(extension)
+        return self.out.data()
 
 
 def encode(type_map):
-    """The bytes of a type map (FORMAT 2)."""
-    out = Writer()
-    words = type_map.word_list()
-    number = {word: at for at, word in reversed(list(enumerate(words)))}
-
-    def put_word(word, what):
-        if isinstance(word, str):
-            if word not in number:
-                raise SheetError(f"{what}: the word `{word}` is not in the word list")
-            word = number[word]
-        out.put(8, word, what)
-
-    def put_name(name, what):
-        put_word(name[0], what)
-        out.put(1, len(name) - 1, what)
-        for word in name[1:]:
-            put_word(word, what)
-
-    def put_names(names, what):
-        out.put(4, len(names), what + ": count")
-        for name in names:
-            put_name(name, what)
-
-    def put_annotation(ann, what):
-        what = _where(ann, f"{what}: {KINDS[ann.kind]}")
-        out.put(3, ann.kind, what)
-        if ann.kind in (ASSOCIATE, NEST_ASSOCIATE):
-            out.put(4, len(ann.resources), what + ": count")
-            for word, dom in ann.resources:
-                put_word(word, what)
-                out.put(1, dom is not None, what)
-                if dom is not None:
-                    put_word(dom, what)
-        elif ann.kind == ALIAS:
-            put_word(ann.word, what)
-        elif ann.kind == INHERIT:
-            put_names(ann.names, what)
-        elif ann.kind == DERIVE:
-            out.put(8, ann.tag, what + ": tag")
-
-    out.put(4, type_map.version, "version")
-    out.put(8, len(words), "words: count")
-    for word in words:
-        out.put(5, len(word), f"word `{word}`: length")
-        for character in word:
-            out.put(8, ord(character), f"word `{word}`")
-    out.put(7, len(type_map.types), "types: count")
-    for record in type_map.types:
-        what = _where(record, f"type {show_name(record.name)}")
-        put_name(record.name, what)
-        out.put(2, record.variant, what)
-        out.put(1, record.is_virtual, what)
-        out.put(1, record.is_trait, what)
-        put_names(record.parents, what + ": parents")
-        out.put(4, len(record.annotations), what + ": annotations: count")
-        for ann in record.annotations:
-            put_annotation(ann, f"type {show_name(record.name)}")
-        out.put(3, len(record.marks), what + ": marks: count")
-        for mark in record.marks:
-            out.put(1, mark is not None, what)
-            if mark is not None:
-                out.put(8, mark, what + ": mark: tag")
-    out.put(6, len(type_map.extensions), "extensions: count")
-    for extension in type_map.extensions:
-        what = _where(extension, f"extension {show_name(extension.name)} "
-                                 f"{_show_word(extension.word)}")
-        put_name(extension.name, what)
-        put_word(extension.word, what)
-        put_names(extension.parents, what + ": parents")
-    return out.data()
+    """The bytes of a type map (01, 'The sheet, bit by bit')."""
+    return Packing(type_map).data()
 
 
 class Reader:
-    """Fields read most significant bit first."""
+    """Fields read most significant bit first; with `strict`, values that 01 does not allow are errors."""
 
-    def __init__(self, data):
+    def __init__(self, data, strict=False):
         self.number, self.size, self.at = int.from_bytes(data, "big"), 8 * len(data), 0
+        self.strict = strict
 
-    def take(self, width):
-        """The next field of the given width."""
+    def take(self, width, what="a field", low=0, high=None):
+        """The next field of the given width, which has to be from low to high."""
+        first = self.at
         self.at += width
         if self.at > self.size:
-            raise SheetError(f"a field passes the end, at bit {self.at - width}")
-        return self.number >> self.size - self.at & (1 << width) - 1
+            raise SheetError(f"bit {first}: the end comes within {what}", number=3)
+        value = self.number >> self.size - self.at & (1 << width) - 1
+        if self.strict and (value < low or (high is not None and value > high)):
+            allowed = f"it has to be {low}" if low == high else f"allowed are {low} to {high}"
+            raise SheetError(f"bit {first}: {what} is {value}, {allowed}", number=4)
+        return value
 
 
-def decode(data):
+class Decoding:
     """The type map of a sheet, word numbers turned to words where they can be."""
-    source = Reader(data)
-    take = source.take
-    out = TypeMap(version=take(4))
-    out.words = ["".join(chr(take(8)) for _ in range(take(5))) for _ in range(take(8))]
 
-    def word():
-        at = take(8)
-        known = at < len(out.words) and out.words.index(out.words[at]) == at
-        return out.words[at] if known else at
+    def __init__(self, data, strict):
+        self.source = Reader(data, strict)
+        self.take, self.strict = self.source.take, strict
+        self.map = TypeMap(version=self.take(4, "version", 1, 1))
+        self.map.words = [self.listed() for _ in range(self.take(8, "words: count", 2, WORDS))]
+        for at in range(self.take(7, "types: count", 0, TYPES)):
+            self.map.types.append(self.record(f"type {at + 1}"))
+        for at in range(self.take(6, "extensions: count", 0, EXTENSIONS)):
+            what = f"extension {at + 1}"
+            self.map.extensions.append(Extension(self.name(what), self.word(what),
+                                                 self.names(what + ": parents", 1, PARENTS)))
+        self.end()
 
-    def name():
-        first = word()
-        return (first, word()) if take(1) else (first,)
+    def listed(self):
+        """A word of the list by its bytes."""
+        out = ""
+        for _ in range(self.take(5, "a word's length", 1, WORD_BYTES)):
+            byte = self.take(8, "a byte of a word")
+            if self.strict and chr(byte) not in WORD_CHARACTERS:
+                raise SheetError(f"bit {self.source.at - 8}: the byte {byte:02x} is not allowed in a word", number=4)
+            out += chr(byte)
+        return out
 
-    def names():
-        return [name() for _ in range(take(4))]
+    def word(self, what):
+        """A word by its number."""
+        words = self.map.words
+        at = self.take(8, what + ": word", 0, len(words) - 1)
+        known = at < len(words) and words.index(words[at]) == at
+        return words[at] if known else at
 
-    def resource():
-        first = word()
-        return first, word() if take(1) else None
+    def name(self, what):
+        """A name of one or two words."""
+        first = self.word(what)
+        return (first, self.word(what)) if self.take(1, what) else (first,)
 
-    def annotation():
-        ann = Annotation(take(3))
-        if ann.kind in (ASSOCIATE, NEST_ASSOCIATE):
-            ann.resources = [resource() for _ in range(take(4))]
+    def names(self, what, low, high):
+        """A count and its names."""
+        return [self.name(what) for _ in range(self.take(4, what + ": count", low, high))]
+
+    def resource(self, what):
+        """A word and its dom, if it has one."""
+        first = self.word(what)
+        return first, self.word(what) if self.take(1, what) else None
+
+    def annotation(self, record, what):
+        """An annotation by its kind."""
+        ann = Annotation(self.take(3, what + ": kind", 0, NO_DERIVE))
+        if self.strict and ann.kind == NEST_ASSOCIATE and len(record.name) == 2:
+            raise SheetError(f"bit {self.source.at - 3}: {what}: a two-word type has no NestAssociate", number=4)
+        if ann.associates():
+            ann.resources = [self.resource(what) for _ in range(self.take(4, what + ": count"))]
         elif ann.kind == ALIAS:
-            ann.word = word()
+            ann.word = self.word(what)
         elif ann.kind == INHERIT:
-            ann.names = names()
+            ann.names = self.names(what, 0, LISTED)
         elif ann.kind == DERIVE:
-            ann.tag = take(8)
+            ann.tag = self.take(8, what)
         return ann
 
-    for _ in range(take(7)):
-        record = TypeRecord(name(), take(2), bool(take(1)), bool(take(1)), names())
-        record.annotations = [annotation() for _ in range(take(4))]
-        record.marks = [take(8) if take(1) else None for _ in range(take(3))]
-        out.types.append(record)
-    for _ in range(take(6)):
-        out.extensions.append(Extension(name(), word(), names()))
-    if source.size - source.at >= 8:
-        raise SheetError(f"{(source.size - source.at) // 8} more bytes follow the extensions")
-    if take(source.size - source.at):
-        raise SheetError("the fill of the last byte is not zero")
-    return out
+    def record(self, what):
+        """A type's record."""
+        name = self.name(what)
+        what += f" {show_name(name)}"
+        out = TypeRecord(name, self.take(2, what + ": variant", 0, OTHER), bool(self.take(1, what)),
+                         bool(self.take(1, what)), self.names(what + ": parents", 0, PARENTS))
+        for _ in range(self.take(4, what + ": annotations: count", 0, ANNOTATIONS)):
+            out.annotations.append(self.annotation(out, what + ": annotation"))
+        for _ in range(self.take(3, what + ": marks: count")):
+            out.marks.append(self.take(8, what + ": mark") if self.take(1, what + ": mark") else None)
+        return out
+
+    def end(self):
+        """Nothing follows the records but zero bits that fill the last byte."""
+        rest = self.source.size - self.source.at
+        if rest >= 8:
+            raise SheetError(f"{counted(rest // 8, 'more byte')} after the extensions", number=7)
+        if self.take(rest):
+            raise SheetError("the fill of the last byte is not zero", number=7)
+
+
+def decode(data, strict=False):
+    """The type map of a sheet. With `strict`, what 3, 4 and 7 refuse is an error; else only 3 and 7."""
+    return Decoding(data, strict).map
 
 
 def sheet_of(text):
