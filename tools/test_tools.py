@@ -679,20 +679,6 @@ class Programs(unittest.TestCase):
             with open(os.path.join(root, "crates", "text_try", name), "rb") as source:
                 self.assertEqual(source.read(), expected, name)
 
-    def test_errors(self):
-        for text, part in [("domain", "line 1"), ("\nfoo a", "line 2"), ("makelist", "no type"),
-                           ("domain a b", "no flag"), ("domain a.b.c", "one or two words"),
-                           ("domain a :" + " p" * 16,
-                            "line 1: type a: parents: count: 16 does not fit 4 bits"),
-                           ("domain a\n  derive 256",
-                            "line 2: type a: derive: tag: 256 does not fit 8 bits"),
-                           ("domain a\n\nextend a f :" + " p" * 16, "line 3: extension a f"),
-                           ("words " + "a" * 32, "does not fit 5 bits"),
-                           ("words! a\ndomain b", "not in the word list")]:
-            code, out, error = self.tool("sheet", given=text.encode())
-            self.assertEqual((code, out), (1, b""))
-            self.assertIn(part, error)
-
     def test_model(self):
         sheet = sheet_of("domain a : a")
         self.assertEqual(self.tool("model.py", "order", given=sheet)[1], b"refused 8\nD 2 a a -\n")
@@ -924,6 +910,12 @@ class Believed(unittest.TestCase):
         self.assertIn("`crates/lists/specs/Lists.antt`", self.tool("believed")[1].decode())
         for name in ("README.md", os.path.join("docs", "BELIEVE.md")):
             self.assertEqual(self.tool("believed", "--check", os.path.join(ROOT, name))[::2], (0, ""))
+
+
+def load_tests(loader, tests, _):
+    """The tests of test_sheets.py besides, where no test is named."""
+    tests.addTests(loader.loadTestsFromName("test_sheets"))
+    return tests
 
 
 if __name__ == "__main__":
