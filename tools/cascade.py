@@ -23,7 +23,7 @@ LEXER = re.compile(r"""
   | (?P<comment> //[^\n]* | /\*.*?\*/ )
   | (?P<string> "[^"\n]*" )
   | (?P<name> [A-Za-z0-9_]+ (?: \.[A-Za-z0-9_]+ )* )
-  | (?P<sign> . )
+  | (?P<sign> [\x80-\xff]+ | . )
 """, re.X | re.S)
 
 
@@ -135,7 +135,8 @@ class Parser:
     def expect(self, *texts):
         """Passes a token that has to be one of these."""
         if not self.is_next(*texts):
-            self.missing(" or ".join(f"`{text}`" for text in texts))
+            listed = [f"`{text}`" for text in texts]
+            self.missing(" or ".join([", ".join(listed[:-1]), listed[-1]] if listed[1:] else listed))
         return self.take()
 
     def missing(self, what):
