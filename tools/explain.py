@@ -19,13 +19,13 @@ import explain_dot
 import explain_page
 import map_files
 import sheetlib
-from commands import DONE, TROUBLE, WRONG, Parser, Trouble, label, read_file, report, say, write_file, write_out
+from commands import (DONE, ROOT, TROUBLE, WRONG, Parser, Trouble, label, read_file, report, run, say, write_file,
+                      write_out)
 from map_lines import MapView
 from places import Problems
 from reasons import Reasons, Why, why_refused
 from sheet_checks import check
 
-ROOT = os.path.dirname(os.path.dirname(os.path.realpath(__file__)))
 PROGRAM = os.path.join("target", "bin", "schedule")
 REFUSED = re.compile("^refused with [0-9]+: ")
 HEAD = "# The lines are the proved program's; what follows ` <- `, and what stands below a line, is not proved."
@@ -65,8 +65,8 @@ class Explained:
         if self.syntax == map_files.SHEET:
             type_map = map_files.read_sheet(data, self.problems)
             if type_map is not None:
-                self.source = sheetlib.to_text(type_map).encode("latin-1")
-                type_map = map_files.read_texts([("", self.source)], Problems())
+                text = sheetlib.to_text(type_map)
+                self.source, type_map = text.encode("latin-1"), sheetlib.parse_text(text)
                 self.view = MapView(type_map)
                 check(type_map, self.problems)
             return data
@@ -155,11 +155,11 @@ def explain(name, args, several):
     return DONE if explained.accepted else WRONG
 
 
-def main():
+def main(arguments):
     """The whole command."""
-    args = options().parse_intermixed_args()
+    args = options().parse_intermixed_args(arguments)
     if not args.files:
-        raise Trouble("which map? (--help lists the options)")
+        raise Trouble("which map? --help has the options")
     if len(args.files) > 1 and (args.html is not None or args.dot or args.lines is not None):
         raise Trouble("--dot, --html and --lines take one map")
     if args.lines == "-" and args.files == ["-"] or args.files.count("-") > 1:
@@ -172,3 +172,7 @@ def main():
             say(f"explain: {trouble}")
             status = TROUBLE
     return status
+
+
+if __name__ == "__main__":
+    run(main)

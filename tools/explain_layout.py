@@ -10,21 +10,16 @@ from html import escape
 from sheet_records import RESOURCE
 from sheet_text import show_name
 
-CHARACTER, HEIGHT, GAP, ROW, MARGIN, LEFT = 7.3, 26, 18, 92, 20, 70
+CHARACTER, HEIGHT, GAP, ROW, MARGIN, LEFT, BEND = 7.3, 26, 18, 92, 20, 70, 40
 
 
 class Spot:
-    """A type in its row, or a point that an edge passes."""
+    """A type in its row, or a point that an edge passes; x and y are its middle."""
 
     def __init__(self, row, record=None):
-        self.row, self.record, self.x, self.up, self.down = row, record, 0.0, [], []
+        self.row, self.record, self.x, self.y, self.up, self.down = row, record, 0.0, 0.0, [], []
         text = show_name(record.name) if record else ""
         self.width = len(text) * CHARACTER + 16 if record else 2.0
-
-    @property
-    def y(self):
-        """The middle of its row."""
-        return MARGIN + self.row * ROW + HEIGHT / 2
 
 
 class Layout:
@@ -43,9 +38,15 @@ class Layout:
             for parent in dict.fromkeys(view.types[name].parents):
                 if parent in self.spots:
                     self.edges.append((name, parent, self.path(spot, self.spots[parent])))
+        bent = any(spots[0].row == spots[-1].row for _, _, spots in self.edges)
+        self.top = MARGIN + BEND * bent
         for turn in range(8):
             self.sweep(turn % 2 == 0)
         self.place()
+
+    def middle(self, row):
+        """The height of the middle of a row."""
+        return self.top + row * ROW + HEIGHT / 2
 
     def path(self, spot, parent):
         """The spots of an edge, with a point in each row that it passes."""
@@ -74,10 +75,10 @@ class Layout:
 
     def place(self):
         """The middle of each spot; a row is moved to stand under its neighbours where there is room."""
-        for row in self.rows:
+        for number, row in enumerate(self.rows):
             right = LEFT
             for spot in row:
-                spot.x = right + spot.width / 2
+                spot.x, spot.y = right + spot.width / 2, self.middle(number)
                 right += spot.width + GAP
         for _ in range(6):
             for row in [*self.rows, *self.rows[::-1]]:
@@ -95,15 +96,15 @@ class Layout:
 
     def size(self):
         """Width and height of the picture."""
-        right = max((spot.x + spot.width / 2 for spot in self.spots.values()), default=LEFT)
-        return right + MARGIN, 2 * MARGIN + HEIGHT + max(len(self.rows) - 1, 0) * ROW
+        right = max((spot.x + spot.width / 2 for row in self.rows for spot in row), default=LEFT)
+        return right + MARGIN, self.top + MARGIN + HEIGHT + max(len(self.rows) - 1, 0) * ROW
 
     def curve(self, spots):
         """An edge as a path, from the top of a type to the bottom of its parent."""
         x, y = spots[0].x, spots[0].y - HEIGHT / 2
         if spots[0].row == spots[-1].row:
             end = spots[-1].x
-            return f"M{x:.1f} {y:.1f}C{x:.1f} {y - 40:.1f} {end:.1f} {y - 40:.1f} {end:.1f} {y:.1f}"
+            return f"M{x:.1f} {y:.1f}C{x:.1f} {y - BEND:.1f} {end:.1f} {y - BEND:.1f} {end:.1f} {y:.1f}"
         out = f"M{x:.1f} {y:.1f}"
         for spot in spots[1:]:
             bottom = spot.y + (HEIGHT / 2 if spot.record else 0)
@@ -120,7 +121,7 @@ def svg(view, bad_edges=(), bad_types=()):
     out = [f'<svg xmlns="http://www.w3.org/2000/svg" viewBox="0 0 {width:.0f} {height:.0f}" width="{width:.0f}" '
            f'height="{height:.0f}" role="img" aria-label="The types by rounds">']
     for number, row in enumerate(layout.rows):
-        y = MARGIN + number * ROW + HEIGHT / 2
+        y = layout.middle(number)
         text = f"round {number}" if number < layout.known else "no round"
         out.append(f'<text class="round" x="6" y="{y + 4:.1f}">{text}</text>')
     for name, parent, spots in layout.edges:

@@ -16,7 +16,8 @@ PAGE = """<!DOCTYPE html>
 <head>
 <meta charset="utf-8">
 <meta name="viewport" content="width=device-width, initial-scale=1">
-<meta http-equiv="Content-Security-Policy" content="default-src 'none'; style-src 'unsafe-inline'; script-src 'unsafe-inline'">
+<meta http-equiv="Content-Security-Policy"
+ content="default-src 'none'; style-src 'unsafe-inline'; script-src 'unsafe-inline'">
 <title>{title}</title>
 <style>
 {style}
@@ -32,8 +33,8 @@ its sheet are not proved.</p>
 <main>
 <section id="graph"><h2>Types by rounds</h2><div class="scroll">
 {graph}
-</div><p class="small">A line goes up from a type to its parent. Rounded: resources; dashed: virtual. A click shows what a type inherits and
-gives.</p></section>
+</div><p class="small">A line goes up from a type to its parent. Rounded: resources; dashed: virtual. A click shows
+what a type inherits and gives.</p></section>
 <section id="order"><h2>The order</h2>
 {order}
 </section>
@@ -126,8 +127,8 @@ def line_list(explained):
 def source_lines(explained):
     """The text with its line numbers."""
     text = (explained.source or b"").decode("utf-8", "replace").rstrip("\n")
-    return "\n".join(f'<span class="source" id="source-{at}"><b>{at:4}</b> {escape(line)}</span>'
-                     for at, line in enumerate(text.split("\n"), 1)) if text else "The sheet can't be read."
+    return "".join(f'<span class="source" id="source-{at}"><b>{at:4}</b> {escape(line)}</span>'
+                   for at, line in enumerate(text.split("\n"), 1)) if text else "The sheet can't be read."
 
 
 def remarks(explained):

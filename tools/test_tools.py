@@ -648,8 +648,7 @@ class Programs(unittest.TestCase):
     """The tools as programs."""
 
     def tool(self, name, *args, given=b""):
-        done = subprocess.run([sys.executable, os.path.join(HERE, name), *args], input=given,
-                              capture_output=True, check=False)
+        done = subprocess.run([os.path.join(HERE, name), *args], input=given, capture_output=True, check=False)
         return done.returncode, done.stdout, done.stderr.decode()
 
     def test_sheet(self):
