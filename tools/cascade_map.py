@@ -158,7 +158,7 @@ class Builder:
             tag = self.tags.tag(note)
             return [] if tag is None else [Annotation(DERIVE, tag=tag, place=place)]
         if name == "inherit":
-            return [Annotation(INHERIT, names=self.names(self.listed(arguments)), place=place)]
+            return [Annotation(INHERIT, names=self.names(self.listed(within(arguments))), place=place)]
         if name == "hint":
             self.skipped["hint"] += 1
         else:
@@ -168,11 +168,11 @@ class Builder:
     def associate(self, note):
         """`@associate([a b.c])`."""
         tokens = note.arguments
-        if not (len(tokens) >= 2 and tokens[0].text == "[" and tokens[-1].text == "]"):
+        if within(tokens) is tokens:
             place = tokens[0].place if tokens else note.place
             self.problems.error(place, "`@associate` takes one list of resources in square brackets")
             return []
-        names = self.names(self.listed(tokens))
+        names = self.names(self.listed(within(tokens)))
         if not names:
             self.problems.warning(note.place, "an empty list, which Cascade does not take")
         return [Annotation(ASSOCIATE, [(name[-1], name[0] if len(name) == 2 else None) for name in names],
@@ -189,9 +189,7 @@ class Builder:
         return out
 
     def listed(self, tokens):
-        """The names among tokens, a pair of square brackets around them and commas between them left out."""
-        if len(tokens) >= 2 and tokens[0].text == "[" and tokens[-1].text == "]":
-            tokens = tokens[1:-1]
+        """The names that tokens are, commas between them left out."""
         out = []
         for token in tokens:
             if token.kind == "name":
@@ -284,6 +282,12 @@ class Builder:
         self.join_nests()
         self.built_ins()
         return self.map
+
+
+def within(tokens):
+    """The tokens in a pair of square brackets; those given where there is none around them."""
+    listed = len(tokens) >= 2 and tokens[0].text == "[" and tokens[-1].text == "]"
+    return tokens[1:-1] if listed else tokens
 
 
 def missing_built_ins(type_map):

@@ -56,9 +56,10 @@ class Explained:
         self.source = data if self.syntax != map_files.SHEET else None
         sheet = self.read(data)
         lines = None if sheet is None else self.lines(sheet)
-        if lines is not None:
+        refused = bool(lines) and lines[0].startswith("refused")
+        if lines is not None and (refused or self.view):
             self.explain(lines)
-        self.accepted = bool(lines is not None and not (lines and lines[0].startswith("refused")))
+        self.accepted = lines is not None and not refused
 
     def read(self, data):
         """The sheet; None where the text makes none. The map is looked at where it can be read."""
@@ -147,7 +148,7 @@ def show(explained, args, several):
 def explain(name, args, several):
     """Explains one map; the status."""
     explained = Explained(name, args)
-    if not explained.whys and explained.problems.of("error"):
+    if not explained.whys and explained.view is None:
         report(explained.problems, explained.called, ("error",))
         say(f"explain: {explained.called}: the text makes no sheet")
         return WRONG

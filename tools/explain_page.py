@@ -4,6 +4,7 @@ import json
 import os
 from html import escape
 
+from commands import SHOWN
 from explain_dot import bad_edges, bad_types
 from explain_layout import svg
 from places import counted
@@ -133,9 +134,10 @@ def source_lines(explained):
 
 def remarks(explained):
     """What the checks of the text say."""
-    found = explained.problems.sorted()
+    found = [problem for problem in explained.problems.sorted() if problem.severity != "note"]
     items = "".join(f"<li>{escape(explained.place_text(problem.place))} {escape(problem.severity)}: "
-                    f"{escape(problem.text)}</li>" for problem in found if problem.severity != "note")
+                    f"{escape(problem.text)}</li>" for problem in found[:SHOWN])
+    items += f"<li>and {len(found) - SHOWN:,} more</li>" if len(found) > SHOWN else ""
     return f'<section id="remarks"><h2>Remarks of the checks</h2><ul>{items}</ul></section>' if items else ""
 
 

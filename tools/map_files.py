@@ -1,5 +1,7 @@
 """Type maps from files: the readable text, Cascade's own syntax, or a sheet."""
 
+import re
+
 from cascade_map import read_policies
 from commands import label
 from places import Place
@@ -11,6 +13,7 @@ from sheetlib import decode
 TEXT, CASCADE, SHEET = "text", "cascade", "sheet"
 SHEET_LIMIT = 40960
 BLANKS = b"\t\n\v\f\r"
+NO_TEXT = re.compile(rb"[\x00-\x08\x0e-\x1f\x7f]")
 
 
 def syntax_of(name, data, cascade=False):
@@ -25,12 +28,12 @@ def syntax_of(name, data, cascade=False):
 def text_in(name, data, problems):
     """The characters of a text file, one a byte; None where it has bytes that no text has."""
     data = data.removeprefix(b"\xef\xbb\xbf")
-    for at, byte in enumerate(data):
-        if byte < 32 and byte not in BLANKS or byte == 127:
-            before = data[:at].split(b"\n")
-            place = Place(label(name), len(before), len(before[-1]) + 1)
-            problems.error(place, f"the byte {byte:02x} (hexadecimal) is in no text; --decode prints that of a sheet")
-            return None
+    found = NO_TEXT.search(data)
+    if found:
+        before = data[:found.start()].split(b"\n")
+        place = Place(label(name), len(before), len(before[-1]) + 1)
+        problems.error(place, f"the byte {found[0][0]:02x} (hexadecimal) is in no text; --decode prints that of a sheet")
+        return None
     return data.decode("latin-1")
 
 

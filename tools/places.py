@@ -1,6 +1,6 @@
 """Places in a text, words and names that know theirs, and what a check finds there."""
 
-import difflib
+import functools
 from typing import NamedTuple
 
 
@@ -78,10 +78,44 @@ def counted(number, what, plural=None):
     return f"{number:,} {what if number == 1 else plural or what + 's'}"
 
 
+def steps(one, other, most):
+    """How many letters have to be put in, left out, changed or exchanged with the next to make one text of the
+    other; where it is more than `most`, some number above that."""
+    same = next((at for at, pair in enumerate(zip(one, other)) if pair[0] != pair[1]), min(len(one), len(other)))
+    one, other = one[same:], other[same:]
+    if not one or not other or not most:
+        return max(len(one), len(other))
+    ways = [(one[1:], other), (one, other[1:]), (one[1:], other[1:])]
+    if one[:2] == other[1::-1]:
+        ways.append((one[2:], other[2:]))
+    return 1 + min(steps(*way, most - 1) for way in ways)
+
+
+@functools.lru_cache(4096)
+def nearest_of(text, known):
+    """The known text that is fewest steps away, at most two and a third of the letters; or None."""
+    most = min(2, len(text) // 3)
+    near = [(steps(text, other, most), other) for other in known if abs(len(other) - len(text)) <= most]
+    found = min((pair for pair in near if pair[0] <= most), default=None)
+    return found and found[1]
+
+
 def nearest(text, known):
     """', did you mean `x`' where a known name is near, else nothing."""
-    found = difflib.get_close_matches(text, known, 1, 0.7) if len(text) < 70 else []
-    return f", did you mean {quoted(found[0])}" if found else ""
+    found = nearest_of(text, tuple(known))
+    return f", did you mean {quoted(found)}" if found else ""
+
+
+class Known:
+    """Names that may be meant by another; for the first hundred that are asked for, more are not printed."""
+
+    def __init__(self, names):
+        self.names, self.left = tuple(names), 100
+
+    def nearest(self, text):
+        """As `nearest`."""
+        self.left -= 1
+        return nearest(text, self.names) if self.left >= 0 else ""
 
 
 class Problem(NamedTuple):

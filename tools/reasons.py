@@ -8,7 +8,7 @@ refusal is explained from the names in it.
 from dataclasses import dataclass, field
 
 from map_lines import printed_mark
-from places import counted, place_of, quoted
+from places import Known, counted, place_of, quoted
 from sheet_checks import Order, cycle_text, undeclared
 from sheet_records import OTHER, RESOURCE, VARIANTS
 from sheet_text import show_name
@@ -44,6 +44,7 @@ class Reasons:
         self.rounds = view.rounds()
         self.lines = {line.printed(): line for line in view.lines()}
         self.order = None
+        self.resources = Known(show_name(name) for name in view.types if view.is_resource(name))
 
     def at(self, place):
         """' (pool.txt:16)', or nothing."""
@@ -223,8 +224,7 @@ class Reasons:
         out.types += [show_name(giver.owner.name) for giver in givers]
         found = self.view.types.get(other)
         if found is None:
-            names = [show_name(name) for name in self.view.types if self.view.is_resource(name)]
-            out.because.append(undeclared(other, names, self.checks().aliases))
+            out.because.append(undeclared(other, self.resources, self.checks().aliases))
         elif found.variant != RESOURCE:
             called = "of the variant other" if found.variant == OTHER else f"a {VARIANTS[found.variant]}"
             out.because.append(f"{quoted(show_name(other))} is {called}, no resource{self.at(found.place)}")

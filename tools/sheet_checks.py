@@ -7,7 +7,7 @@ still not likely to be meant.
 """
 
 from map_lines import MapView
-from places import counted, nearest, place_of, quoted
+from places import Known, counted, place_of, quoted
 from sheet_records import (ALIAS, ANNOTATIONS, DERIVE, EXTENSIONS, INHERIT, KINDS, LISTED, MAKE_LIST, MARKS,
                            NEST_ASSOCIATE, PARENTS, TAGS, TYPES, VARIANTS, WORD_BYTES, WORD_CHARACTERS, WORDS)
 from sheet_text import show_name, show_resource, show_word
@@ -237,7 +237,7 @@ class Order(Checks):
     def __init__(self, view, problems):
         super().__init__(problems)
         self.view = view
-        self.names = [show_name(name) for name in view.types]
+        self.names = Known(show_name(name) for name in view.types)
         self.aliases = {}
         for record in view.types.values():
             for ann in record.annotations:
@@ -300,7 +300,7 @@ def undeclared(name, names, aliases):
         true = aliases[name]
         return (f"{quoted(show_name(name))} is not declared: it is an alias of {quoted(show_name(true.name))}"
                 f"{at(true.place)}, and aliases are not resolved")
-    return f"{quoted(show_name(name))} is not declared{nearest(show_name(name), names)}"
+    return f"{quoted(show_name(name))} is not declared{names.nearest(show_name(name))}"
 
 
 # --------------------------------------------------------------- refusal 9
@@ -311,7 +311,7 @@ class Lines(Checks):
     def __init__(self, view, problems):
         super().__init__(problems)
         self.view = view
-        self.resources = [show_name(name) for name in view.types if view.is_resource(name)]
+        self.resources = Known(show_name(name) for name in view.types if view.is_resource(name))
         self.aliases = Order(view, problems).aliases
         self.again = set()   # (type, word) of a duplicate that is said already
 
@@ -410,7 +410,7 @@ class Doubtful(Checks):
     def __init__(self, view, problems):
         super().__init__(problems)
         self.view = view
-        self.names = [show_name(name) for name in view.types]
+        self.names = Known(show_name(name) for name in view.types)
         self.made = {(name, word) for name, record in view.types.items() for word in view.words(record)}
 
     def check(self):
@@ -447,7 +447,7 @@ class Doubtful(Checks):
         name, whole = extension.name, f"{show_name(extension.name)}.{show_word(extension.word)}"
         if name not in self.view.types:
             self.problems.warning(extension.place, f"{quoted(show_name(name))} is not declared, so that its "
-                                                   f"extension changes nothing{nearest(show_name(name), self.names)}")
+                                                   f"extension changes nothing{self.names.nearest(show_name(name))}")
         elif (name, extension.word) not in self.made:
             self.problems.warning(place_of(extension.word) or extension.place,
                                   f"no line {quoted(whole)} is made, so that its extension changes nothing")
@@ -456,4 +456,4 @@ class Doubtful(Checks):
             if not known and parent != ("resource",):
                 self.problems.warning(place_of(parent) or extension.place,
                                       f"{quoted(show_name(parent))} is neither declared nor made, and is listed "
-                                      f"as a parent all the same{nearest(show_name(parent), self.names)}")
+                                      f"as a parent all the same{self.names.nearest(show_name(parent))}")

@@ -9,8 +9,9 @@ sheet, or a sheet into the text.
 A text is checked, and what is wrong is told with its place, all of it in one
 run: FILE:LINE:COLUMN: error: what. Errors are what makes a sheet unreadable (3
 to 7) and what the schedule call is sure to refuse (8, 9); a sheet is written
-only where there are none. Warnings stop nothing. Statuses: 0 done, 1 errors in
-what was read, 2 trouble with a file or an option.
+only where there are none. Warnings stop nothing. docs/SHEETS.md lists both,
+docs/CASCADE.md has Cascade's syntax as it is taken. Neither text is proved.
+Statuses: 0 done, 1 errors in what was read, 2 trouble with a file or an option.
 """
 
 import os
@@ -70,6 +71,8 @@ def settle(args):
     for name in ("strict", "quiet"):
         if args.decode and not args.cascade and name in given:
             raise Trouble(f"{spelled(name)} does nothing with --decode, which has no warnings")
+    if args.append == b"":
+        raise Trouble("--append is given nothing")
     args.files = args.files or ["-"]
     if args.raw and (args.cascade or any(name.endswith(".cas") for name in args.files)):
         raise Trouble("--raw is for the readable text, not for Cascade's syntax")

@@ -133,8 +133,8 @@ class Cascade(unittest.TestCase):
                    "1:1: warning: `a` associates the same words already, so that Cascade drops this")
         self.errors("@associate([d.f])\nextend a {}\n@associate([f])\nextend a {}\ndomain a {}\nresource f {}\n"
                     "resource d.f {}", "3:1: error: two extensions of `a` associate the same words in different ways")
-        self.assertIn("1:8: warning: `aa` is not declared, so that its extension changes nothing, did you mean `aaa`",
-                      told("extend aa {}\ndomain aaa {}", "x.cas"))
+        self.assertIn("1:8: warning: `bas` is not declared, so that its extension changes nothing, did you mean `base`",
+                      told("extend bas {}\ndomain base {}", "x.cas"))
         self.errors("@inherit([b])\nextend a {}\ndomain a {}",
                     "1:1: error: `@inherit` on an extension can't be read; `inherits` adds parents")
 
@@ -184,6 +184,10 @@ class Cascade(unittest.TestCase):
                 ("@makelist @makelist\ndomain a {}", "1:11: error: `@makelist` twice, which Cascade refuses"),
                 ("@alias(b.c)\ndomain a {}", "1:8: error: an alias is one word, `b.c` is not"),
                 ("@alias(\"b\")\ndomain a {}", "1:8: error: expected a name, found `\"b\"`"),
+                ("@alias([b])\ndomain a {}", "1:8: error: expected a name, found `[`"),
+                ("@associate([f], g)\ndomain a {}",
+                 "1:12: error: `@associate` takes one list of resources in square brackets"),
+                ("@associate([f] [g])\ndomain a {}", "1:14: error: expected a name, found `]`"),
                 ("domain a.b.c {}", "1:8: error: `a.b.c` has more than two words"),
                 ("domain a inherits b.c.d {}", "1:19: error: `b.c.d` has more than two words"),
                 ("/* domain a {}", "1:1: error: the comment `/*` is not closed"),

@@ -183,6 +183,8 @@ class Explain(InFolder):
         self.assertEqual((status, out), (1, b""))
         self.assertEqual(error, "<stdin>:1:1: error: `foo` begins no line of a type map\n"
                                 "explain: <stdin>: the text makes no sheet\n")
+        explained = self.explained("domain @0")  # a good sheet, from a text that is for damaged ones
+        self.assertEqual((explained.whys, explained.view), ([], None))
 
     def test_lines(self):
         """Lines that were printed elsewhere; lines of another map are found out."""

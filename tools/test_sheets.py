@@ -335,7 +335,7 @@ class Tool(InFolder):
                      "--raw a.cas", "--raw --cascade a.txt", "--check --hex a.txt", "--check -o x a.txt",
                      "--check --out-dir x a.txt", "--check --flip 1 a.txt", "-o x --out-dir y a.txt",
                      "--out-dir x --hex a.txt", "--out-dir x --join a.txt b.txt", "--join a.txt", "a.txt b.txt",
-                     "- -", "--out-dir x -", "--out-dir x a.txt a.cas", "--append 0 a.txt", "--append xy a.txt",
+                     "- -", "--out-dir x -", "--out-dir x a.txt a.cas", "--append 0 a.txt", "--append xy a.txt", "--append= a.txt",
                      "--flip 999 a.txt", "--flip -1 a.txt", "--truncate 999 a.txt", "--truncate -1 a.txt",
                      "--truncate x a.txt", "--deco a.txt"]:
             with self.subTest(args):
