@@ -26,7 +26,7 @@ use Rattle.relisting_laws.specs.Alike.{answers-alike, schedules-equal, l
 abbrev type : ℕ → Variant → List Name → List Annotation → TypeInfo
 type w v ps xs = record { name = w ∷ []; variant = v; virtual = false; trait = false; parents = ps; annotations = xs; marks = [] }
 
-abbrev asked : Call → List ℕ → ℕ → ℕ → Input
+abbrev pub asked : Call → List ℕ → ℕ → ℕ → Input
 asked c bytes l d = record { settings = standard; call = c; sheet = bytes; listing = lent l; diagnosis = lent d }
 
 -- bytes that hold relisted sheets go to one call with slices of equal lengths
@@ -55,7 +55,7 @@ answer number size rows = record { number = number; size = size; rows = rows; mo
 --   associate f
 -- domain b : a
 -- domain c : a b
-abbrev listed : List ℕ
+abbrev pub listed : List ℕ
 listed = hex 41 0x1060b085882c616643932b9b7bab931b291cd95b198201900000000488180080400000804000100000
 
 -- records shuffled, parents reordered and repeated
@@ -64,7 +64,7 @@ listed = hex 41 0x1060b085882c616643932b9b7bab931b291cd95b1982019000000004881800
 -- resource f
 -- domain a
 --   associate f
-abbrev relisted : List ℕ
+abbrev pub relisted : List ℕ
 relisted = hex 43 0x1060b085882c616643932b9b7bab931b291cd95b19820100c04000100010100000000c800000002440c000
 
 abbrev a : Name
@@ -110,7 +110,7 @@ records-relisted = record {
       (and (relist-parents (type 0 domain [] associates) [] refl refl) end)));
 }
 
-both : (c : Call) (l d : ℕ) → RelistedInputs (asked c listed l d) (asked c relisted l d)
+pub both : (c : Call) (l d : ℕ) → RelistedInputs (asked c listed l d) (asked c relisted l d)
 both c l d = pair c l d listed-holds relisted-holds records-relisted
 
 both-alike : (c : Call) (l d : ℕ) → Alike (asked c listed l d) (asked c relisted l d)

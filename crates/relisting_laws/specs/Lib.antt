@@ -1,3 +1,3 @@
 pub mod Statements
 pub mod Alike
-mod Examples
+pub mod Examples
