@@ -6,17 +6,13 @@ is read from that text, and the words beside a refusal.
 """
 
 import os
-import subprocess
-import sys
 
-import building
 import printed
+import proved
 import refusals
-from program import (ACCEPTED, REFUSED, STDIN, TROUBLE, NoOutput, Trouble, called, put, put_out, read_all,
-                     root, run, shown, write_file)
-
-LONGEST = 65536  # bytes that the programs read of a sheet; 40,961 are too many already
-CALL_NUMBERS = {"order": 0, "schedule": 1}  # in the head of a sheet for the program batch
+from building import write_error
+from program import (ACCEPTED, REFUSED, STDIN, TROUBLE, NoOutput, Once, Parser, Trouble, about, each, put_out,
+                     read_all, run, shown, write_file)
 
 USAGE = """\
 Usage: {call} [OPTION...] [FILE...]
@@ -74,119 +70,6 @@ def usage(call):
                         numbers="\n".join(numbers) + "\n")
 
 
-# --------------------------------------------- the programs that answer
-
-class Each:
-    """A process of the program for each sheet."""
-
-    def __init__(self, path):
-        self.path = path
-
-    def text(self, sheet):
-        """What the program prints."""
-        with started([self.path], stdin=subprocess.PIPE, stdout=subprocess.PIPE) as process:
-            out, _ = process.communicate(sheet)
-        return whole(out, process.returncode)
-
-
-class Many:
-    """One process of the program `batch` for all sheets: before each its call and its length, after each
-    answer a line with a dot."""
-
-    def __init__(self, path, call):
-        self.path, self.call, self.process = path, call, None
-
-    def text(self, sheet):
-        """What the program of the call would print."""
-        if self.process is None:
-            self.process = started([self.path], stdin=subprocess.PIPE, stdout=subprocess.PIPE)
-        head = bytes([CALL_NUMBERS[self.call]]) + len(sheet).to_bytes(3, "big")
-        out = self.ask(head + sheet)
-        if out == b".\n" or out.endswith(b"\n.\n"):
-            return whole(out[:-2], 0)
-        self.process.stdin.close()
-        self.process.stdout.close()
-        status, self.process = self.process.wait(), None
-        whole(out, status)
-        raise Trouble("the program gave no answer")
-
-    def ask(self, question):
-        """What comes until a line with a dot, or until the process has ended."""
-        out = b""
-        try:
-            put(self.process.stdin.fileno(), question)
-            while not (out == b".\n" or out.endswith(b"\n.\n")):
-                part = os.read(self.process.stdout.fileno(), 1 << 20)
-                if not part:
-                    break
-                out += part
-        except BrokenPipeError:
-            pass
-        return out
-
-
-def started(words, **files):
-    """A process."""
-    try:
-        return subprocess.Popen(words, **files)
-    except OSError as error:
-        raise Trouble(f"the program cannot be run: {(error.strerror or str(error)).lower()}") from None
-
-
-def whole(text, status):
-    """What a program printed, if it ended well."""
-    if status:
-        how = f"signal {-status}" if status < 0 else f"status {status}"
-        raise Trouble(f"the program ended with {how}")
-    if text and not text.endswith(b"\n"):
-        raise Trouble("the program's answer is cut short")
-    return text
-
-
-class Answers:
-    """Where the answers come from. Both parts are built when they are first needed, so that a file that
-    cannot be read is told before."""
-
-    def __init__(self, call, several, say):
-        self.call, self.several, self.say = call, several, say
-        self.program, self.calls = None, None
-
-    def ready_program(self):
-        """The proved program; for several sheets `batch`, which prints the same, if it is at hand."""
-        if self.program is None:
-            self.program = Each(building.ready(root(), building.program(root(), self.call), self.say))
-            batch = building.program(root(), "batch")
-            if self.several and building.at_hand(root(), batch):
-                self.program = Many(batch.path, self.call)
-        return self.program
-
-    def ready_calls(self):
-        """The exported calls. The program is built first: most crates are in both, and `rt check` proves
-        several at a time."""
-        if self.calls is None:
-            self.ready_program()
-            path = building.shared_object(root(), self.say)
-            import gidzelma  # pylint: disable=import-outside-toplevel
-            try:
-                self.calls = gidzelma.load(path)
-            except OSError as error:
-                raise Trouble(f"{path} cannot be loaded: {error}") from None
-        return self.calls
-
-    def text(self, sheet):
-        """What the proved program prints for a sheet."""
-        return self.ready_program().text(sheet)
-
-    def packed(self, sheet):
-        """The number of the exported call, and the packed bytes where it is 0."""
-        calls = self.ready_calls()
-        import gidzelma  # pylint: disable=import-outside-toplevel
-        try:
-            return 0, calls.packed(self.call, sheet)
-        except gidzelma.Refused as refused:
-            return refused.number, b""
-
-
 def at_terminal():
     """Whether a person reads both the answer and the messages."""
     return os.isatty(1) and os.isatty(2)
@@ -197,13 +80,12 @@ def at_terminal():
 class Asked:
     """One run: its options, and what is done with each file."""
 
-    def __init__(self, call, options, files, say):
-        self.call, self.files, self.say = call, files or ["-"], say
-        self.json, self.size, self.explain = (name in options for name in ("json", "size", "explain"))
-        self.packed = options.get("packed")
+    def __init__(self, call, args, say):
+        self.call, self.files = call, args.files or ["-"]
+        self.json, self.size, self.explain, self.packed = args.json, args.size, args.explain, args.packed
         self.several = len(self.files) > 1
         self.check()
-        self.answers = Answers(call, self.several, say)
+        self.answers = proved.Answers(call, self.several, say)
 
     def check(self):
         """What makes no sense is refused before anything is done."""
@@ -213,8 +95,6 @@ class Asked:
             raise Trouble("--packed and --json do not go together")
         if self.packed == "-" and self.size:
             raise Trouble("--size and --packed - would both write to standard output")
-        if self.files.count("-") > 1:
-            raise Trouble("standard input is given twice")
         if self.packed and self.packed != "-":
             self.check_places()
         if self.packed == "-" and self.several:
@@ -236,7 +116,7 @@ class Asked:
 
     def place(self, name):
         """The file for the packed bytes of a sheet."""
-        if not os.path.isdir(self.packed):
+        if self.packed == "-" or not os.path.isdir(self.packed):
             return self.packed
         if name == "-":
             raise Trouble(f"--packed {shown(self.packed)}: in a folder the sheet of {STDIN} has no name")
@@ -246,7 +126,7 @@ class Asked:
 
     def answer(self, name):
         """Answers one file; the status."""
-        sheet = read_all(name, LONGEST)
+        sheet = read_all(name, proved.LONGEST)
         if self.json:
             return self.answer_json(name, sheet)
         number = None
@@ -270,7 +150,7 @@ class Asked:
     def print_text(self, name, text):
         """The program's own bytes; where the packed ones go to standard output, a refusal does not."""
         if self.packed == "-":
-            building.write_error(text.decode())
+            write_error(text.decode())
         else:
             put_out(self.heading(name) + text)
 
@@ -279,13 +159,11 @@ class Asked:
         if self.explain and self.packed != "-":
             put_out(printed.explained(text, sheet))
         elif self.explain or at_terminal():
-            building.write_error(printed.explained(text, sheet).decode())
+            write_error(printed.explained(text, sheet).decode())
 
     def hand_out(self, name, sheet, packed):
         """The packed bytes, their number and W."""
-        if self.packed == "-":
-            put_out(packed)
-        elif self.packed:
+        if self.packed:
             write_file(self.place(name), packed)
         if self.size:
             put_out(self.heading(name) + f"size {len(packed)} W {words_of(sheet)}\n".encode())
@@ -308,23 +186,17 @@ class Asked:
         import json  # pylint: disable=import-outside-toplevel
         put_out(json.dumps({"file": name, "call": self.call, **value}).encode() + b"\n")
 
-    # ---- all files
-
-    def answer_all(self):
-        """Answers every file; the worst status."""
-        worst = ACCEPTED
-        for name in self.files:
-            try:
-                status = self.answer(name)
-            except NoOutput:
-                raise
-            except Trouble as trouble:
-                self.say(f"{trouble.about or called(name)}: {trouble.why}")
-                if self.json:
-                    self.put_json(name, {"status": TROUBLE, "trouble": trouble.why})
-                status = TROUBLE
-            worst = max(worst, status)
-        return worst
+    def answer_told(self, name):
+        """Answers one file; with --json trouble too is an object."""
+        try:
+            with about(name):
+                return self.answer(name)
+        except NoOutput:
+            raise
+        except Trouble as trouble:
+            if self.json:
+                self.put_json(name, {"status": TROUBLE, "trouble": trouble.why})
+            raise
 
 
 def words_of(sheet):
@@ -332,18 +204,24 @@ def words_of(sheet):
     return (sheet[0] & 15) << 4 | sheet[1] >> 4
 
 
-def act(call, options, files, say):
-    """What the program of a call does."""
-    if not files and os.isatty(0):
-        raise Trouble(f"no file is given, and {STDIN} is a terminal; {call} --help says more")
-    return Asked(call, options, files, say).answer_all()
+def options(call):
+    """The options of the program of a call."""
+    out = Parser(call, usage(call))
+    out.add_argument("files", nargs="*")
+    for name in ("--explain", "--json", "--size"):
+        out.add_argument(name, action="store_true")
+    out.add_argument("--packed", action=Once)
+    return out
 
 
-def main(call):
+def main(call, arguments, say):
     """The program of a call."""
-    run(call, usage(call), ["explain", "json", "size", "packed="],
-        lambda options, files, say: act(call, options, files, say))
+    args = options(call).parse(arguments)
+    if not args.files and os.isatty(0):
+        raise Trouble(f"no file is given, and {STDIN} is a terminal; {call} --help says more")
+    asked = Asked(call, args, say)
+    return each(asked.files, asked.answer_told, say)
 
 
 if __name__ == "__main__":
-    main(sys.argv[1])
+    run(main)

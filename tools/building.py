@@ -174,10 +174,17 @@ class Progress:
             write_error("\r\033[K")
 
 
+def put(number, data):
+    """All the bytes, to an open file."""
+    left = memoryview(data)
+    while left:
+        left = left[os.write(number, left):]
+
+
 def write_error(text):
     """To standard error, if it is there."""
     with contextlib.suppress(OSError):
-        os.write(2, text.encode(errors="backslashreplace"))
+        put(2, text.encode(errors="surrogateescape"))
 
 
 @contextlib.contextmanager

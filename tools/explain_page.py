@@ -4,10 +4,9 @@ import json
 import os
 from html import escape
 
-from commands import SHOWN
 from explain_dot import bad_edges, bad_types
 from explain_layout import svg
-from places import counted
+from places import SHOWN, counted
 from sheet_records import VARIANTS
 from sheet_text import show_name
 

@@ -3,9 +3,9 @@
 import re
 
 from cascade_map import read_policies
-from commands import label
 from places import Place
-from sheet_checks import Readable, check
+from program import called
+from sheet_checks import Readable
 from sheet_records import SheetError, TypeMap
 from sheet_text import TextReader
 from sheetlib import decode
@@ -31,7 +31,7 @@ def text_in(name, data, problems):
     found = NO_TEXT.search(data)
     if found:
         before = data[:found.start()].split(b"\n")
-        place = Place(label(name), len(before), len(before[-1]) + 1)
+        place = Place(called(name), len(before), len(before[-1]) + 1)
         problems.error(place, f"the byte {found[0][0]:02x} (hexadecimal) is in no text; --decode prints that of a sheet")
         return None
     return data.decode("latin-1")
@@ -44,7 +44,7 @@ def read_texts(files, problems, cascade=False):
         text = text_in(name, data, problems)
         if text is not None:
             kind = policies if syntax_of(name, b"", cascade) == CASCADE else texts
-            kind.append((label(name), text))
+            kind.append((called(name), text))
     maps = [TextReader(file, problems).read(text) for file, text in texts]
     if policies:
         maps.append(read_policies(policies, problems))
@@ -78,8 +78,3 @@ def read_sheet(data, problems):
     before = len(problems.of("error"))
     Readable(out, problems).check()
     return out if len(problems.of("error")) == before else None
-
-
-def check_map(type_map, problems):
-    """All checks of a map."""
-    check(type_map, problems)

@@ -3,6 +3,8 @@
 import functools
 from typing import NamedTuple
 
+SHOWN = 100  # problems of one file
+
 
 class Place(NamedTuple):
     """A place in a file; the first line and the first column are 1."""
@@ -160,6 +162,14 @@ class Problems:
     def of(self, severity):
         """The problems of one severity."""
         return [problem for problem in self.found if problem.severity == severity]
+
+    def told(self, called, severities):
+        """The lines that tell of those of some severities, at most a hundred."""
+        found = [problem for problem in self.sorted() if problem.severity in severities]
+        lines = [str(problem) if problem.place else f"{called}: {problem}" for problem in found[:SHOWN]]
+        if len(found) > SHOWN:
+            lines.append(f"{called}: and {len(found) - SHOWN:,} more")
+        return "".join(line + "\n" for line in lines)
 
     def sorted(self):
         """All of them, by file in the order met, then by place; those without a place last."""

@@ -1,21 +1,26 @@
-"""What the programs in bin/ share: statuses, messages, options, files.
+"""What the programs in bin/ and tools/sheet share: statuses, messages, options, files.
 
-A program ends with 0 where all was accepted, 1 where something was refused, and 2 on trouble: what was
-asked could not be done. Trouble is one line on standard error. Standard output and standard error are
-written by their numbers, so that no write that fails is missed.
+A program ends with 0 where all was accepted, 1 where something was refused or has errors, and 2 on
+trouble: what was asked could not be done. Trouble is one line on standard error. Standard output and
+standard error are written by their numbers, so that no write that fails is missed.
 """
 
+import argparse
+import contextlib
 import errno
-import getopt
 import os
 import signal
+import stat
 import subprocess
 import sys
 
 import building
+from building import put
 
+ROOT = os.path.dirname(os.path.dirname(os.path.realpath(__file__)))  # also where a program is a link
 ACCEPTED, REFUSED, TROUBLE = 0, 1, 2
 STDIN, STDOUT = "standard input", "standard output"
+LONGEST = 1 << 24  # bytes; no text of a map is as long
 
 
 class Trouble(Exception):
@@ -30,9 +35,15 @@ class NoOutput(Trouble):
     """Standard output takes no more, so that no other file can be answered either."""
 
 
-def root():
-    """The folder that holds bin/ and tools/, also where a program is reached by a link."""
-    return os.path.dirname(os.path.dirname(os.path.realpath(__file__)))
+@contextlib.contextmanager
+def about(name):
+    """Trouble inside that names no file is trouble with this one."""
+    try:
+        yield
+    except Trouble as trouble:
+        if trouble.about:
+            raise
+        raise Trouble(trouble.why, called(name)) from None
 
 
 # ------------------------------------------------------------- messages
@@ -57,9 +68,9 @@ def reason(error):
 
 
 def sayer(name):
-    """What tells a line on standard error, under a program's name."""
+    """What tells one line on standard error, under a program's name."""
     def say(text):
-        building.write_error(f"{name}: {text}\n")
+        building.write_error(f"{name}: {shown(text)}\n")
     return say
 
 
@@ -84,13 +95,11 @@ def read_all(name, most):
     try:
         number = 0 if name == "-" else os.open(name, os.O_RDONLY)
         try:
-            out = b""
-            while len(out) < most:
-                part = os.read(number, most - len(out))
-                if not part:
-                    break
-                out += part
-            return out
+            parts, left = [], most
+            while left and (part := os.read(number, min(left, 1 << 20))):
+                parts.append(part)
+                left -= len(part)
+            return b"".join(parts)
         finally:
             if number:
                 os.close(number)
@@ -98,11 +107,12 @@ def read_all(name, most):
         raise Trouble(reason(error), called(name)) from None
 
 
-def put(number, data):
-    """All the bytes, to an open file."""
-    left = memoryview(data)
-    while left:
-        left = left[os.write(number, left):]
+def read_whole(name):
+    """The bytes of a file that is not too long."""
+    data = read_all(name, LONGEST + 1)
+    if len(data) > LONGEST:
+        raise Trouble(f"longer than {LONGEST >> 20} MiB", called(name))
+    return data
 
 
 def put_out(data):
@@ -116,7 +126,11 @@ def put_out(data):
 
 
 def write_file(name, data):
-    """A file with these bytes, whole or not at all; what is no plain file is written to as it is."""
+    """A file with these bytes, whole or not at all; what is no plain file is written to as it is, and `-`
+    is standard output. A file that is replaced keeps its mode."""
+    if name == "-":
+        put_out(data)
+        return
     plain = os.path.isfile(name) or not os.path.exists(name)
     path = os.path.realpath(name) if plain else name
     part = f"{path}.{os.getpid()}.part" if plain else path
@@ -124,6 +138,8 @@ def write_file(name, data):
         number = os.open(part, os.O_WRONLY | (os.O_CREAT | os.O_EXCL if plain else 0), 0o666)
         try:
             put(number, data)
+            if plain and os.path.exists(path):
+                os.fchmod(number, stat.S_IMODE(os.stat(path).st_mode))
         finally:
             os.close(number)
         if plain:
@@ -145,7 +161,7 @@ def end_by(number):
 def said_by(*words):
     """The first line that a command prints, or None."""
     try:
-        done = subprocess.run(words, cwd=root(), stdin=subprocess.DEVNULL, stdout=subprocess.PIPE,
+        done = subprocess.run(words, cwd=ROOT, stdin=subprocess.DEVNULL, stdout=subprocess.PIPE,
                               stderr=subprocess.DEVNULL, check=False)
     except OSError:
         return None
@@ -156,7 +172,7 @@ def said_by(*words):
 def number_of_version():
     """What the file VERSION has."""
     try:
-        with open(os.path.join(root(), "VERSION"), encoding="utf-8") as source:
+        with open(os.path.join(ROOT, "VERSION"), encoding="utf-8") as source:
             return source.read().strip()
     except OSError:
         return "of unknown version"
@@ -165,7 +181,7 @@ def number_of_version():
 def provenance():
     """Where an unpacked archive is from, by key; of a repository nothing."""
     try:
-        with open(os.path.join(root(), "PROVENANCE"), encoding="utf-8") as source:
+        with open(os.path.join(ROOT, "PROVENANCE"), encoding="utf-8") as source:
             return dict(line.rstrip("\n").split(": ", 1) for line in source)
     except OSError:
         return {}
@@ -174,28 +190,83 @@ def provenance():
 def version(name):
     """Version, commit and toolchain. Those of an archive are those that it was made with."""
     known, commit = provenance(), None
-    if os.path.exists(os.path.join(root(), ".git")):
+    if os.path.exists(os.path.join(ROOT, ".git")):
         commit = said_by("git", "describe", "--always", "--dirty", "--abbrev=12", "--exclude=*")
     commit = known.get("commit") or commit or "unknown"
     toolchain = known.get("toolchain") or said_by("rt", "version") or "unknown: rt is not on the path"
     return f"{name} {number_of_version()}\ncommit {commit}\ntoolchain {toolchain}\n"
 
 
+# --------------------------------------------------------------- options
+
+class Parser(argparse.ArgumentParser):
+    """The options of a program and its files; `text` is that of --help where argparse is not to make one."""
+
+    def __init__(self, prog, text=None, **more):
+        super().__init__(prog=prog, formatter_class=argparse.RawDescriptionHelpFormatter, allow_abbrev=False,
+                         **more)
+        self.text = text
+        self.add_argument("--version", action=Version, help="print version, commit and toolchain")
+
+    def parse(self, arguments):
+        """The options; behind `--` all is files."""
+        at = arguments.index("--") if "--" in arguments else len(arguments)
+        out = self.parse_intermixed_args(arguments[:at])
+        out.files = list(out.files) + arguments[at + 1:]
+        if out.files.count("-") > 1:
+            raise Trouble(f"{STDIN} is given twice")
+        return out
+
+    def error(self, message):
+        """Options that are wrong."""
+        raise Trouble(f"{message}; --help has the options")
+
+    def format_help(self):
+        """The text of --help."""
+        return self.text or super().format_help()
+
+    def print_help(self, file=None):
+        """The help, to its last byte."""
+        put_out(self.format_help().encode())
+
+
+class Version(argparse.Action):
+    """--version."""
+
+    def __init__(self, option_strings, dest, **more):
+        super().__init__(option_strings, dest, nargs=0, default=argparse.SUPPRESS, **more)
+
+    def __call__(self, parser, *_):
+        put_out(version(parser.prog).encode())
+        parser.exit()
+
+
+class Once(argparse.Action):
+    """An option whose value is given once, and is not empty."""
+
+    def __call__(self, parser, namespace, values, option_string=None):
+        before = getattr(namespace, self.dest)
+        if before is not None or values in ("", b""):
+            raise Trouble(f"{option_string} is given {'nothing' if before is None else 'twice'}")
+        setattr(namespace, self.dest, values)
+
+
 # --------------------------------------------------------------- running
 
-def options_of(arguments, known):
-    """The options by their names, and the other arguments. No value is given twice."""
-    try:
-        pairs, rest = getopt.gnu_getopt(arguments, "h", ["help", "version"] + known)
-    except getopt.GetoptError as error:
-        raise Trouble(f"{error.msg}; --help has the options") from None
-    out = {}
-    for option, value in pairs:
-        option = "help" if option == "-h" else option[2:]
-        if option + "=" in known and (option in out or not value):
-            raise Trouble(f"--{option} {'is given twice' if option in out else 'is given nothing'}")
-        out[option] = value
-    return out, rest
+def each(items, act, say):
+    """Does something with each of them; the worst status. Trouble with one is told, and the others go on,
+    unless standard output takes no more."""
+    worst = ACCEPTED
+    for item in items:
+        try:
+            status = act(item)
+        except NoOutput:
+            raise
+        except Trouble as trouble:
+            say(str(trouble))
+            status = TROUBLE
+        worst = max(worst, status)
+    return worst
 
 
 def fault(error):
@@ -207,30 +278,25 @@ def fault(error):
     return f"a fault in {file}, line {place.tb_lineno}: {error!r}"
 
 
-def run(name, usage, known, act):
-    """Runs a program, whose first argument is its name: `act` gets the options, the other arguments and
-    what tells a line, and gives the status. Ends the process."""
+def run(main):
+    """Runs a program, whose first argument is its name: `main` gets the name, the other arguments and what
+    tells a line, and gives the status. Ends the process."""
     hold_standard_files()
     if signal.getsignal(signal.SIGINT) is signal.default_int_handler:
         signal.signal(signal.SIGINT, signal.SIG_DFL)
+    name, *arguments = sys.argv[1:]
     say = sayer(name)
     try:
-        options, rest = options_of(sys.argv[2:], known)
-        if "help" in options:
-            put_out(usage.encode())
-            status = ACCEPTED
-        elif "version" in options:
-            put_out(version(name).encode())
-            status = ACCEPTED
-        else:
-            status = act(options, rest, say)
+        status = main(name, arguments, say)
+    except SystemExit as ended:  # after --help and --version
+        status = ended.code or ACCEPTED
     except (Trouble, building.NotBuilt) as trouble:
         say(str(trouble))
         status = TROUBLE
     except building.Stopped as stopped:
         end_by(stopped.number)
     except Exception as error:  # pylint: disable=broad-except
-        # Python would end with 1, which says that a sheet was refused.
+        # Python would end with 1, which says that something was refused.
         say(fault(error))
         status = TROUBLE
     # Nothing was written through Python's own files.

@@ -9,14 +9,11 @@ from dataclasses import dataclass, field
 
 from map_lines import printed_mark
 from places import Known, counted, place_of, quoted
+from refusals import said_of
 from sheet_checks import Order, cycle_text, undeclared
 from sheet_records import OTHER, RESOURCE, VARIANTS
 from sheet_text import show_name
 
-REFUSALS = {1: "a sheet over 40,960 bytes", 2: "a diagnosis slice under 1,536 bytes", 3: "a field passes the end",
-            4: "a value that is not allowed", 5: "words not ascending, or `resource` or `self` missing",
-            6: "something stands twice", 7: "a fill that is not zero, or more bytes", 8: "no order",
-            9: "a type refused in synthesis", 10: "a schedule longer than the listing"}
 LISTING = 65536
 
 
@@ -266,8 +263,7 @@ def packed_size(view):
 
 def why_refused(number, view):
     """A refusal in words."""
-    text = REFUSALS.get(number, "an unknown refusal")
     if number == 10 and view is not None:
         lines, size = packed_size(view)
-        text = f"{counted(lines, 'line')} in {counted(size, 'byte')}, and the program lends a listing of {LISTING:,}"
-    return text
+        return f"{counted(lines, 'line')} in {counted(size, 'byte')}, and the program lends a listing of {LISTING:,}"
+    return said_of(number)

@@ -36,9 +36,17 @@ KINDS = {
 MORE = "there are more than 256 rows"
 
 
+UNKNOWN = ("a number that the table of refusals does not have", "")
+
+
+def said_of(number):
+    """A refusal in words."""
+    return REFUSALS.get(number, UNKNOWN)[0]
+
+
 def meaning_of(number):
     """A refusal in words, with its limits."""
-    said, limits = REFUSALS.get(number, ("a number that the table of refusals does not have", ""))
+    said, limits = REFUSALS.get(number, UNKNOWN)
     return f"{said} ({limits})" if limits else said
 
 

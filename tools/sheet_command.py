@@ -20,18 +20,20 @@ import cascade_text
 import map_files
 import sheet_text
 import sheetlib
-from commands import DONE, TROUBLE, WRONG, Parser, Trouble, label, read_file, report, run, say, write_file, write_out
+from building import write_error
 from places import Problems, counted
+from program import (ACCEPTED, REFUSED, STDIN, STDOUT, Once, Parser, Trouble, called, each, read_whole, run, shown, write_file)
+from sheet_checks import check
 
 DAMAGE = ("truncate", "append", "flip")
 
 
-def options():
+def options(name):
     """The options of the command."""
-    out = Parser(prog="sheet", description=__doc__, epilog=sheet_text.__doc__)
+    out = Parser(name, description=__doc__, epilog=sheet_text.__doc__)
     out.add_argument("files", nargs="*", metavar="FILE", help="a text; standard input for `-`, or if absent")
-    out.add_argument("-o", metavar="FILE", dest="out", help="write to FILE, not to standard output")
-    out.add_argument("--out-dir", metavar="DIR", help="write each NAME.txt or NAME.cas to DIR/NAME.sheet")
+    out.add_argument("-o", metavar="FILE", dest="out", action=Once, help="write to FILE, not to standard output")
+    out.add_argument("--out-dir", metavar="DIR", action=Once, help="write each NAME.txt or NAME.cas to DIR/NAME.sheet")
     out.add_argument("--check", action="store_true", help="write nothing, only check")
     out.add_argument("--allow-refused", action="store_true",
                      help="write the sheet although the call will refuse it by 8 or 9: these errors become warnings")
@@ -45,8 +47,9 @@ def options():
     out.add_argument("--raw", action="store_true",
                      help="for damaged sheets: check only that fields fit their widths, with --decode only that "
                           "fields end and fill do")
-    out.add_argument("--truncate", metavar="N", type=int, help="keep only the first N bytes")
-    out.add_argument("--append", metavar="HEX", type=bytes.fromhex, help="append these bytes (after --truncate)")
+    out.add_argument("--truncate", metavar="N", type=int, action=Once, help="keep only the first N bytes")
+    out.add_argument("--append", metavar="HEX", type=bytes.fromhex, action=Once,
+                     help="append these bytes (after --truncate)")
     out.add_argument("--flip", metavar="BIT", type=int, action="append",
                      help="invert this bit, 0 being the first (after --append); may be repeated")
     return out
@@ -71,8 +74,6 @@ def settle(args):
     for name in ("strict", "quiet"):
         if args.decode and not args.cascade and name in given:
             raise Trouble(f"{spelled(name)} does nothing with --decode, which has no warnings")
-    if args.append == b"":
-        raise Trouble("--append is given nothing")
     args.files = args.files or ["-"]
     if args.raw and (args.cascade or any(name.endswith(".cas") for name in args.files)):
         raise Trouble("--raw is for the readable text, not for Cascade's syntax")
@@ -80,8 +81,8 @@ def settle(args):
         raise Trouble("--join takes several files")
     if len(args.files) > 1 and not (args.out_dir or args.check or args.join):
         raise Trouble("several files need --out-dir, --check or --join")
-    if args.files.count("-") > 1 or args.out_dir and "-" in args.files:
-        raise Trouble("standard input stands for one file, and has no name for --out-dir")
+    if args.out_dir and "-" in args.files:
+        raise Trouble(f"{STDIN} has no name for --out-dir")
 
 
 def spelled(name):
@@ -105,8 +106,8 @@ def targets(args):
         out.append(([name], path))
     try:
         os.makedirs(args.out_dir, exist_ok=True)
-    except OSError as error:
-        raise Trouble(f"{args.out_dir}: is no directory that can be written") from error
+    except OSError:
+        raise Trouble("is no directory that can be written", shown(args.out_dir)) from None
     return out
 
 
@@ -128,12 +129,12 @@ class Work:
     """One text or sheet, from its bytes to what is written."""
 
     def __init__(self, names, args):
-        self.args, self.names, self.called = args, names, label(names[0])
+        self.args, self.names, self.called = args, names, called(names[0])
         self.problems = Problems(args.allow_refused)
 
     def result(self):
         """What is to be written, None where there are errors."""
-        files = [(name, read_file(name)) for name in self.names]
+        files = [(name, read_whole(name)) for name in self.names]
         try:
             if self.args.decode:
                 out = self.decoded(files[0][1])
@@ -157,7 +158,7 @@ class Work:
         """The sheet of a text."""
         type_map = map_files.read_texts(files, self.problems, self.args.cascade)
         if not self.args.raw:
-            map_files.check_map(type_map, self.problems)
+            check(type_map, self.problems)
         if self.args.strict:
             self.problems.found = [problem._replace(severity="error") if problem.severity == "warning" else problem
                                    for problem in self.problems.found]
@@ -171,37 +172,28 @@ class Work:
         out = damage(out, self.args)
         return out.hex(" ").encode() + b"\n" if self.args.hex else out
 
-    def run(self, path):
+    def run(self, path, say):
         """Writes the result; the status."""
         out = self.result()
-        report(self.problems, self.called, ("error",) if self.args.quiet else ("error", "warning", "note"))
+        severities = ("error",) if self.args.quiet else ("error", "warning", "note")
+        write_error(self.problems.told(self.called, severities))
         if out is None:
             counts = [counted(len(self.problems.of(severity)), severity) for severity in ("error", "warning")
                       if self.problems.of(severity)]
-            say(f"sheet: {self.called}: {', '.join(counts)}, nothing written")
-            return WRONG
-        if path is None:
-            binary = not (self.args.decode or self.args.hex or self.args.check)
-            if binary and os.isatty(1):
-                raise Trouble("standard output is a terminal: -o FILE or --hex")
-            write_out(out)
-        else:
-            write_file(path, out)
-        return DONE
+            say(f"{self.called}: {', '.join(counts)}, nothing written")
+            return REFUSED
+        binary = not (self.args.decode or self.args.hex or self.args.check)
+        if path is None and binary and os.isatty(1):
+            raise Trouble("is a terminal: -o FILE or --hex", STDOUT)
+        write_file(path or "-", out)
+        return ACCEPTED
 
 
-def main(arguments):
+def main(name, arguments, say):
     """The whole command."""
-    args = options().parse_intermixed_args(arguments)
+    args = options(name).parse(arguments)
     settle(args)
-    status = DONE
-    for names, path in targets(args):
-        try:
-            status = max(status, Work(names, args).run(path))
-        except Trouble as trouble:
-            say(f"sheet: {trouble}")
-            status = TROUBLE
-    return status
+    return each(targets(args), lambda target: Work(target[0], args).run(target[1], say), say)
 
 
 if __name__ == "__main__":

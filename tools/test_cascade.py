@@ -330,7 +330,7 @@ class CascadeText(unittest.TestCase):
             self.says(text, None, f"error: Cascade's syntax can't say it: {error}")
         status, out, error = command("tools/sheet", "--decode", "--cascade", given=sheetlib.sheet_of("domain a trait"))
         self.assertEqual((status, out), (1, b""))
-        self.assertEqual(error.splitlines()[0], "<stdin>: error: Cascade's syntax can't say it: `a` is a trait and not virtual")
+        self.assertEqual(error.splitlines()[0], "standard input: error: Cascade's syntax can't say it: `a` is a trait and not virtual")
 
     def test_worked_example(self):
         """01's example has a mark without its annotation: another sheet, the same schedule."""

@@ -28,6 +28,11 @@ import sheetlib
 from testing import BUILT, EXAMPLES, NOT_BUILT, ROOT, InFolder, command, found_in, printed
 
 
+def printed_bytes(sheet):
+    """What the schedule program prints, by the model."""
+    return "".join(line + "\n" for line in printed(sheet)).encode()
+
+
 class Options:
     """Options of bin/explain, as they are without any."""
     cascade, dot, html, lines = False, False, None, None
@@ -41,14 +46,11 @@ class Explain(InFolder):
 
     def explained(self, text, name="x.txt"):
         """The explanation of a text, its lines by the model."""
-        before = explain.ask
-        explain.ask = printed
-        self.addCleanup(setattr, explain, "ask", before)
         folder = os.getcwd()
         self.path(name, text)
         os.chdir(self.folder)
         try:
-            return explain.Explained(name, Options(name))
+            return explain.Explained(name, Options(name), printed_bytes)
         finally:
             os.chdir(folder)
 
@@ -83,28 +85,28 @@ class Explain(InFolder):
     def test_refusals(self):
         for text, want in [
                 ("domain a : b\ndomain b : a", [
-                    "refused 8 <- no order",
+                    "refused 8 <- the types have no order",
                     "D 2 b a - <- b inherits a (x.txt:2); a cycle: `a` inherits `b`, `b` inherits `a`",
                     "D 2 a b - <- a inherits b (x.txt:1); a cycle: `b` inherits `a`, `a` inherits `b`"]),
                 ("domain dosing\ndomain a : dosin", [
-                    "refused 8 <- no order",
+                    "refused 8 <- the types have no order",
                     "D 3 a dosin - <- a inherits dosin (x.txt:2); `dosin` is not declared, did you mean `dosing`"]),
-                ("domain a : self\ndomain c", ["refused 8 <- no order",
+                ("domain a : self\ndomain c", ["refused 8 <- the types have no order",
                                                "D 1 a self - <- a inherits self (x.txt:1), which no type does"]),
-                ("domain a : self", ["refused 8 <- no order",
+                ("domain a : self", ["refused 8 <- the types have no order",
                                      "D 1 a self - <- a inherits self (x.txt:1), which no type does"]),
                 ("domain a\n  associate zz\ndomain b : a\n", [
-                    "refused 9 <- a type refused in synthesis",
+                    "refused 9 <- what a type associates cannot be made",
                     "D 4 a zz zz <- a associates zz (x.txt:2); `zz` is not declared",
                     "D 4 b zz zz <- a associates zz (x.txt:2); `zz` is not declared"]),
                 ("domain f\ndomain a\n  associate f", [
-                    "refused 9 <- a type refused in synthesis",
+                    "refused 9 <- what a type associates cannot be made",
                     "D 5 a f f <- a associates f (x.txt:3); `f` is a domain, no resource (x.txt:1)"]),
                 ("resource f\nresource a.f\ndomain a\n  associate f", [
-                    "refused 9 <- a type refused in synthesis",
+                    "refused 9 <- what a type associates cannot be made",
                     "D 6 a - f <- a associates f (x.txt:4); `a.f` is declared (x.txt:2)"]),
                 ("resource f\nresource g\ndomain a\n  associate f\n  associate f g", [
-                    "refused 9 <- a type refused in synthesis",
+                    "refused 9 <- what a type associates cannot be made",
                     "D 6 a - f <- a associates f (x.txt:4); a associates f (x.txt:5); two lines `a.f` would be the same"]),
                 ("domain a :" + " a" * 9, ["refused 4 <- a value that is not allowed; x.txt:1:28: 9 parents, at most 8"]),
                 ("domain a\ndomain a", ["refused 6 <- something stands twice; "
@@ -170,10 +172,10 @@ class Explain(InFolder):
                     self.assertLessEqual(one.x + one.width / 2, other.x - other.width / 2 + 0.01, seed)
 
     def test_trouble(self):
-        for args, error in [([], "which map?"), (["none.txt"], "none.txt: no such file"), ([ROOT], "is a directory"),
+        for args, error in [([], "which map?"), (["none.txt"], "none.txt: no such file or directory"), ([ROOT], "is a directory"),
                             (["--dot", "--html", "x", "a"], "not allowed with"), (["--bogus"], "unrecognized"),
                             (["--dot", "a", "b"], "take one map"), (["-", "-"], "standard input"),
-                            (["--lines", "none", "examples/base.txt"], "none: no such file")]:
+                            (["--lines", "none", "examples/base.txt"], "none: no such file or directory")]:
             status, out, told_text = command("bin/explain", *args)
             self.assertEqual((status, out), (2, b""), args)
             self.assertRegex(told_text, r"\Aexplain: [^\n]*\n\Z")
@@ -181,30 +183,19 @@ class Explain(InFolder):
         self.assertEqual(command("bin/explain", "--help")[0], 0)
         status, out, error = command("bin/explain", "-", given=b"foo")
         self.assertEqual((status, out), (1, b""))
-        self.assertEqual(error, "<stdin>:1:1: error: `foo` begins no line of a type map\n"
-                                "explain: <stdin>: the text makes no sheet\n")
+        self.assertEqual(error, "standard input:1:1: error: `foo` begins no line of a type map\n"
+                                "explain: standard input: the text makes no sheet\n")
         explained = self.explained("domain @0")  # a good sheet, from a text that is for damaged ones
         self.assertEqual((explained.whys, explained.view), ([], None))
 
     def test_lines(self):
         """Lines that were printed elsewhere; lines of another map are found out."""
-        path = self.path("lines", "\n".join(printed(sheetlib.sheet_of("domain a"))) + "\n")
+        path = self.path("lines", printed_bytes(sheetlib.sheet_of("domain a")))
         self.assertEqual(command("bin/explain", "--lines", path, "-", given=b"domain a")[:2],
-                         (0, (explain.HEAD + "\nT a <- round 0, no parents (<stdin>:1)\n").encode()))
+                         (0, (explain.HEAD + "\nT a <- round 0, no parents (standard input:1)\n").encode()))
         status, _, error = command("bin/explain", "--lines", path, "-", given=b"domain b")
-        self.assertEqual((status, error), (2, "explain: <stdin>: no reason found for the line `T a`; "
+        self.assertEqual((status, error), (2, "explain: standard input: no reason found for the line `T a`; "
                                               "the lines are not those of this map\n"))
-
-    def test_not_built(self):
-        """Without the program it is said what to do."""
-        copy = os.path.join(self.folder, "copy")
-        for folder in ("tools", "bin"):
-            shutil.copytree(os.path.join(ROOT, folder), os.path.join(copy, folder),
-                            ignore=shutil.ignore_patterns("__pycache__"))
-        done = subprocess.run([os.path.join(copy, "bin", "explain"), "-"], input=b"domain a", capture_output=True,
-                              check=False)
-        self.assertEqual((done.returncode, done.stdout, done.stderr),
-                         (2, b"", b"explain: target/bin/schedule is not built; bin/schedule builds it when it is first run\n"))
 
     @unittest.skipUnless(BUILT, NOT_BUILT)
     def test_program(self):
@@ -244,8 +235,8 @@ class Page(InFolder):
         lines = os.path.join(self.folder, "lines")
         with open(os.path.join(EXAMPLES, name), "rb") as source:
             sheet = sheetlib.encode(found_in(source.read().decode(), name, True)[0])
-        with open(lines, "w", encoding="ascii") as out:
-            out.write("\n".join(printed(sheet)) + "\n")
+        with open(lines, "wb") as out:
+            out.write(printed_bytes(sheet))
         path = os.path.join(self.folder, "page.html")
         status, _, error = command("bin/explain", "--html", path, "--lines", lines, f"examples/{name}")
         self.assertIn((status, error), ((0, ""), (1, "")))

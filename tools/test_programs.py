@@ -23,13 +23,13 @@ HERE = os.path.dirname(os.path.abspath(__file__))
 ROOT = os.path.dirname(HERE)
 sys.path.insert(0, HERE)
 
-import answering
 import building
 import case_texts
 import gidzelma
 import large_maps
 import model
 import printed
+import proved
 import refusals
 import sheetlib
 
@@ -217,9 +217,9 @@ class Answers(Folder):
     def test_cases(self):
         """Each listed case, through a process for each sheet and through one for all, as the model has it."""
         for call in CALLS:
-            each = answering.Each(building.program(ROOT, call).path)
+            each = proved.Each(building.program(ROOT, call).path)
             batch = building.program(ROOT, "batch")
-            many = answering.Many(batch.path, call) if building.at_hand(ROOT, batch) else each
+            many = proved.Many(batch.path, call) if building.at_hand(ROOT, batch) else each
             for sheet in listed_sheets().values():
                 answer = getattr(model, call)(sheet, bytes(65536), bytes(1536))
                 lines = model.printed(sheet, answer, call == "schedule")
@@ -554,9 +554,11 @@ class Options(Folder):
     def test_refused(self):
         os.mkdir(self.path("folder"))
         for args, text in [
-                (["--frob"], "option --frob not recognized; --help has the options"),
-                (["-j"], "option -j not recognized; --help has the options"),
-                (["--packed"], "option --packed requires argument; --help has the options"),
+                (["--frob"], "unrecognized arguments: --frob; --help has the options"),
+                (["-j"], "unrecognized arguments: -j; --help has the options"),
+                (["--js"], "unrecognized arguments: --js; --help has the options"),
+                (["--a\nb"], r"unrecognized arguments: --a\nb; --help has the options"),
+                (["--packed"], "argument --packed: expected one argument; --help has the options"),
                 (["--packed="], "--packed is given nothing"),
                 (["--packed", "a", "--packed", "b", "x"], "--packed is given twice"),
                 (["--json", "--explain", "x"], "--explain does nothing with --json, which has the words"),
@@ -676,9 +678,9 @@ class Building(Folder):
         super().setUp()
         shutil.copytree(os.path.join(ROOT, "bin"), self.path("bin"))
         os.mkdir(self.path("tools"))
-        for name in ("start", "answering.py", "building.py", "gidzelma.py", "printed.py", "program.py",
-                     "refusals.py"):
-            shutil.copy(os.path.join(HERE, name), self.path("tools"))
+        for name in os.listdir(HERE):
+            if name == "start" or name.endswith(".py") and not name.startswith("test"):
+                shutil.copy(os.path.join(HERE, name), self.path("tools"))
         self.write("crates.txt", b"# crates\nlow:\nother:\nschedule: low io\norder: low io\nexports: low\n")
         for name in ("low/src/lib.rt", "low/must-fail/a.edit", "low/specs/Lib.antt", "other/src/lib.rt",
                      "schedule/src/main.rt", "order/src/main.rt", "exports/src/lib.rt"):
@@ -727,6 +729,24 @@ class Building(Folder):
         self.assertEqual((self.ask(), self.runs()), ((0, ANSWER, ""), []))
         self.assertEqual(self.ask(call="order")[:2], (0, ANSWER))
         self.assertEqual(self.runs(), ["check order"])
+
+    def test_explain(self):
+        """bin/explain has the same program, built where it is missing or older than its sources."""
+        line = b"T stand_in <- round 0, no parents (standard input:1)\n"
+        for said in ("the program is not built", "crates/low/src/lib.rt is newer than the program"):
+            status, out, error = self.ask("-", call="explain", given=b"domain stand_in")
+            self.assertEqual((status, out.split(b"\n", 1)[1], self.runs()), (0, line, ["check schedule"]))
+            self.assertTrue(error.startswith(f"explain: {said}: rt proves"), error)
+            self.assertIn("[1/2] low proved (12 s)\n", error)
+            os.utime(self.path("crates/low/src/lib.rt"))
+        self.trouble(self.ask("gone", call="explain"), "explain: gone: no such file or directory")
+        lines = self.write("lines", ANSWER)
+        self.assertEqual(self.ask("--lines", lines, "-", call="explain", given=b"domain stand_in")[::2], (0, ""))
+        self.assertEqual(self.runs(), [])
+        self.write("kit/fails", b"")
+        status, out, error = self.ask("-", call="explain", given=b"domain stand_in")
+        self.assertEqual((status, out, error.splitlines()[-1].partition(";")[0]),
+                         (2, b"", "explain: low NOT PROVED (exit 1, 0 s)"))
 
     def test_newer(self):
         """Each source that is newer, also one that is gone; rt is asked once for each change."""

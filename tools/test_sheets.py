@@ -292,19 +292,19 @@ class Tool(InFolder):
         self.assertEqual(self.sheet("good.txt"), (0, sheetlib.sheet_of("domain a"), ""))
         self.assertEqual(self.sheet(given=b"domain a"), (0, sheetlib.sheet_of("domain a"), ""))
         self.assertEqual(self.sheet("-", given=b"domain"),
-                         (1, b"", "<stdin>:1:1: error: `domain` takes a name\nsheet: <stdin>: 1 error, nothing written\n"))
+                         (1, b"", "standard input:1:1: error: `domain` takes a name\nsheet: standard input: 1 error, nothing written\n"))
 
     def test_trouble(self):
         os.mkdir(self.path("folder"))
         self.path("good.txt", "domain a\n")
         self.path("long.txt", b"#" * ((1 << 24) + 1))
         for args, error in [
-                (["pool.txt"], "pool.txt: no such file"),
+                (["pool.txt"], "pool.txt: no such file or directory"),
                 (["folder"], "folder: is a directory"),
-                (["good.txt/x"], "good.txt/x: is no directory"),
+                (["good.txt/x"], "good.txt/x: not a directory"),
                 (["long.txt"], "long.txt: longer than 16 MiB"),
                 (["good.txt", "-o", "folder"], "folder: is a directory"),
-                (["good.txt", "-o", "nowhere/x"], "nowhere/x: no such file"),
+                (["good.txt", "-o", "nowhere/x"], "nowhere/x: no such file or directory"),
                 (["good.txt", "--out-dir", "good.txt"], "good.txt: is no directory that can be written"),
                 (["good.txt", "-o", "/dev/full"], "/dev/full: no space left on device")]:
             with self.subTest(args):
@@ -379,14 +379,14 @@ class Tool(InFolder):
         """Damaged sheets, as the checks would not let them through."""
         text = b"version 2\nwords! self resource\nvariant3 @7 : @8 self\n  kind7\n"
         self.assertEqual(self.sheet("--raw", given=text), (0, sheetlib.sheet_of(text.decode()), ""))
-        for text, error in [("domain a :" + " p" * 16, "<stdin>:1:8: error: type a: parents: count: 16 does not fit 4 bits"),
-                            ("domain a\n  derive 256", "<stdin>:2:3: error: type a: derive: tag: 256 does not fit 8 bits"),
+        for text, error in [("domain a :" + " p" * 16, "standard input:1:8: error: type a: parents: count: 16 does not fit 4 bits"),
+                            ("domain a\n  derive 256", "standard input:2:3: error: type a: derive: tag: 256 does not fit 8 bits"),
                             ("domain a\n\nextend a f :" + " p" * 16,
-                             "<stdin>:3:8: error: extension a f: parents: count: 16 does not fit 4 bits"),
+                             "standard input:3:8: error: extension a f: parents: count: 16 does not fit 4 bits"),
                             ("words " + "a" * 32,
-                             f"<stdin>:1:7: error: word `{'a' * 32}`: length: 32 does not fit 5 bits"),
-                            ("words! a\ndomain b", "<stdin>:2:8: error: type b: the word `b` is not in the word list"),
-                            ("foo", "<stdin>:1:1: error: `foo` begins no line of a type map")]:
+                             f"standard input:1:7: error: word `{'a' * 32}`: length: 32 does not fit 5 bits"),
+                            ("words! a\ndomain b", "standard input:2:8: error: type b: the word `b` is not in the word list"),
+                            ("foo", "standard input:1:1: error: `foo` begins no line of a type map")]:
             code, out, told_text = self.sheet("--raw", given=text.encode())
             self.assertEqual((code, out), (1, b""))
             self.assertEqual(told_text.splitlines()[0], error)
@@ -410,12 +410,12 @@ class Tool(InFolder):
             with self.subTest(error):
                 code, out, told_text = self.sheet("--decode", given=data)
                 self.assertEqual((code, out), (1, b""))
-                self.assertEqual(told_text.splitlines()[0], f"<stdin>: error: {error}")
+                self.assertEqual(told_text.splitlines()[0], f"standard input: error: {error}")
         self.assertEqual(self.sheet("--decode", given=sheetlib.sheet_of("domain a : a")), (0, b"domain a : a\n", ""))
 
     def test_binary(self):
         self.assertEqual(self.sheet(given=b"domain a\nx \x10")[2].splitlines()[0],
-                         "<stdin>:2:3: error: the byte 10 (hexadecimal) is in no text; --decode prints that of a sheet")
+                         "standard input:2:3: error: the byte 10 (hexadecimal) is in no text; --decode prints that of a sheet")
 
     def test_link(self):
         """Through a link, and from another folder."""
