@@ -428,6 +428,15 @@ class Archive(Folder):
         with open(BASE, "rb") as source:
             self.assertEqual((status, out, error), (0, source.read(), ""))
 
+    def test_explain(self):
+        """The program of libexec/ is asked; the page has its parts."""
+        path = os.path.join("examples", "pool.txt")
+        self.assertEqual(self.run_program("explain", path, cwd=self.top),
+                         (0, text_of("examples", "pool.why.txt").encode(), ""))
+        self.assertEqual(self.run_program("explain", "--html", self.path("page.html"), path, cwd=self.top),
+                         (0, b"", ""))
+        self.assertIn(b"</html>", self.read("page.html"))
+
     def test_version(self):
         """Version, commit and toolchain are those that it was made with."""
         with open(os.path.join(self.top, "PROVENANCE"), encoding="utf-8") as source:

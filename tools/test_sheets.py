@@ -417,6 +417,17 @@ class Tool(InFolder):
         self.assertEqual(self.sheet(given=b"domain a\nx \x10")[2].splitlines()[0],
                          "standard input:2:3: error: the byte 10 (hexadecimal) is in no text; --decode prints that of a sheet")
 
+    def test_names(self):
+        """Behind `--` all is files; a message is one line; a file that is replaced keeps its mode."""
+        self.path("-x", "domain a\n")
+        self.path("good.sheet", "")
+        os.chmod(self.path("good.sheet"), 0o640)
+        self.assertEqual(self.sheet("-o", "good.sheet", "--", "-x"), (0, b"", ""))
+        self.assertEqual(self.read("good.sheet"), sheetlib.sheet_of("domain a"))
+        self.assertEqual(os.stat(self.path("good.sheet")).st_mode & 0o777, 0o640)
+        self.assertEqual(self.sheet("a\nb")[2], "sheet: a\\nb: no such file or directory\n")
+        self.assertEqual(self.sheet("-o", "a", "-o", "b", "--", "-x"), (2, b"", "sheet: -o is given twice\n"))
+
     def test_link(self):
         """Through a link, and from another folder."""
         os.symlink(os.path.join(HERE, "sheet"), self.path("link"))
