@@ -1,6 +1,5 @@
 """A headless Chromium, driven over a pair of pipes; for the tests of pages."""
 
-import base64
 import fcntl
 import itertools
 import json
@@ -121,12 +120,6 @@ class Browser:
         }})()""")
         for kind in ("mousePressed", "mouseReleased"):
             self.ask("Input.dispatchMouseEvent", type=kind, x=x, y=y, button="left", clickCount=1)
-
-    def screenshot(self, path):
-        """A picture of what is seen."""
-        data = self.ask("Page.captureScreenshot", format="png")["data"]
-        with open(path, "wb") as out:
-            out.write(base64.b64decode(data))
 
     def faults(self):
         """Errors that the page has thrown or logged."""

@@ -48,10 +48,6 @@ class Reasons:
         text = self.place_text(place)
         return f" ({text})" if text else ""
 
-    def at_type(self, name):
-        """The place of a declared type."""
-        return self.at(self.view.types[name].place)
-
     def why(self, line):
         """The reasons of a printed line."""
         kind = line[:1]

@@ -214,7 +214,7 @@ class Decoding:
         """An annotation by its kind."""
         ann = Annotation(self.take(3, what + ": kind", 0, NO_DERIVE))
         if self.strict and ann.kind == NEST_ASSOCIATE and len(record.name) == 2:
-            raise SheetError(f"bit {self.source.at - 3}: {what}: a two-word type has no NestAssociate", number=4)
+            raise SheetError(f"bit {self.source.at - 3}: {what}: NestAssociate in a type of two words", number=4)
         if ann.associates():
             ann.resources = [self.resource(what) for _ in range(self.take(4, what + ": count"))]
         elif ann.kind == ALIAS:

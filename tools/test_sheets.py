@@ -400,7 +400,7 @@ class Tool(InFolder):
                             (sheetlib.sheet_of("domain a :" + " a" * 9),
                              "refused with 4: bit 151: type 1 a: parents: count is 9, allowed are 0 to 8"),
                             (sheetlib.sheet_of("domain a.b\n  nest a"),
-                             "refused with 4: bit 180: type 1 a.b: annotation: a two-word type has no NestAssociate"),
+                             "refused with 4: bit 180: type 1 a.b: annotation: NestAssociate in a type of two words"),
                             (sheetlib.sheet_of("words! self resource"),
                              "words: `resource` does not come after `self` by bytes"),
                             (sheetlib.sheet_of("domain a\ndomain a"), "types: `a` is declared twice"),

@@ -40,7 +40,7 @@
 //! # Threads
 //!
 //! The calls keep nothing, so that threads may call at the same time. They need stack, on the maps that
-//! were tried up to 1.8 MB for a schedule and half a MB for an order; a thread that has less is ended by a
+//! were tried up to 1.9 MB for a schedule and half a MB for an order; a thread that has less is ended by a
 //! signal. A thread of [`std::thread::spawn`] has 2 MiB, which leaves little for its caller:
 //!
 //! ```

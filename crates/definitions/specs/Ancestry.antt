@@ -1,4 +1,5 @@
--- Parents, ancestors, and what an order is, said without rounds. Nothing here computes but the comparison of names.
+-- Parents, ancestors, and what an order is, said without rounds. Nothing here computes but the
+-- comparison of names and the spelling of `self`.
 use mathlib.Core.Bool.{true}
 use mathlib.Core.List.{List, [], _∷_}
 use mathlib.Core.Logic.{_⊎_, _↔_}

@@ -1,5 +1,5 @@
 -- Which lines a map has, from ancestors alone, and when a type is refused (FORMAT 4 and 5). Nothing here computes but the
--- comparisons of names and doms.
+-- comparisons of names and doms and the spelling of `resource`.
 use mathlib.Core.Bool.{Bool, true}
 use mathlib.Core.List.{List, [], _∷_, _++_}
 use mathlib.Core.Logic.{_⊎_, _↔_}

@@ -6,7 +6,7 @@ use Prim.Native.Nat.{ℕ, _^_, _≤_, _<_}
 use native.Mathlib.Omega.{arith}
 use borrow.Author.Tests.{lt-ltb, le-ltb}
 use lib.Dec.{eqb, ltb}
-use lib.ListN.{length, getD, set}
+use lib.ListN.{length, getD, set, take}
 use lib.Seq.{sets-eq}
 use Rattle.lists.specs.Tests.{by, never}
 use Rattle.definitions.specs.Relisted.{Alike}
@@ -102,6 +102,7 @@ exports-alike i j a b n h = by (ltb (length a) 3) few enough
           answers = k;
           number = ap (λ (z : Exported). z .number) x ∙ sym (ap (λ (z : Exported). z .number) y);
           size = λ l. never e (le-ltb (length a) 3 l);
+          written = λ z. let q : _≡_ {A = ℕ} 255 0 = sym (ap (λ (w : Exported). w .number) x) ∙ z in absurd (omega arith);
           listings = λ l. ap (λ (z : Exported). z .listing) x ∙ l ∙ sym (ap (λ (z : Exported). z .listing) y);
         }
 
@@ -113,5 +114,9 @@ exports-alike i j a b n h = by (ltb (length a) 3) few enough
           answers = k;
           number = ap (λ (z : Exported). z .number) x ∙ k .number ∙ sym (ap (λ (z : Exported). z .number) y);
           size = λ _. ap (λ (z : Exported). getD (z .parts) 0 0) x ∙ k .size ∙ sym (ap (λ (z : Exported). getD (z .parts) 0 0) y);
+          written = λ z.
+              ap (λ (w : Exported). take (outcome i .answer .size) (w .listing)) x
+              ∙ k .written (sym (ap (λ (w : Exported). w .number) x) ∙ z)
+              ∙ sym (ap (λ (w : Exported). take (outcome j .answer .size) (w .listing)) y);
           listings = λ l. ap (λ (z : Exported). z .listing) x ∙ listings-equal i j h l ∙ sym (ap (λ (z : Exported). z .listing) y);
         }
