@@ -210,10 +210,13 @@ class Linked(Folder):
                                  ("U", "memset")])
 
     def test_stack(self):
-        """No more stack than the header says, and half of what it advises."""
+        """No more stack than the header and the pages say, and half of what they advise."""
+        said = float(re.search(r"took up to ([\d.]+) MB", text_of("include", "gidzelma.h")).group(1))
+        for name in ("docs/LINKING.md", "rust/src/lib.rs"):
+            self.assertIn(f"up to {said} MB", text_of(name))
         ring = "\n".join(f"domain t{at:02} : t{(at + 1) % 64:02}" for at in range(64))
         tried = [sheetlib.sheet_of(ring), *(sheetlib.encode(make()) for make in large_maps.MAPS.values())]
-        for call, most in (("schedule", 1_800_000), ("order", 500_000)):
+        for call, most in (("schedule", 1e6 * said), ("order", 0.5e6)):
             stack = self.build("bench/stack.c", f"-DCALL=gidzelma_{call}", "-pthread")
             for sheet in tried:
                 done = subprocess.run([stack], input=sheet, stdout=subprocess.PIPE, check=True)
@@ -422,11 +425,22 @@ class Archive(Folder):
             self.assertEqual(self.run_program(name, "--help")[::2], (0, ""), name)
 
     def test_sheet(self):
-        """A sheet from a text."""
-        path = os.path.join(self.top, "tools", "sheet")
-        status, out, error = ran([path, os.path.join(self.top, "examples", "base.txt")])
-        with open(BASE, "rb") as source:
+        """A sheet from a text, from Cascade's syntax too, and why each line stands there; no tool lacks a
+        module or a file that it reads."""
+        examples = os.path.join(self.top, "examples")
+        for name in ("base.txt", "pool.txt", "pool.cas"):
+            status, out, error = ran([os.path.join(self.top, "tools", "sheet"), "-o", self.path("out"), name],
+                                     cwd=examples)
+            self.assertEqual((status, out, "error" in error), (0, b"", False), name)
+            with open(os.path.join(examples, name.split(".")[0] + ".sheet"), "rb") as source:
+                self.assertEqual(self.read("out"), source.read(), name)
+        status, out, error = self.run_program("explain", "examples/pool.txt", cwd=self.top)
+        with open(os.path.join(examples, "pool.why.txt"), "rb") as source:
             self.assertEqual((status, out, error), (0, source.read(), ""))
+        page = self.path("page.html")
+        self.assertEqual(self.run_program("explain", "--html", page, "pool.cas", cwd=examples)[::2], (0, ""))
+        self.assertIn(b"<svg", self.read("page.html"))
+        self.assertEqual(self.run_program("explain", "--dot", "pool.cas", cwd=examples)[::2], (0, ""))
 
     def test_explain(self):
         """The program of libexec/ is asked; the page has its parts."""
@@ -484,7 +498,7 @@ class Archive(Folder):
 
     def test_links(self):
         """Every file that its pages name by a link is there."""
-        for page in ("README.md", "docs/LINKING.md", "docs/PROGRAMS.md"):
+        for page in ("README.md", "docs/LINKING.md", "docs/PROGRAMS.md", "docs/SHEETS.md", "docs/CASCADE.md"):
             with open(os.path.join(self.top, page), encoding="utf-8") as source:
                 for link in re.findall(r"\]\(([^)#:]+)\)", source.read()):
                     place = os.path.join(self.top, os.path.dirname(page), link)
@@ -690,7 +704,7 @@ class Pages(unittest.TestCase):
     """The pages of the repository that are for those who link or change it."""
 
     NAMES = ("CONTRIBUTING.md", "CHANGELOG.md", "docs/LINKING.md", "docs/ARCHIVE.md", "docs/PROGRAMS.md",
-             "bench/README.md", "fuzz/README.md")
+             "docs/SHEETS.md", "docs/CASCADE.md", "bench/README.md", "fuzz/README.md")
 
     def test_links(self):
         for name in self.NAMES:
