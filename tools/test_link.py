@@ -378,8 +378,8 @@ def copy_of_repository(folder):
 
 
 def dist(root, out, *args, **more):
-    """Makes an archive; the status and what is said."""
-    status, _, error = ran([os.path.join(root, "tools", "dist"), "--out-dir", out, *args], **more)
+    """Makes an archive of what is built; the status and what is said."""
+    status, _, error = ran([os.path.join(root, "tools", "dist"), "--as-built", "--out-dir", out, *args], **more)
     return status, error
 
 
@@ -455,8 +455,10 @@ class Archive(Folder):
         """Version, commit and toolchain are those that it was made with."""
         with open(os.path.join(self.top, "PROVENANCE"), encoding="utf-8") as source:
             known = dict(line.rstrip("\n").split(": ", 1) for line in source)
-        self.assertEqual(list(known), ["name", "version", "commit", "date", "toolchain", "compiler", "gate"])
-        self.assertEqual((known["gate"], known["version"]), ("not given", program.number_of_version()))
+        self.assertEqual(list(known), ["name", "version", "commit", "date", "toolchain", "compiler", "built",
+                                       "gate"])
+        self.assertEqual((known["gate"], known["version"], known["built"]),
+                         ("not given", program.number_of_version(), "as it stood in target/"))
         self.assertRegex(known["date"], r"^\d{4}-\d\d-\d\dT\d\d:\d\d:\d\dZ$")
         status, out, _ = self.run_program("schedule", "--version")
         self.assertEqual((status, out.decode().splitlines()),
@@ -642,6 +644,28 @@ class Making(Folder):
         self.assertEqual((status, error), (1, "dist: there are changes that are not committed (git status has "
                                               "them; --dirty goes on)\n"))
         self.assertIn(f"commit: {commit}, with changes that are not committed", self.made("--dirty")[1])
+
+    def test_asks_rt(self):
+        """Without --as-built rt is asked for each part, whatever its time; if it fails nothing is written."""
+        self.write("kit/rt", b"#!/bin/sh\necho \"$*\" >> \"${0%/*}/runs\"\n[ \"$1\" = version ] && echo a kit\n"
+                             b"echo rt: low proved '(1 s)'\nexit $(cat \"${0%/*}/status\")\n")
+        os.chmod(self.path("kit", "rt"), 0o755)
+        env = {**os.environ, "PATH": self.path("kit") + os.pathsep + os.environ["PATH"]}
+        words = [os.path.join(self.copy, "tools", "dist"), "--out-dir", self.path("out")]
+        self.write("kit/status", b"1")
+        status, _, error = ran(words, env=env)
+        self.assertEqual((status, os.path.exists(self.path("out"))), (1, False))
+        self.assertIn("schedule.build has what rt said", error)
+        self.write("kit/status", b"0")
+        self.write("kit/runs", b"")
+        status, _, error = ran(words, env=env)
+        self.assertEqual((status, self.read("kit/runs").decode().splitlines()),
+                         (0, ["check schedule", "check order", "check batch", "staticlib exports", "version"]))
+        self.assertIn("dist: exports for the archive: rt proves what has changed\n", error)
+        with tarfile.open(self.path("out", Archive.NAME + ".tar.gz")) as tar:
+            page = tar.extractfile(Archive.NAME + "/PROVENANCE").read().decode()
+        self.assertIn("toolchain: a kit\n", page)
+        self.assertIn("built: by rt, from these sources\n", page)
 
     def test_not_built(self):
         """Where the library is gone and there is no rt, that is said."""
