@@ -425,8 +425,7 @@ class Archive(Folder):
             self.assertEqual(self.run_program(name, "--help")[::2], (0, ""), name)
 
     def test_sheet(self):
-        """A sheet from a text, from Cascade's syntax too, and why each line stands there; no tool lacks a
-        module or a file that it reads."""
+        """A sheet from a text, and from Cascade's syntax."""
         examples = os.path.join(self.top, "examples")
         for name in ("base.txt", "pool.txt", "pool.cas"):
             status, out, error = ran([os.path.join(self.top, "tools", "sheet"), "-o", self.path("out"), name],
@@ -434,13 +433,6 @@ class Archive(Folder):
             self.assertEqual((status, out, "error" in error), (0, b"", False), name)
             with open(os.path.join(examples, name.split(".")[0] + ".sheet"), "rb") as source:
                 self.assertEqual(self.read("out"), source.read(), name)
-        status, out, error = self.run_program("explain", "examples/pool.txt", cwd=self.top)
-        with open(os.path.join(examples, "pool.why.txt"), "rb") as source:
-            self.assertEqual((status, out, error), (0, source.read(), ""))
-        page = self.path("page.html")
-        self.assertEqual(self.run_program("explain", "--html", page, "pool.cas", cwd=examples)[::2], (0, ""))
-        self.assertIn(b"<svg", self.read("page.html"))
-        self.assertEqual(self.run_program("explain", "--dot", "pool.cas", cwd=examples)[::2], (0, ""))
 
     def test_explain(self):
         """The program of libexec/ is asked; the page has its parts."""
@@ -450,6 +442,7 @@ class Archive(Folder):
         self.assertEqual(self.run_program("explain", "--html", self.path("page.html"), path, cwd=self.top),
                          (0, b"", ""))
         self.assertIn(b"</html>", self.read("page.html"))
+        self.assertEqual(self.run_program("explain", "--dot", path, cwd=self.top)[::2], (0, ""))
 
     def test_version(self):
         """Version, commit and toolchain are those that it was made with."""

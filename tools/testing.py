@@ -6,6 +6,7 @@ import subprocess
 import tempfile
 import unittest
 
+import building
 import map_files
 import model
 from places import Problems
@@ -14,8 +15,8 @@ from sheet_checks import check
 HERE = os.path.dirname(os.path.abspath(__file__))
 ROOT = os.path.dirname(HERE)
 EXAMPLES = os.path.join(ROOT, "examples")
-BUILT = os.access(os.path.join(ROOT, "target", "bin", "schedule"), os.X_OK)
-NOT_BUILT = "target/bin/schedule is not built"
+BUILT = building.at_hand(ROOT, building.program(ROOT, "schedule"))
+NOT_BUILT = "target/bin/schedule is not built, or older than its sources"
 
 
 def command(program, *args, given=b"", folder=ROOT, environment=None):
