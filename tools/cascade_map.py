@@ -10,11 +10,12 @@ from collections import Counter
 from dataclasses import dataclass, field
 
 from cascade import parse, skipped_text
-from places import counted, name_at, name_from, nearest, place_of, quoted
+from places import counted, first_at, name_at, name_from, nearest, place_of, quoted
 from sheet_records import (ALIAS, ANNOTATIONS, ASSOCIATE, DERIVE, DOMAIN, INHERIT, LISTED, MAKE_LIST, NEST_ASSOCIATE,
                            NO_DERIVE, OTHER, RESOURCE, TAGS, Annotation, Extension, TypeMap, TypeRecord)
 from sheet_text import number, show_name
 
+LATE = "late annotation of an extension|late annotations of extensions"
 KNOWN = ["makelist", "associate", "derive", "alias", "noderive", "inherit", "hint"]
 # Cascade's built-in types, declared here where they are used: variant and parents.
 BUILT_IN = {name: (OTHER, []) for name in ("module", "path", "string", "class", "perm", "context", "fs_type",
@@ -41,6 +42,7 @@ class Extended:
     place: object
     parents: list = field(default_factory=list)
     annotations: list = field(default_factory=list)
+    unlike: list = field(default_factory=list)  # pairs of Associates of the same words
 
 
 class Tags:
@@ -206,31 +208,40 @@ class Builder:
         parents = self.names(declared.parents)
         if parents and parents not in found.parents:
             found.parents.append(parents)
+        own = TypeRecord(name)  # what the declaration itself repeats
         for note in declared.notes:
             if note.name == "associate":
                 for ann in self.associate(note):
+                    self.annotate(own, ann, note)
                     self.extend_associate(found, ann)
+            elif note.name == "makelist":
+                self.annotate(own, Annotation(MAKE_LIST), note)
+                self.skipped[LATE] += 1
             elif note.name == "inherit":
                 self.problems.error(note.place, "`@inherit` on an extension can't be read; `inherits` adds parents")
             elif note.name in KNOWN:
-                self.skipped["late annotation of an extension|late annotations of extensions"] += 1
+                self.skipped[LATE] += 1
             else:
                 self.annotations(note)
 
     def extend_associate(self, found, ann):
-        """An Associate of an extension; of two with the same words and other doms neither is taken."""
-        equal = [other for other in found.annotations if other.equal_part() == ann.equal_part()]
-        if any(set(other.resources) != set(ann.resources) for other in equal):
-            self.problems.error(ann.place, f"two extensions of {quoted(show_name(found.name))} associate "
-                                           "the same words in different ways")
-        elif not equal:
-            found.annotations.append(ann)
+        """An Associate of an extension. Of two with the same words Rust's library decides which one counts, not
+        alike in all its versions: where they differ, that is an error if the name is declared."""
+        for other in found.annotations:
+            if other.equal_part() == ann.equal_part():
+                if set(other.resources) != set(ann.resources):
+                    found.unlike.append((other, ann))
+                return
+        found.annotations.append(ann)
 
     def apply_extensions(self):
         """insert_extend_annotations, early; two-word names that no type has become extension records."""
         for name, found in self.extended.items():
             parents = [parent for some in sorted(found.parents) for parent in some]
             if name in self.declared:
+                for other, ann in found.unlike:
+                    self.problems.error(ann.place, f"another extension of {quoted(show_name(name))} associates the same "
+                                                   f"words in a different way{first_at(other.place, ann.place)}")
                 self.declared[name].parents.extend(parents)
                 for ann in found.annotations:
                     self.add_annotation(self.declared[name], ann)

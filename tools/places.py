@@ -75,6 +75,13 @@ def quoted(text):
     return f"`{out if len(out) <= 40 else out[:37] + '...'}`"
 
 
+def first_at(place, here):
+    """' (first at line 27)', with the file where it is another."""
+    if not place:
+        return ""
+    return f" (first at line {place.line})" if here and here.file == place.file else f" (first at {place.short()})"
+
+
 def counted(number, what, plural=None):
     """A number with its noun."""
     return f"{number:,} {what if number == 1 else plural or what + 's'}"

@@ -7,7 +7,7 @@ still not likely to be meant.
 """
 
 from map_lines import MapView
-from places import Known, counted, place_of, quoted
+from places import Known, counted, first_at, place_of, quoted
 from sheet_records import (ALIAS, ANNOTATIONS, DERIVE, EXTENSIONS, INHERIT, KINDS, LISTED, MAKE_LIST, MARKS,
                            NEST_ASSOCIATE, PARENTS, TAGS, TYPES, VARIANTS, WORD_BYTES, WORD_CHARACTERS, WORDS)
 from sheet_text import show_name, show_resource, show_word
@@ -213,13 +213,6 @@ def owner_text(owner):
     if hasattr(owner, "variant"):
         return f"type {show_name(owner.name)}"
     return f"extension {show_name(owner.name)} {show_word(owner.word)}"
-
-
-def first_at(place, here):
-    """' (first at line 27)', with the file where it is another."""
-    if not place:
-        return ""
-    return f" (first at line {place.line})" if here and here.file == place.file else f" (first at {place.short()})"
 
 
 def equality(ann, other):

@@ -132,7 +132,14 @@ class Cascade(unittest.TestCase):
                    "domain a\n  associate f\nresource f\nresource d.f",
                    "1:1: warning: `a` associates the same words already, so that Cascade drops this")
         self.errors("@associate([d.f])\nextend a {}\n@associate([f])\nextend a {}\ndomain a {}\nresource f {}\n"
-                    "resource d.f {}", "3:1: error: two extensions of `a` associate the same words in different ways")
+                    "resource d.f {}", "3:1: error: another extension of `a` associates the same words in a different "
+                                       "way (first at line 1)")
+        self.reads("domain a { @associate([d.f]) extend f inherits a {} @associate([f]) extend f inherits a {} }",
+                   "domain a\nextend a f : a", "1:37: warning: no line `a.f` is made, so that its extension changes nothing")
+        self.errors("@associate([f])\n@associate([f])\nextend a {}\ndomain a {}\nresource f {}",
+                    "2:1: error: `@associate` twice, which Cascade refuses")
+        self.errors("@makelist\n@makelist\nextend a {}\ndomain a {}",
+                    "2:1: error: `@makelist` twice, which Cascade refuses")
         self.assertIn("1:8: warning: `bas` is not declared, so that its extension changes nothing, did you mean `base`",
                       told("extend bas {}\ndomain base {}", "x.cas"))
         self.errors("@inherit([b])\nextend a {}\ndomain a {}",
