@@ -79,7 +79,7 @@ class Explained:
         """A place as the reasons show it: the line in the file, or in the text that --decode prints."""
         if place is None:
             return ""
-        return place.short() if place.file else f"line {place.line} of its text"
+        return place.short() if place.file else f"{place.short()} of its text"
 
     def explain(self, lines):
         """The reasons of every line."""

@@ -1,6 +1,6 @@
 """The types of a map by rounds, as a graph for Graphviz."""
 
-from sheet_records import VARIANTS
+from sheet_records import NEST_ASSOCIATE, VARIANTS
 from sheet_text import show_name, show_resource
 
 SHAPES = {"domain": "box", "resource": "ellipse", "other": "diamond"}
@@ -26,7 +26,7 @@ def bad_types(explained):
 def node(record, refused):
     """A type with the words that it associates."""
     name = show_name(record.name)
-    given = [f"{'nests' if ann.kind == 2 else 'associates'} {show_resource(word, dom)}"
+    given = [f"{'nests' if ann.kind == NEST_ASSOCIATE else 'associates'} {show_resource(word, dom)}"
              for ann in record.annotations if ann.associates() for word, dom in ann.resources]
     style = ["rounded"] * record.is_trait + ["dashed"] * record.is_virtual
     parts = [f"label={quoted(name + ''.join(chr(10) + text for text in given))}".replace("\n", "\\n"),

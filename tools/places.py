@@ -13,11 +13,11 @@ class Place(NamedTuple):
     column: int
 
     def __str__(self):
-        return f"{self.file}:{self.line}:{self.column}"
+        return f"{self.file}:{self.line}:{self.column}" if self.file else self.short()
 
     def short(self):
-        """The file and the line alone."""
-        return f"{self.file}:{self.line}"
+        """The file and the line alone; a text that is in no file has lines only."""
+        return f"{self.file}:{self.line}" if self.file else f"line {self.line}"
 
 
 class Word(str):

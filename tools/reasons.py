@@ -7,10 +7,10 @@ refusal is explained from the names in it.
 
 from dataclasses import dataclass, field
 
+from map_checks import Order, cycle_text, undeclared
 from map_lines import printed_mark
 from places import Known, counted, place_of, quoted
 from refusals import said_of
-from sheet_checks import Order, cycle_text, undeclared
 from sheet_records import OTHER, RESOURCE, VARIANTS
 from sheet_text import show_name
 

@@ -27,9 +27,7 @@ class SheetError(Exception):
         self.text, self.place, self.number = text, place, number
 
     def __str__(self):
-        if self.place is None:
-            return self.text
-        return f"{self.place}: {self.text}" if self.place.file else f"line {self.place.line}: {self.text}"
+        return f"{self.place}: {self.text}" if self.place else self.text
 
 
 @dataclass
