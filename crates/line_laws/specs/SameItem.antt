@@ -23,13 +23,13 @@ bool-self : (a : Bool) → Bool·beq a a ≡ true
 bool-self true = refl
 bool-self false = refl
 
-mark-true : (a b : Mark) → sameMark a b ≡ true → a ≡ b
+pub mark-true : (a b : Mark) → sameMark a b ≡ true → a ≡ b
 mark-true makelistMark makelistMark e = refl
 mark-true makelistMark (deriveMark t) e = never e refl
 mark-true (deriveMark t) makelistMark e = never e refl
 mark-true (deriveMark t) (deriveMark u) e = ap deriveMark (eqb-true t u e)
 
-mark-self : (a : Mark) → sameMark a a ≡ true
+pub mark-self : (a : Mark) → sameMark a a ≡ true
 mark-self makelistMark = refl
 mark-self (deriveMark t) = eq-eqb t t refl
 

@@ -1,0 +1,3 @@
+pub mod Bitsets
+pub mod BitLaws
+pub mod WalkLaws

@@ -1,0 +1,3 @@
+pub mod Extensions
+pub mod ExtensionLaws
+pub mod Extended

@@ -1,0 +1,4 @@
+pub mod Names
+pub mod Holding
+pub mod NamesLaws
+pub mod Named
