@@ -1,6 +1,6 @@
 -- Laws of bits and numbers.
 use mathlib.Core.Bool.{Bool, true, false}
-use mathlib.Core.List.{List, [], _∷_, _++_}
+use mathlib.Core.List.{List, [], _∷_, _++_, append-assoc}
 use mathlib.Core.Path.{_≡_, refl, sym, ap, _∙_}
 use Prim.Native.Nat.{ℕ, zero, suc, _+_, _*_, _-_, _/_, _%_, _^_, _≤_, _<_}
 use native.Mathlib.Nat.{mod-lt, mod-one, add-assoc, add-comm, add-zero, zero-add, add-suc, suc-add, zero-div, mul-assoc, pow-succ', add-mul, one-mul, zero-mul, mod-mod, sub-zero, suc-sub-suc}
@@ -129,6 +129,11 @@ unfolding bitsOf
 length-bitsOf [] = refl
 length-bitsOf (x ∷ s) = rw (length-append, length-toBits, length-bitsOf s) (omega arith)
 
+pub bitsOf-append : (s t : List ℕ) → bitsOf (s ++ t) ≡ bitsOf s ++ bitsOf t
+unfolding bitsOf
+bitsOf-append [] t = refl
+bitsOf-append (x ∷ s) t = rw (bitsOf-append s t, append-assoc (toBits 8 x) (bitsOf s) (bitsOf t))
+
 -- past whole bytes
 pub drop-bitsOf : (i : ℕ) (s : List ℕ) → drop (8 * i) (bitsOf s) ≡ bitsOf (drop i s)
 unfolding bitsOf
@@ -203,6 +208,12 @@ take-pad zero [] h = refl
 take-pad (suc n) [] h = refl
 take-pad zero (x ∷ xs) h = absurd (omega arith)
 take-pad (suc n) (x ∷ xs) h = ap (λ (l : List Bool). x ∷ l) (take-pad n xs (omega arith))
+
+pub pad-take : (n : ℕ) (xs : List Bool) → n ≤ length xs → pad n xs ≡ take n xs
+unfolding pad
+pad-take zero xs h = refl
+pad-take (suc n) [] h = absurd (omega arith)
+pad-take (suc n) (x ∷ xs) h = ap (λ (l : List Bool). x ∷ l) (pad-take n xs (omega arith))
 
 pub pad-add : (a b : ℕ) (xs : List Bool) → pad (a + b) xs ≡ pad a xs ++ pad b (drop a xs)
 unfolding pad

@@ -65,7 +65,7 @@ putBit-shift x buf p b =
     let r : (8 + p) % 8 ≡ p % 8 = omega arith in
     rw (q, r)
 
-put-shift : (x : ℕ) (buf : List ℕ) (p : ℕ) (bs : List Bool) → put (x ∷ buf) (8 + p) bs ≡ x ∷ put buf p bs
+pub put-shift : (x : ℕ) (buf : List ℕ) (p : ℕ) (bs : List Bool) → put (x ∷ buf) (8 + p) bs ≡ x ∷ put buf p bs
 unfolding put
 put-shift x buf p [] = refl
 put-shift x buf p (b ∷ bs) = rw (putBit-shift x buf p b, add-assoc) (put-shift x (putBit buf p b) (p + 1) bs)
@@ -86,7 +86,7 @@ length-kept : (k x : ℕ) (b : Bool) → k < 8 → length (take k (toBits 8 x) +
 length-kept k x b h =
     rw (length-append, Seq.length-take-le k (toBits 8 x) (omega (arith, length-toBits 8 x)))
 
-put-first : (r k x : ℕ) (buf : List ℕ) (b : Bool) (bs : List Bool) → k + suc r ≡ 8 →
+pub put-first : (r k x : ℕ) (buf : List ℕ) (b : Bool) (bs : List Bool) → k + suc r ≡ 8 →
     put (x ∷ buf) k (b ∷ bs) ≡ num 8 (take k (toBits 8 x) ++ b ∷ bs) ∷ put buf 0 (drop (suc r) (b ∷ bs))
 unfolding put
 put-first zero k x buf b bs e =

@@ -2,7 +2,7 @@
 // stands in it.
 ghost use mathlib.Core.Path.{_≡_};
 ghost use Prim.Native.Nat.{_+_, _<_};
-ghost use lib.ListN.{set};
+ghost use lib.ListN.{set, replicate};
 ghost use Rattle.catalogue.specs.Layout.{keyAt, headAt, marksAt, tallyAt, parentsAt, ownAt, aboveAt, passedAt, wordAt};
 ghost use Rattle.catalogue.specs.Layout.{maskAt, ownerAt, extensionKeyAt, extensionCountAt, extensionParentAt, firstAt};
 ghost use Rattle.catalogue.specs.Layout.{secondAt, countIn, wordsIn, extensionsIn, extendedIn, resourceIn, resourcesIn};
@@ -59,7 +59,9 @@ const CHILDED: usize = 1542;
 const WIDTH: usize = 1543;
 
 // A table in which nothing stands yet.
-pub fn blank() -> [u64; 1544] {
+pub fn blank() -> [u64; 1544]
+    ensures { λ r. ⌜ r ≡ replicate 1544 0 ⌝ }
+{
     [0; 1544]
 }
 

@@ -2,16 +2,16 @@
 use mathlib.Core.Bool.{Bool, true, false, _||_, not, cond, or-false}
 use mathlib.Core.List.{List, [], _∷_, _++_, map, append-nil, append-assoc}
 use mathlib.Core.Path.{_≡_, refl, sym, ap, ap₂, _∙_, subst}
-use Prim.Native.Nat.{ℕ, zero, suc, _+_, _≤_, _<_}
+use Prim.Native.Nat.{ℕ, zero, suc, _+_, _≤_}
 use native.Mathlib.Omega.{arith}
-use borrow.Author.Tests.{eq-eqb, ne-eqb, eqb-true, eqb-false}
+use borrow.Author.Tests.{eq-eqb, ne-eqb}
 use lib.Bits.{bitAnd, bitOr}
 use lib.Dec.{eqb}
 use lib.ListN.{length, getD}
 use Rattle.lists.specs.Lists.{any, each, repeats}
 use Rattle.lists.specs.Tests.{by, never, same-test, and-left, and-right, and-both, any-in, any-of}
 use Rattle.lists.specs.Appending.{any-append, map-append}
-use Rattle.lists.specs.Tabulating.{tabulate, places, map-tabulate, tabulate-more, length-tabulate, each-start, each-next}
+use Rattle.lists.specs.Tabulating.{tabulate, places, map-tabulate, tabulate-more, length-tabulate, each-next}
 use Rattle.rows.specs.Rows.{hasBit}
 use Rattle.rows.specs.RowLaws.{bit-either, bit-none}
 use Rattle.definitions.specs.Records.{Resource}
@@ -19,26 +19,13 @@ use Rattle.definitions.specs.Records as records
 use Rattle.definitions.specs.Checks.{resourcesOf}
 use Rattle.definitions.specs.Items.{associateOf}
 use Rattle.law_classes.specs.Numbers.{bit-both}
-use Rattle.fields.specs.Fields.{optional, twoWords, ofNames}
+use Rattle.fields.specs.Fields.{twoWords, ofNames}
 use Rattle.records.specs.Annotations.{resourceOf, annotationAs, annotationOf, zeroAnnotation, ofAnnotations}
 use Rattle.records.specs.declared.Annotation.{Annotation}
 use Rattle.records.specs.declared.Annotations.{Annotations}
 use Rattle.item_names.specs.Holding.{nonzero-bit}
 use Rattle.item_names.specs.Names.{typesOf}
-use Rattle.item_classes.specs.Classes.{
-  resourceAs,
-  classIn,
-  meets,
-  lost,
-  Gathers,
-  ownIf,
-  GathersMore,
-  listedCount,
-  AnnotationFits,
-  GathersFrom,
-  AnnotationsFit,
-  GathersAll,
-}
+use Rattle.item_classes.specs.Classes.{resourceAs, classIn, meets, lost, Gathers, ownIf, GathersMore, listedCount, AnnotationFits, GathersFrom, GathersAll}
 use Rattle.item_classes.specs.declared.Classes.{Classes}
 
 -- ---- one class

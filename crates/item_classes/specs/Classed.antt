@@ -1,15 +1,15 @@
 -- The sets of classes are those of the map, and what is wrong with them is what refuses a type.
-use mathlib.Core.Bool.{Bool, true, false, _&&_, _||_, not, cond}
+use mathlib.Core.Bool.{Bool, true, false, _&&_, _||_, not}
 use mathlib.Core.List.{List, [], _∷_, _++_, map, List·Memᴰ·head, List·Memᴰ·tail}
-use mathlib.Core.Path.{_≡_, refl, sym, ap, ap₂, _∙_, subst}
-use Prim.Native.Nat.{ℕ, _≤_, _<_}
+use mathlib.Core.Path.{_≡_, refl, sym, ap, ap₂, _∙_}
+use Prim.Native.Nat.{ℕ, _<_}
 use native.Mathlib.Omega.{arith}
-use borrow.Author.Tests.{eq-eqb, ne-eqb, eqb-true, ltb-true, lt-ltb, not-false}
+use borrow.Author.Tests.{eq-eqb, ne-eqb, lt-ltb, not-false}
 use lib.Bits.{bitAnd}
 use lib.Dec.{eqb, ltb}
-use lib.ListN.{length, getD}
+use lib.ListN.{length}
 use Rattle.lists.specs.Lists.{In, any, repeats}
-use Rattle.lists.specs.Tests.{by, never, same-test, not-so, and-left, and-right, and-both, any-in, any-of, any-not}
+use Rattle.lists.specs.Tests.{by, never, same-test, and-left, and-right, and-both, any-of, any-not}
 use Rattle.lists.specs.Appending.{any-map, repeats-map}
 use Rattle.rows.specs.Rows.{hasBit}
 use Rattle.rows.specs.RowLaws.{bit-none}
@@ -23,9 +23,8 @@ use Rattle.line_laws.specs.Statements.{lineMap}
 use Rattle.line_laws.specs.Within.{WordsWithin, ResourceWithin}
 use Rattle.fields.specs.Fields.{twoWords}
 use Rattle.law_classes.specs.Sets.{Set, both, some, classOf, named, ownSet, givenSet, typeAt, noType, SetIs}
-use Rattle.law_classes.specs.Numbers.{bit-both, place-of, Fits, fits-both, holds-both, holds-some}
+use Rattle.law_classes.specs.Numbers.{bit-both, place-of, Fits, holds-both, holds-some}
 use Rattle.law_classes.specs.Refusal.{unmet, hasChild, lostClass, ownTwice}
-use Rattle.item_names.specs.Names.{typesOf}
 use Rattle.item_names.specs.Holding.{Holds, nonzero-bit, holds-set, holds-fits}
 use Rattle.item_names.specs.Named.{Named, NamesIn, types-hold}
 use Rattle.item_classes.specs.Classes.{classBy, classIn, meets, lost, Gathers}

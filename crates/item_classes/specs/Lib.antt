@@ -1,3 +1,4 @@
 pub mod Classes
 pub mod ClassLaws
 pub mod Classed
+pub mod Instance

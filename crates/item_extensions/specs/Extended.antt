@@ -6,14 +6,14 @@ use mathlib.Core.Path.{_≡_, refl, sym, ap, ap₂, _∙_, subst}
 use Prim.Native.Nat.{ℕ, zero, suc, _+_, _*_, _≤_, _<_}
 use native.Mathlib.Omega.{arith}
 use borrow.Author.Tests.{eq-eqb, eqb-true, lt-ltb}
-use lib.Dec.{eqb, ltb}
+use lib.Dec.{eqb}
 use lib.ListN.{length, getD}
 use Rattle.lists.specs.Lists.{In, any, filter, each}
 use Rattle.lists.specs.Tests.{by, same-test, and-left, and-right, and-both}
 use Rattle.lists.specs.Appending.{each-map, each-same}
 use Rattle.lists.specs.Tabulating.{tabulate, places, tabulate-same, tabulate-in}
 use Rattle.rows.specs.Rows.{hasBit}
-use Rattle.definitions.specs.Records.{Name, Sheet}
+use Rattle.definitions.specs.Records.{Sheet}
 use Rattle.definitions.specs.Records as records
 use Rattle.definitions.specs.Comparisons.{sameName}
 use Rattle.definitions.specs.Map.{LineMap}
@@ -23,16 +23,16 @@ use Rattle.line_laws.specs.Within.{NameWithin, ExtensionWithin}
 use Rattle.fields.specs.Fields.{twoWords, nameOf, ofNames}
 use Rattle.fields.specs.FieldLaws.{same-words, length-ofNames}
 use Rattle.fields.specs.declared.Name as fields
-use Rattle.types.specs.Extensions.{extensionOf, zeroExtension, ofExtensions}
+use Rattle.types.specs.Extensions.{extensionOf, ofExtensions}
 use Rattle.types.specs.declared.Extension.{Extension}
 use Rattle.types.specs.declared.Extensions.{Extensions}
 use Rattle.ordering.specs.Lists.{tab, any-tab-out, below, below-same, below-none, filter-below, map-below, same-list-sym}
 use Rattle.law_classes.specs.Sets.{typeAt}
 use Rattle.law_classes.specs.SetLaws.{below-of}
-use Rattle.catalogue.specs.Layout.{keyAt, extensionKeyAt, extensionCountAt, extensionParentAt, extensionsIn, extendedIn}
+use Rattle.catalogue.specs.Layout.{keyAt, extensionKeyAt, extensionParentAt, extensionsIn, extendedIn}
 use Rattle.catalogue.specs.Catalogue.{nameOfKey, parentsIn, addedIn, Extended}
 use Rattle.item_names.specs.Names.{secondOf, keyOf}
-use Rattle.item_names.specs.Named.{WordOrNone, Named, NamesIn, second-same, name-of-key, types-hold}
+use Rattle.item_names.specs.Named.{WordOrNone, Named, NamesIn, name-of-key, types-hold}
 use Rattle.item_extensions.specs.Extensions.{ExtensionIs, recordAt, typesAt}
 
 -- ---- bytes

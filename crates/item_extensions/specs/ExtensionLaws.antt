@@ -1,7 +1,7 @@
 -- The steps of the loops over the extension records and over their parents.
 use mathlib.Core.Bool.{Bool, _||_}
 use mathlib.Core.List.{List}
-use mathlib.Core.Path.{_≡_, refl, sym, ap, ap₂, _∙_, subst}
+use mathlib.Core.Path.{_≡_, sym, ap, ap₂, _∙_, subst}
 use Prim.Native.Nat.{ℕ, _+_, _*_, _≤_, _<_}
 use native.Mathlib.Omega.{arith}
 use borrow.Author.Tests.{eqb-true, eqb-false}
@@ -9,17 +9,15 @@ use lib.Bits.{bitOr}
 use lib.Dec.{eqb}
 use lib.ListN.{length, getD, set, length-set}
 use lib.Seq.{getD-set-same, getD-set-other}
-use Rattle.lists.specs.Lists.{any}
 use Rattle.lists.specs.Tests.{by}
 use Rattle.rows.specs.Rows.{hasBit}
 use Rattle.rows.specs.RowLaws.{bit-either, bit-none}
-use Rattle.ordering.specs.Lists.{tab, any-tab-step}
+use Rattle.ordering.specs.Lists.{any-tab-step}
 use Rattle.fields.specs.declared.Names.{Names}
 use Rattle.types.specs.declared.Extension.{Extension}
 use Rattle.types.specs.declared.Extensions.{Extensions}
-use Rattle.catalogue.specs.Layout.{extensionKeyAt, extensionCountAt, extensionParentAt, firstAt, secondAt}
 use Rattle.catalogue.specs.Kept.{KeptOutside, kept-none, kept-set, kept-more}
-use Rattle.item_names.specs.Names.{secondOf, keyOf, typesOf}
+use Rattle.item_names.specs.Names.{secondOf, keyOf}
 use Rattle.item_extensions.specs.Extensions.{NamesPut, ExtensionIs, ExtensionPut, recordAt, typesAt, ExtensionsPut}
 
 -- ---- names

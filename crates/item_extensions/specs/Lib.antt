@@ -1,3 +1,4 @@
 pub mod Extensions
 pub mod ExtensionLaws
 pub mod Extended
+pub mod Instance

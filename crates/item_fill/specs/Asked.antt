@@ -1,11 +1,11 @@
 -- What each part of the filling asks follows from what the whole asks.
 use mathlib.Core.Bool.{Bool, true}
 use mathlib.Core.List.{List}
-use mathlib.Core.Path.{_≡_, refl, sym, ap, _∙_, subst}
+use mathlib.Core.Path.{_≡_, sym, ap, _∙_}
 use Prim.Native.Nat.{ℕ, _+_, _≤_, _<_}
 use native.Mathlib.Omega.{arith}
-use lib.ListN.{length, getD, length-take}
-use Rattle.lists.specs.Lists.{any}
+use lib.ListN.{length, getD, replicate, length-replicate, length-take}
+use Rattle.lists.specs.Places.{zero-at}
 use Rattle.rows.specs.Rows.{hasBit}
 use Rattle.types.specs.Types.{itemAt}
 use Rattle.types.specs.declared.Types.{Types}
@@ -25,6 +25,10 @@ use Rattle.item_fill.specs.Sets.{RoomForParents, ParentsPut, parentSets}
 use Rattle.item_fill.specs.SetsLaws.{part-at}
 use Rattle.item_fill.specs.Fill.{HeadsPut, ClassesPut, Blank, Fillable}
 use Rattle.item_fill.specs.Held as held
+
+-- a table of zeros is blank
+pub blank-zeros : Blank (replicate 1544 0)
+blank-zeros = record { long = length-replicate {A = ℕ} 1544 0; none = zero-at 1544 }
 
 pub blank-sets : (t : List ℕ) → Blank t → NoSets t
 blank-sets t b = record { long = b .long; none = λ i h k. b .none i }

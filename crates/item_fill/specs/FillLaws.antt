@@ -9,10 +9,10 @@ use lib.Bits.{bitAnd, and-mask}
 use lib.Dec.{eqb}
 use lib.ListN.{length, getD, set, length-set}
 use lib.Seq.{getD-set-same, getD-set-other}
-use Rattle.lists.specs.Lists.{any, each}
+use Rattle.lists.specs.Lists.{each}
 use Rattle.lists.specs.Tests.{by}
 use Rattle.lists.specs.Appending.{map-same}
-use Rattle.rows.specs.Rows.{bit, hasBit}
+use Rattle.rows.specs.Rows.{hasBit}
 use Rattle.rows.specs.RowLaws.{bit-is, bit-none}
 use Rattle.definitions.specs.Records.{Dom, Resource}
 use Rattle.definitions.specs.Checks.{resourcesOf}
@@ -21,7 +21,7 @@ use Rattle.records.specs.Annotations.{ofAnnotations}
 use Rattle.types.specs.Types.{itemAt}
 use Rattle.types.specs.declared.TypeInfo.{TypeInfo}
 use Rattle.types.specs.declared.Types.{Types}
-use Rattle.ordering.specs.Lists.{tab, any-tab-step}
+use Rattle.ordering.specs.Lists.{any-tab-step}
 use Rattle.catalogue.specs.Kept.{KeptOutside, kept-none, kept-set, kept-more}
 use Rattle.item_names.specs.Names.{typesOf}
 use Rattle.item_names.specs.NamesLaws as names

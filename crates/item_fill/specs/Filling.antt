@@ -4,8 +4,8 @@ use mathlib.Core.List.{List, [], _∷_, map, List·Memᴰ·head}
 use mathlib.Core.Path.{_≡_, refl, sym, ap, ap₂, _∙_, subst}
 use Prim.Native.Nat.{ℕ, zero, suc, _+_, _*_, _/_, _%_, _≤_, _<_}
 use native.Mathlib.Omega.{arith}
-use borrow.Author.Tests.{lt-ltb, le-ltb, ltb-true, ltb-false, ne-eqb}
-use lib.Bits.{bitAnd, bitOr}
+use borrow.Author.Tests.{le-ltb, ltb-true, ltb-false, ne-eqb}
+use lib.Bits.{bitAnd}
 use lib.Dec.{eqb, ltb}
 use lib.ListN.{length, getD}
 use Rattle.lists.specs.Lists.{In, any, each, repeats}
@@ -15,13 +15,11 @@ use Rattle.lists.specs.Tabulating.{tabulate, tabulate-same, tabulate-in, length
 use Rattle.rows.specs.Rows.{hasBit}
 use Rattle.definitions.specs.Records.{Dom, Resource, Sheet}
 use Rattle.definitions.specs.Records as records
-use Rattle.definitions.specs.Checks.{resourcesOf}
 use Rattle.definitions.specs.Map.{LineType, LineMap, typeMapOf, lineTypeOf, lineMapOf}
 use Rattle.definitions.specs.Making.{isResourceVariant}
-use Rattle.definitions.specs.Items.{associateOf, owned, given}
+use Rattle.definitions.specs.Items.{owned, given}
 use Rattle.line_laws.specs.Statements.{lineMap}
 use Rattle.line_laws.specs.Within.{WordsWithin, ResourceWithin, ExtensionWithin}
-use Rattle.records.specs.Annotations.{ofAnnotations}
 use Rattle.types.specs.Types.{variantOf, typeInfoOf, itemAt}
 use Rattle.types.specs.Extensions.{extensionOf, ofExtensions}
 use Rattle.types.specs.declared.Types.{Types}
@@ -35,17 +33,16 @@ use Rattle.held_laws.specs.Limits.{extension-in, extensions-most}
 use Rattle.law_classes.specs.Sets.{some, ownSet, givenSet, typeAt, noType, SetIs}
 use Rattle.law_classes.specs.SetLaws.{below-of}
 use Rattle.law_classes.specs.Refusal.{hasChild, lostClass, ownTwice}
-use Rattle.item_spread.specs.Spread.{Ordered, Starts, Right}
-use Rattle.catalogue.specs.Layout.{keyAt, headAt, marksAt, tallyAt, parentsAt, ownAt, aboveAt, passedAt, wordAt, maskAt, ownerAt, firstAt, secondAt}
-use Rattle.catalogue.specs.Layout.{extensionKeyAt, extensionCountAt, extensionParentAt, countIn, wordsIn, extensionsIn, extendedIn, resourcesIn, childedIn}
-use Rattle.catalogue.specs.Catalogue.{Entry, Listed, Worded, Extended, SetsOf, Owned, Catalogued}
+use Rattle.item_spread.specs.Spread.{Starts, Right}
+use Rattle.catalogue.specs.Layout.{keyAt, headAt, marksAt, tallyAt, parentsAt, ownAt, aboveAt, passedAt, wordAt, maskAt, firstAt, secondAt}
+use Rattle.catalogue.specs.Layout.{wordsIn, resourcesIn}
+use Rattle.catalogue.specs.Catalogue.{Entry, Listed, Extended, SetsOf, Owned, Catalogued}
 use Rattle.item_names.specs.Names.{secondOf, typesOf, maskOf, NamesPut}
 use Rattle.item_names.specs.NamesLaws.{few-words}
 use Rattle.item_names.specs.Holding.{Holds, holds-set, holds-fits}
 use Rattle.item_names.specs.Named.{NamesIn, key-name, key-small, first-is, first-fits, none-is, none-fits, second-is, second-fits, worded, owner-right, owner-none}
-use Rattle.item_extensions.specs.Extensions.{ExtensionIs, recordAt, typesAt, ExtensionsPut}
+use Rattle.item_extensions.specs.Extensions.{recordAt, typesAt, ExtensionsPut}
 use Rattle.item_extensions.specs.Extended.{RecordsIn, name-bytes, extended}
-use Rattle.item_heads.specs.Heads.{TypeIs}
 use Rattle.item_classes.specs.Classes.{classBy, classIn, meets, lost, Gathers}
 use Rattle.item_classes.specs.Classed.{own-is, given-is, refused-is}
 use Rattle.item_classes.specs.declared.Classes.{Classes}
@@ -53,7 +50,6 @@ use Rattle.item_fill.specs.Sets.{placesOf, ParentsPut, parentSets, Sprea
 use Rattle.item_fill.specs.SetsLaws.{part-at}
 use Rattle.item_fill.specs.Fill.{NumbersPut, HeadsPut, ownSets, givenSets, lostAt, ClassesPut, Holding, Fills}
 use Rattle.item_fill.specs.Held as held
-use Rattle.item_fill.specs.declared.Numbers.{Numbers}
 
 -- The tables from part to part.
 pub record Steps (ts : Types) (es : Extensions) (resource width : ℕ) (p : Parents) (o : Order) (t0 t1 t2 t3 t4 t5 t6 t7 given : List ℕ) (words extended childed resources : ℕ) (lost : Bool) : Type 0 where

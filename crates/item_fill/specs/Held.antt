@@ -1,24 +1,22 @@
 -- What the map of a sheet, as the code holds it, says of the names, the parents, the order and the annotations.
-use mathlib.Core.Bool.{Bool, true, false, _&&_, _||_, cond}
+use mathlib.Core.Bool.{Bool, true, false, cond}
 use mathlib.Core.List.{List, [], _∷_, map, List·Memᴰ·head, List·Memᴰ·tail}
 use mathlib.Core.Logic.{inl, inr, ⊎-elim}
 use mathlib.Core.Path.{_≡_, refl, sym, ap, ap₂, _∙_, subst}
 use Prim.Native.Nat.{ℕ, zero, suc, _+_, _*_, _≤_, _<_}
 use native.Mathlib.Omega.{arith}
-use borrow.Author.Tests.{eq-eqb, ne-eqb, eqb-true, lt-ltb, le-ltb, ltb-true, ltb-false}
-use lib.Dec.{eqb, ltb}
-use lib.ListN.{length, getD, take, length-map, length-take, List·getD-map}
+use borrow.Author.Tests.{ne-eqb, eqb-true}
+use lib.Dec.{eqb}
+use lib.ListN.{length, getD, take, length-map}
 use lib.Seq.{getD-take, take-take}
 use Rattle.lists.specs.Lists.{In, any}
-use Rattle.lists.specs.Tests.{by, never, not-so, any-in, any-of, any-none}
+use Rattle.lists.specs.Tests.{any-of, any-none}
 use Rattle.lists.specs.Strict.{which}
 use Rattle.lists.specs.Appending.{any-map, any-alike}
 use Rattle.lists.specs.Tabulating.{places-in, length-places}
-use Rattle.rows.specs.Rows.{hasBit}
 use Rattle.definitions.specs.Records.{Name, Resource, Sheet}
 use Rattle.definitions.specs.Records as records
 use Rattle.definitions.specs.Comparisons.{sameName}
-use Rattle.definitions.specs.Packing.{nameBytes}
 use Rattle.definitions.specs.Map.{LineType, LineMap, typeMapOf, lineTypeOf, lineMapOf}
 use Rattle.definitions.specs.Items.{owned, given}
 use Rattle.line_laws.specs.Statements.{lineMap}
@@ -31,12 +29,12 @@ use Rattle.types.specs.Types.{typeInfoOf, itemAt}
 use Rattle.types.specs.declared.Types.{Types}
 use Rattle.types.specs.declared.Extensions.{Extensions}
 use Rattle.ordering.specs.Lists as ordering
-use Rattle.ordering.specs.Lists.{tab, any-tab-same, elem}
+use Rattle.ordering.specs.Lists.{any-tab-same, elem}
 use Rattle.ordering.specs.Reading as reading
 use Rattle.ordering.specs.Reading.{Parent, parentAt, howMany, listed, placeIn, parentIn, firstWord, secondWord}
 use Rattle.ordering.specs.Rounds.{final, count-full}
 use Rattle.ordering.specs.Names.{place-same}
-use Rattle.ordering.specs.Organized.{placesIn, Organized}
+use Rattle.ordering.specs.Organized.{Organized}
 use Rattle.ordering.specs.declared.Parents.{Parents}
 use Rattle.ordering.specs.declared.Order.{Order}
 use Rattle.ancestry.specs.Earlier.{parent-earlier, at-below}
@@ -44,9 +42,8 @@ use Rattle.ancestry.specs.Gathering.{listed-room}
 use Rattle.ancestry.specs.Rows as ancestry
 use Rattle.held_map.specs.HeldMap.{HeldMap}
 use Rattle.held_laws.specs.HeldLaws.{count-types, count-most, count-parents, type-at, type-in, parents-below, ordered, names-apart-at}
-use Rattle.held_laws.specs.Limits.{within-at, type-within}
+use Rattle.held_laws.specs.Limits.{type-within}
 use Rattle.law_classes.specs.Sets.{typeAt, noType}
-use Rattle.item_names.specs.Holding.{Holds}
 use Rattle.item_names.specs.Named.{WordOrNone, Named}
 use Rattle.item_classes.specs.Classes.{AnnotationsFit}
 use Rattle.item_fill.specs.Sets.{placesOf, RoomForParents}

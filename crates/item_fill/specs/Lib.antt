@@ -5,3 +5,4 @@ pub mod FillLaws
 pub mod Held
 pub mod Filling
 pub mod Asked
+pub mod Instance

@@ -1,8 +1,8 @@
 -- The steps of the loops over the parents and down the order.
 use mathlib.Core.Bool.{Bool, _||_}
-use mathlib.Core.List.{List, [], _∷_, _++_}
-use mathlib.Core.Path.{_≡_, refl, sym, ap, ap₂, _∙_, subst}
-use Prim.Native.Nat.{ℕ, _+_, _*_, _%_, _^_, _≤_, _<_}
+use mathlib.Core.List.{List}
+use mathlib.Core.Path.{_≡_, sym, ap, ap₂, _∙_, subst}
+use Prim.Native.Nat.{ℕ, _+_, _*_, _%_, _^_, _<_}
 use native.Mathlib.Omega.{arith}
 use borrow.Author.Tests.{eqb-true, eqb-false}
 use lib.Bits.{bitOr}
@@ -15,7 +15,7 @@ use Rattle.lists.specs.Tabulating.{tabulate, getD-tabulate, length-tabulate, ta
 use Rattle.rows.specs.Rows.{hasBit}
 use Rattle.rows.specs.RowLaws.{bit-either, bit-none}
 use Rattle.ordering.specs.Lists.{tab, any-tab-step}
-use Rattle.item_spread.specs.Spread.{United, Ordered, Spread}
+use Rattle.item_spread.specs.Spread.{United, Ordered}
 use Rattle.item_spread.specs.SpreadLaws.{UnitedTo, united-more, spread-none, spread-more}
 use Rattle.bitsets.specs.Bitsets.{Lowest, Rest}
 use Rattle.catalogue.specs.Layout.{parentsAt, aboveAt, passedAt}

@@ -6,7 +6,7 @@ use types::Extensions;
 use types::Types;
 ghost use mathlib.Core.Bool.{true, _&&_, _||_};
 ghost use mathlib.Core.Path.{_≡_};
-ghost use Prim.Native.Nat.{_≤_, _<_};
+ghost use Prim.Native.Nat.{_<_};
 ghost use lib.ListN.{length};
 ghost use Rattle.rows.specs.Rows.{hasBit};
 ghost use Rattle.ancestry.specs.Rows.{ListedRoom};

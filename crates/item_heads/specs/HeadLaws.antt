@@ -1,17 +1,15 @@
 -- Laws of heads and of packed marks.
-use mathlib.Core.Bool.{Bool, true, false, _&&_, _||_, or-false, and-true, and-false}
-use mathlib.Core.List.{List, [], _∷_, _++_, append-nil}
+use mathlib.Core.Bool.{Bool, true, false, _||_, or-false, and-true, and-false}
+use mathlib.Core.List.{List, [], _∷_, _++_}
 use mathlib.Core.Path.{_≡_, refl, sym, ap, ap₂, _∙_, subst}
-use Prim.Native.Nat.{ℕ, zero, suc, _+_, _*_, _/_, _%_, _^_, _≤_, _<_}
-use native.Mathlib.Nat.{pow-suc}
+use Prim.Native.Nat.{ℕ, _+_, _*_, _/_, _%_, _^_, _≤_, _<_}
 use native.Mathlib.Omega.{arith}
-use borrow.Author.Tests.{eq-eqb, ne-eqb, eqb-true, lt-ltb, le-ltb, ltb-true, ltb-false}
+use borrow.Author.Tests.{eq-eqb, ne-eqb, lt-ltb, le-ltb, ltb-true, ltb-false}
 use lib.Bits.{bitOr}
 use lib.Dec.{eqb, ltb}
 use lib.ListN.{length, length-append, getD, set, length-set}
 use lib.Pow
 use lib.Seq.{getD-set-same, getD-set-other}
-use Rattle.lists.specs.Lists.{each}
 use Rattle.lists.specs.Tests.{by}
 use Rattle.lists.specs.Appending.{each-snoc}
 use Rattle.lists.specs.Tabulating.{tabulate, tabulate-more, length-tabulate}
@@ -23,11 +21,10 @@ use Rattle.bits.specs.NumberLaws.{toBits-split, toBits-low}
 use Rattle.records.specs.Marks.{markAs, ofMarks}
 use Rattle.records.specs.declared.Marks.{Marks}
 use Rattle.types.specs.declared.TypeInfo.{TypeInfo}
-use Rattle.catalogue.specs.Layout.{headAt, marksAt, tallyAt}
 use Rattle.catalogue.specs.Catalogue.{isResourceHead, virtualHead, traitHead}
-use Rattle.catalogue.specs.Kept.{KeptOutside, kept-none, kept-set, kept-more}
+use Rattle.catalogue.specs.Kept.{KeptOutside, kept-set, kept-more}
 use Rattle.item_names.specs.NamesLaws.{with-bit}
-use Rattle.item_heads.specs.Heads.{variantBits, HeadIs, WithResource, Packs, WithMark, HeadPut, TypeIs, TypePut}
+use Rattle.item_heads.specs.Heads.{variantBits, HeadIs, WithResource, Packs, WithMark, HeadPut, TypePut}
 use Rattle.item_heads.specs.declared.Packed.{Packed}
 
 -- ---- heads

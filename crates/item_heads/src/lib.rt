@@ -3,7 +3,6 @@ use records::Marks;
 use types::TypeInfo;
 ghost use mathlib.Core.Path.{_≡_};
 ghost use Prim.Native.Nat.{_<_, _≤_, _^_};
-ghost use lib.Dec.{eqb};
 ghost use lib.ListN.{length};
 ghost use Rattle.definitions.specs.Bits.{bit};
 ghost use Rattle.records.specs.Marks.{ofMarks};

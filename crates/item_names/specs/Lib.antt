@@ -2,3 +2,4 @@ pub mod Names
 pub mod Holding
 pub mod NamesLaws
 pub mod Named
+pub mod Instance

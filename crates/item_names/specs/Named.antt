@@ -1,32 +1,29 @@
 -- What the numbers of the names say of the map whose names they are.
 use mathlib.Core.Bool.{Bool, true, false, _&&_, _||_, not, cond, and-true, and-false, or-false}
-use mathlib.Core.List.{List, [], _∷_, _++_}
+use mathlib.Core.List.{List, [], _∷_}
 use mathlib.Core.Logic.{_⊎_, inl, inr, ⊎-elim}
 use mathlib.Core.Path.{_≡_, refl, sym, ap, ap₂, _∙_, subst}
-use Prim.Native.Nat.{ℕ, zero, suc, _+_, _-_, _*_, _/_, _%_, _^_, _≤_, _<_}
+use Prim.Native.Nat.{ℕ, _+_, _-_, _/_, _%_, _≤_, _<_}
 use native.Mathlib.Omega.{arith}
-use borrow.Author.Tests.{eq-eqb, ne-eqb, eqb-true, eqb-false, lt-ltb, le-ltb, ltb-true, ltb-false, not-true, not-false}
-use lib.Bits.{bitAnd, bitOr}
+use borrow.Author.Tests.{eq-eqb, ne-eqb, eqb-true, eqb-false, lt-ltb, ltb-true}
+use lib.Bits.{bitAnd}
 use lib.Count.{trailingZeros, trailing-of-zero}
 use lib.Dec.{eqb, ltb}
 use lib.ListN.{length, getD}
-use Rattle.lists.specs.Lists.{In, any}
-use Rattle.lists.specs.Tests.{by, never, same-test, and-left, and-right, and-both, any-in, any-of}
-use Rattle.lists.specs.Counting.{pigeonhole}
-use Rattle.lists.specs.Sorting.{Distinct, sorted-imp}
+use Rattle.lists.specs.Lists.{In}
+use Rattle.lists.specs.Tests.{by, never, same-test, and-left, and-right}
 use Rattle.lists.specs.Tabulating.{tabulate, tabulate-in, length-tabulate}
-use Rattle.lists.specs.Places.{getD-in}
 use Rattle.rows.specs.Rows.{hasBit}
 use Rattle.definitions.specs.Records.{Name, Sheet}
 use Rattle.definitions.specs.Comparisons.{sameName, dotted}
 use Rattle.definitions.specs.Map.{LineType, LineMap}
 use Rattle.line_laws.specs.Statements.{lineMap}
-use Rattle.fields.specs.Fields.{optional, twoWords}
+use Rattle.fields.specs.Fields.{twoWords}
 use Rattle.fields.specs.FieldLaws.{same-words}
 use Rattle.ordering.specs.Lists.{below}
-use Rattle.law_classes.specs.Sets.{some, oneWord, wordOf, masked, typeAt, noType, SetIs}
-use Rattle.law_classes.specs.SetLaws.{below-of, below-ascends}
-use Rattle.law_classes.specs.Numbers.{place-of, Fits, holds-some}
+use Rattle.law_classes.specs.Sets.{some, oneWord, wordOf, masked, typeAt, SetIs}
+use Rattle.law_classes.specs.SetLaws.{below-of}
+use Rattle.law_classes.specs.Numbers.{Fits, holds-some}
 use Rattle.bitsets.specs.BitLaws.{lowest-is}
 use Rattle.catalogue.specs.Layout.{keyAt, wordAt, maskAt, ownerAt, firstAt, secondAt, wordsIn}
 use Rattle.catalogue.specs.Catalogue.{nameOfKey, firstIs, secondIs, Worded}

@@ -1,5 +1,5 @@
 -- The steps of the loops over the names and the words.
-use mathlib.Core.Bool.{Bool, true, false, _&&_, _||_, not, cond, or-false}
+use mathlib.Core.Bool.{Bool, true, _&&_, _||_, not, cond, or-false}
 use mathlib.Core.List.{List, [], _∷_, _++_}
 use mathlib.Core.Path.{_≡_, refl, sym, ap, ap₂, _∙_, subst}
 use Prim.Native.Nat.{ℕ, _+_, _-_, _*_, _%_, _/_, _^_, _≤_, _<_}
@@ -18,7 +18,7 @@ use Rattle.rows.specs.Rows.{hasBit}
 use Rattle.rows.specs.RowLaws.{bit-either, bit-none, bit-one, one-shifted}
 use Rattle.ordering.specs.Lists.{below, below-yes, below-no, below-same, below-lt}
 use Rattle.law_classes.specs.SetLaws.{below-of, below-ascends}
-use Rattle.catalogue.specs.Layout.{keyAt, wordAt, maskAt, ownerAt, firstAt, secondAt}
+use Rattle.catalogue.specs.Layout.{keyAt, wordAt, firstAt, secondAt}
 use Rattle.catalogue.specs.Kept.{KeptOutside, kept-none, kept-set, kept-more}
 use Rattle.item_names.specs.Holding.{Holds, nonzero-bit, holds-and, holds-or}
 use Rattle.item_names.specs.Names.{secondOf, keyOf, KeysPut, nameMarked, NoSets, SetsPut, maskOf, WordPut, FewWords, WordsPut, ownerOf, KeysSmall, OwnersPut, NamesPut}

@@ -1,4 +1,4 @@
--- 'T.r is a declared type', asked of the types of two words and their owners, is what the definitions ask of each T and r.
+-- That the name of what is made is taken, asked of the types of two words and their owners, is what the definitions ask of each T and r.
 use mathlib.Core.Bool.{Bool, true, _&&_, not}
 use mathlib.Core.List.{List}
 use mathlib.Core.Path.{_≡_, refl, sym, ap, ap₂, _∙_}

@@ -153,7 +153,7 @@ module _ (s : Sheet) (ok : Readable s) (within : Within s) where
         let x = each-of given (P ∷ ancestors m P) i in
         known-above u (each-in given (ancestors-unroll s ok T (x .0) .1 (P, p, cons-elim (x .1) inl inr)) (x .2))
 
-    -- 'associated, nested or not, by a proper ancestor'
+    -- a word that is associated above (FORMAT 4.4)
     pub associate-is : (r : ℕ) → associateWord As r ≡ some m (both (aboveSet m D) (masked r))
     unfolding aboveSet
     associate-is r = sym (any-each (λ (u : Resource). eqb (u .word) r) given As) ∙ word-meets m plain (each given As) known-above r

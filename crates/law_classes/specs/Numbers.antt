@@ -71,7 +71,7 @@ module _ (m : LineMap) where
       (λ l. let k = ltb-true _ _ l in rw e (any-in S (getD-in (m .types) noType (b .0) k) (sym (h (b .0) k) ∙ t)))
       (λ l. never t (f .within (b .0) (ltb-false _ _ l))))
 
-  -- 'none first, then ascending': the bits of one-word types, then the others
+  -- in class order: the bits of one-word types, then the others
   pub holds-classes : (row ones others : ℕ) (S : Set) → SetIs m row S → SetIs m ones (λ D. oneWord (D .name)) → SetIs m others (λ D. not (oneWord (D .name)))
       → classesIn m S ≡ map (typeAt m) (below (hasBit (bitAnd row ones)) (length (m .types)) ++ below (hasBit (bitAnd row others)) (length (m .types)))
   unfolding classesIn

@@ -18,16 +18,16 @@ unmet m us = any (λ (u : Resource). not (some m (λ (D : LineType). sameName (D
 unfoldable pub hasChild : LineMap → LineType → Bool
 hasChild m A = some m (λ (T : LineType). T .inherits (A .name))
 
--- 'a class is undeclared or no resource': one of the own Associates; one that is given at all, where there is a child to have it
+-- A class without a declared resource: of the own Associates, or given at all where there is a child to have it (FORMAT 4.9)
 unfoldable pub lostClass : LineMap → LineType → Bool
 lostClass m T = unmet m (owned T) || (hasChild m T && unmet m (given T))
 
--- 'T.r is a declared type': a type is T.r, and `own | above` of T meets the mask of r
+-- The name of what is made is taken: a type is T.r, and `own | above` of T meets the mask of r
 unfoldable pub takenName : LineMap → LineType → Bool
 takenName m T =
     some m (λ (D : LineType). sameName (D .name) (dotted (T .name) (wordOf (D .name))) && some m (both (madeSet m T) (masked (wordOf (D .name)))))
 
--- 'two of its makings are identical', two own ones: one class twice
+-- Two own makings are identical: one class twice
 unfoldable pub ownTwice : LineType → Bool
 ownTwice T = repeats (λ (u w : Resource). sameName (classOf u) (classOf w)) (owned T)
 

@@ -208,7 +208,7 @@ module _ (m : LineMap) (plain : Plain m) (us : List Resource) where
         (sorted-filter N (λ D. classes r D && not (oneWord (D .name))) (m .types) (plain .ascend)))
         (λ D E i j. let y = paired-of r j in alone-before (D .name) (E .name) (plain .short E (y .0)) (alone-of r i .2) (y .2))
 
-    -- 'none first, then ascending': the doms that the resources give r are those of the members, in their order
+    -- in class order: the doms that the resources give r are those of the members, in their order
     pub doms-in-set : (r : ℕ) → setOf domBefore (map (λ (u : Resource). u .dom) (ofWord r us)) ≡ map (λ (D : LineType). domOf (D .name)) (classesIn m (both (named us) (masked r)))
     unfolding classesIn
     doms-in-set r =

@@ -82,7 +82,7 @@ passedSet m T D = givenSet T D || aboveSet m T D
 
 -- ---- the members of a set
 
--- 'none first, then ascending': the class of one word, then those of two by name
+-- In class order: the class of one word, then those of two by name (FORMAT 4.4)
 unfoldable pub classesIn : LineMap → Set → List LineType
 classesIn m S = filter (λ D. S D && oneWord (D .name)) (m .types) ++ filter (λ D. S D && not (oneWord (D .name))) (m .types)
 

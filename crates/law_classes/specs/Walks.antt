@@ -24,7 +24,7 @@ use Rattle.law_classes.specs.Sets.{Set, both, some, oneWord, masked, pas
 use Rattle.law_classes.specs.Numbers.{place-of, Fits, fits-both, holds-both, holds-some, holds-members, types-at}
 
 -- a filter of a filter
-filter-twice : {A : Type 0} (f g : A → Bool) (l : List A) → filter g (filter f l) ≡ filter (λ x. f x && g x) l
+pub filter-twice : {A : Type 0} (f g : A → Bool) (l : List A) → filter g (filter f l) ≡ filter (λ x. f x && g x) l
 filter-twice f g [] = refl
 filter-twice {A} f g (x ∷ l) =
     by (f x)
@@ -60,7 +60,7 @@ module _ (m : LineMap) where
       any-in F (getD-in (m .types) noType (x .0) h) (at (x .0) h ∙ and-both (b .1) (x .2)))
       (λ l. never (b .1) (past (x .0) (ltb-false (x .0) n l))))
 
-  -- ---- 'none first, then ascending': the types of one word in a set, then the others
+  -- ---- in class order: the types of one word in a set, then the others
 
   pub classes-walked : (row ones : ℕ) (S : Set) → n ≤ 64 → Fits m row → SetIs m row S → SetIs m ones (λ D. oneWord (D .name))
       → classesIn m S ≡ map (typeAt m) (members (bitAnd row ones) ++ members (less row ones))

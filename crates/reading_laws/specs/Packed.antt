@@ -1,6 +1,6 @@
 -- Bits that are packed into bytes, and the bytes of bits.
 use mathlib.Core.Bool.{Bool, true, false}
-use mathlib.Core.List.{List, [], _∷_, _++_, append-assoc}
+use mathlib.Core.List.{List, [], _∷_, _++_}
 use mathlib.Core.Path.{_≡_, refl, sym, ap, ap₂, _∙_}
 use Prim.Native.Nat.{ℕ, zero, suc, _+_, _*_, _-_, _<_}
 use native.Mathlib.Nat.{mod-eq-of-lt}
@@ -12,11 +12,6 @@ use Rattle.lists.specs.Tests.{never}
 use Rattle.definitions.specs.Bits.{toBits, bitsOf, packTo, size, pack}
 use Rattle.reading_laws.specs.Statements.{Bytes}
 use Rattle.bits.specs.NumberLaws.{length-toBits, num-lt, num-toBits, length-bitsOf, length-packTo, bitsOf-pack}
-
-pub bitsOf-append : (s t : List ℕ) → bitsOf (s ++ t) ≡ bitsOf s ++ bitsOf t
-unfolding bitsOf
-bitsOf-append [] t = refl
-bitsOf-append (x ∷ s) t = rw (bitsOf-append s t, append-assoc (toBits 8 x) (bitsOf s) (bitsOf t))
 
 packTo-bytes : (k : ℕ) (bs : List Bool) → Bytes (packTo k bs)
 unfolding packTo

@@ -17,8 +17,8 @@ use Rattle.definitions.specs.Legal.{Every, Legal}
 use Rattle.definitions.specs.Encoding.{sheetBits, encode}
 use Rattle.definitions.specs.Relisted.{Holds}
 use Rattle.reading_laws.specs.Statements.{NothingLegalIsRefused, NothingIllegalIsRead, HeldExactly, OneMap, ReadExactly, RefusedWith3Or4, FourStays}
-use Rattle.bits.specs.NumberLaws.{length-bitsOf, bitsOf-pack}
-use Rattle.reading_laws.specs.Packed.{bitsOf-append, length-pack, pack-bytes, fill, packed-only}
+use Rattle.bits.specs.NumberLaws.{length-bitsOf, bitsOf-append, bitsOf-pack}
+use Rattle.reading_laws.specs.Packed.{length-pack, pack-bytes, fill, packed-only}
 use Rattle.reading_laws.specs.Parsers.{done-value, done-only, refused-only, done-stays, refused-stays, cut-short}
 use Rattle.reading_laws.specs.Constructs.{sheet-codes}
 use Rattle.reading_laws.specs.Sizes.{sheet-size}

@@ -69,6 +69,10 @@ pub bit-either : (a b k : ℕ) → hasBit (bitOr a b) k ≡ (hasBit a k || hasBi
 unfolding hasBit
 bit-either a b k = one-or a b k
 
+pub bit-without : (a b k : ℕ) → hasBit (bitXor a (bitAnd a b)) k ≡ (hasBit a k && not (hasBit b k))
+unfolding hasBit
+bit-without a b k = one-less a b k
+
 -- by the four limbs
 limb-common : (x y : Row) (j : ℕ) → limb (common x y) j ≡ bitAnd (limb x j) (limb y j)
 unfolding common

@@ -1,7 +1,6 @@
 use mathlib.Core.Path.{_≡_, _∙_}
 use Prim.Native.Nat.{_-_, _≤_}
 use native.Mathlib.Omega.{arith}
-use borrow.Author.Needs.{needs}
 use Rattle.item_classes.specs.ClassLaws.{GathersTo, count-few, to-none, to-more, to-all}
 use Rattle.item_classes.proofs.with_annotation.Statement.{statement}
 use Rattle.item_classes.proofs.with_annotation.Tie as tie

@@ -1,8 +1,7 @@
 use mathlib.Core.Path.{_≡_, _∙_, refl, subst}
-use Prim.Native.Nat.{ℕ, _-_, _≤_, _<_}
+use Prim.Native.Nat.{_-_, _≤_}
 use native.Mathlib.Omega.{arith}
 use lib.ListN.{length}
-use Rattle.types.specs.Types.{itemAt}
 use Rattle.item_fill.specs.Fill.{HeadsPut, ClassesPut}
 use Rattle.item_fill.specs.FillLaws.{heads-none, heads-more, classes-none, classes-more}
 use Rattle.item_fill.specs.Asked.{blank-sets, few-types, narrow, few-extensions, parents-room, few-parents, few-marks, notes-fit, order-fits}

@@ -1,5 +1,4 @@
 use mathlib.Core.Path.{_∙_}
-use native.Mathlib.Omega.{arith}
 use Rattle.item_names.specs.NamesLaws.{sets-kept, keys-small, words-few, names-put}
 use borrow.Author.Needs.{needs}
 use Rattle.item_names.proofs.put_names.Statement.{statement}

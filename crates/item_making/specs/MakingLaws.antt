@@ -1,0 +1,198 @@
+-- Laws of what is made, as the code counts and adds it.
+use mathlib.Core.Bool.{Bool, true, false, cond, _&&_, not, and-true, and-assoc}
+use mathlib.Core.List.{List, [], _∷_, _++_, map, append-assoc, append-nil}
+use mathlib.Core.Path.{_≡_, refl, sym, ap, ap₂, _∙_}
+use Prim.Native.Nat.{ℕ, zero, suc, _+_, _*_, _-_, _/_, _%_, _^_, _≤_, _<_, min}
+use native.Mathlib.Omega.{arith}
+use lib.Bits.{bitAnd, bitXor}
+use lib.ListN.{length, drop, length-append, length-map}
+use Rattle.lists.specs.Lists.{In, all, each}
+use Rattle.lists.specs.Tests.{and-left}
+use Rattle.lists.specs.Appending.{each-append, each-map, each-each, all-append}
+use Rattle.lists.specs.Tabulating.{length-tabulate}
+use Rattle.definitions.specs.Bits.{odd, toBits}
+use Rattle.definitions.specs.Records.{Name}
+use Rattle.definitions.specs.Packing.{nameBits, parentBits, countedBits}
+use Rattle.definitions.specs.Comparisons.{dotted}
+use Rattle.bits.specs.NumberLaws.{toBits-split}
+use Rattle.rows.specs.Rows.{hasBit}
+use Rattle.law_classes.specs.Numbers.{bit-both}
+use Rattle.catalogue.specs.Layout.{keyAt, headAt, marksAt, tallyAt, extensionCountAt, extensionParentAt, secondAt, resourceIn}
+use Rattle.catalogue.specs.Catalogue.{nameOfKey, virtualHead, parentsIn}
+use Rattle.bitsets.specs.Bitsets.{Lowest, Rest}
+use Rattle.item_fields.specs.Fields.{headBits}
+use Rattle.item_making.specs.declared.Making.{Making}
+use Rattle.item_making.specs.declared.Gathered.{Gathered}
+use Rattle.item_making.specs.Making.{members, eachOf, total, ones, others, classesOf, nameIn, firstIn, Recorded, added, parentsOf, firstBits, recordBits, parentsBits, marksBits, marksIn, allVirtual, Gathers, allMarksBits, GathersAll, makingBits, madeBits}
+use Rattle.item_making.specs.Walks.{members-next, members-none, members-most, member-of, each-next, total-next, total-none, total-append, total-most, total-same, total-each, from-next, from-end}
+
+-- ---- records
+
+pub recorded-rest : (t : List ℕ) (left k r : ℕ) → Lowest left k → Rest left r → Recorded t left → Recorded t r
+recorded-rest t left k r w d h =
+    let sub : (e : ℕ) → hasBit r e ≡ true → hasBit left e ≡ true = λ e p. and-left (hasBit left e) _ (sym (d .bits k w e) ∙ p) in
+    record { place = λ e p. h .place e (sub e p); few = λ e p. h .few e (sub e p) }
+
+pub added-long : (t : List ℕ) (records : ℕ) → length (added t records) ≡ total (extensionCountAt t) (members records)
+unfolding added parentsIn
+added-long t records =
+    total-each (parentsIn t) (members records)
+    ∙ total-same (λ e. length (parentsIn t e)) (extensionCountAt t) (members records) (λ e i. length-tabulate _ (extensionCountAt t e))
+
+pub added-most : (t : List ℕ) (records : ℕ) → Recorded t records → total (extensionCountAt t) (members records) ≤ 512
+added-most t records h =
+    let m = total-most (extensionCountAt t) 8 (members records) (λ e i. h .few e (member-of records i .1)) in
+    omega (arith, m, members-most records)
+
+-- ---- marks and flags
+
+pub odd-and : (a b : ℕ) → odd (bitAnd a b) ≡ (odd a && odd b)
+unfolding odd hasBit
+odd-and a b = bit-both a b 0
+
+pub marks-most : (t : List ℕ) (set : ℕ) → marksIn t (members set) ≤ 448
+unfolding marksIn
+marks-most t set =
+    let m = total-most (λ c. tallyAt t c % 8) 7 (members set) (λ e i. omega arith) in
+    omega (arith, m, members-most set)
+
+-- what is gathered and what is left make up the whole
+pub record GathersTo (t : List ℕ) (g : Gathered) (set n f left : ℕ) : Type 0 where
+  pub marks : n + marksIn t (members left) ≡ g .marks + marksIn t (members set)
+  pub flag : (odd f && allVirtual t (members left)) ≡ (odd (g .flag) && allVirtual t (members set))
+
+pub gathers-none : (t : List ℕ) (g : Gathered) (set : ℕ) → GathersTo t g set (g .marks) (g .flag) set
+gathers-none t g set = record { marks = refl; flag = refl }
+
+pub gathers-more : (t : List ℕ) (g : Gathered) (set marks flag left k r : ℕ) → Lowest left k → Rest left r → GathersTo t g set marks flag left
+    → GathersTo t g set (marks + tallyAt t k % 8) (bitAnd flag (headAt t k / 32)) r
+unfolding marksIn allVirtual virtualHead odd
+gathers-more t g set marks flag left k r w d h =
+    let m = total-next (λ c. tallyAt t c % 8) left k r w d in
+    let v : ℕ → Bool = λ c. odd (headAt t c / 32) in
+    record {
+      marks = omega (arith, h .marks, m);
+      flag =
+          ap (λ b. b && all v (members r)) (odd-and flag (headAt t k / 32))
+          ∙ and-assoc (odd flag) (v k) (all v (members r))
+          ∙ ap (λ (l : List ℕ). odd flag && all v l) (sym (members-next left k r w d))
+          ∙ h .flag;
+    }
+
+pub gathers-all : (t : List ℕ) (g : Gathered) (set marks flag left : ℕ) → left ≡ 0 → GathersTo t g set marks flag left → Gathers t g set (record { marks = marks; flag = flag })
+unfolding marksIn allVirtual
+gathers-all t g set marks flag left e h =
+    let z = members-none left e in
+    let q : total (λ c. tallyAt t c % 8) (members left) ≡ 0 = ap (total (λ c. tallyAt t c % 8)) z in
+    record {
+      marks = omega (arith, h .marks, q);
+      most = omega (arith, h .marks, q, marks-most t set);
+      flag = sym (and-true (odd flag)) ∙ ap (λ (l : List ℕ). odd flag && all (λ c. virtualHead (headAt t c)) l) (sym z) ∙ h .flag;
+    }
+
+-- ---- fields
+
+module _ (t : List ℕ) (m : Making) (p key : ℕ) (e : key ≡ keyAt t p) where
+  pub first-passing : m .inherited ≡ true → parentBits (dotted (nameOfKey key) (m .word)) ≡ firstBits t m p
+  unfolding firstBits firstIn nameIn
+  first-passing h = rw (e, h)
+
+  pub first-own : m .inherited ≡ false → parentBits (nameOfKey key) ≡ firstBits t m p
+  unfolding firstBits firstIn nameIn
+  first-own h = rw (e, h)
+
+pub marks-are : (t : List ℕ) (c tally marks : ℕ) → tally ≡ tallyAt t c → marks ≡ marksAt t c → toBits (tally / 8 % 64) marks ≡ marksBits t c
+unfolding marksBits
+marks-are t c tally marks e h = ap₂ (λ (x y : ℕ). toBits (x / 8 % 64) y) e h
+
+-- the first bits of marks and the last 32
+pub marks-parts : (w v : ℕ) → 32 ≤ w → toBits (w - 32) (v / 4294967296) ++ toBits 32 v ≡ toBits w v
+marks-parts w v h = let e : w - 32 + 32 ≡ w = omega arith in sym (toBits-split (w - 32) 32 v) ∙ ap (λ (n : ℕ). toBits n v) e
+
+-- ---- the parents of a record, one after the other
+
+-- those from the j-th on
+unfoldable pub recordFrom : List ℕ → ℕ → ℕ → List Bool
+recordFrom t e j = each parentBits (drop j (parentsIn t e))
+
+pub record-all : (t : List ℕ) (e : ℕ) → recordBits t e ≡ recordFrom t e 0
+unfolding recordBits recordFrom
+record-all t e = refl
+
+pub record-next : (t : List ℕ) (e j key : ℕ) → key ≡ extensionParentAt t (8 * e + j) → j < extensionCountAt t e → recordFrom t e j ≡ parentBits (nameOfKey key) ++ recordFrom t e (j + 1)
+unfolding recordFrom parentsIn
+record-next t e j key k h =
+    from-next parentBits (λ i. nameOfKey (extensionParentAt t (8 * e + i))) (extensionCountAt t e) j h
+    ∙ ap (λ (x : ℕ). parentBits (nameOfKey x) ++ each parentBits (drop (j + 1) (parentsIn t e))) (sym k)
+
+pub record-end : (t : List ℕ) (e j : ℕ) → extensionCountAt t e ≤ j → recordFrom t e j ≡ []
+unfolding recordFrom parentsIn
+record-end t e j h = from-end parentBits (λ i. nameOfKey (extensionParentAt t (8 * e + i))) (extensionCountAt t e) j h
+
+-- ---- parts
+
+pub parents-parts : (t : List ℕ) (m : Making) →
+    eachOf (firstBits t m) (m .firsts) ++ (parentBits (resourceIn t ∷ []) ++ eachOf (recordBits t) (m .records)) ≡ parentsBits t m
+unfolding parentsBits parentsOf eachOf firstBits recordBits added
+parents-parts t m =
+    let ps = map (firstIn t m) (members (m .firsts)) in
+    let qs = each (parentsIn t) (members (m .records)) in
+    sym (
+    each-append parentBits ps ((resourceIn t ∷ []) ∷ qs)
+    ∙ ap₂ (λ (a b : List Bool). a ++ (parentBits (resourceIn t ∷ []) ++ b)) (each-map parentBits (firstIn t m) (members (m .firsts))) (each-each (parentsIn t) parentBits (members (m .records)))
+    )
+
+pub parents-count : (t : List ℕ) (m : Making) → length (parentsOf t m) ≡ length (members (m .firsts)) + 1 + length (added t (m .records))
+unfolding parentsOf
+parents-count t m =
+    let ps = map (firstIn t m) (members (m .firsts)) in
+    omega (arith, length-append ps ((resourceIn t ∷ []) ∷ added t (m .records)), length-map (members (m .firsts)) (firstIn t m))
+
+pub resource-bits : (t : List ℕ) (r : ℕ) → r ≡ resourceIn t → toBits 2 1 ++ toBits 8 r ≡ parentBits (resourceIn t ∷ [])
+unfolding parentBits
+resource-bits t r e = ap (λ (x : ℕ). toBits 2 1 ++ toBits 8 x) e ∙ ap (λ (l : List Bool). toBits 2 1 ++ l) (sym (append-nil (toBits 8 (resourceIn t))))
+
+module _ (t : List ℕ) (classes s : ℕ) (e : s ≡ secondAt t 0) where
+  abbrev alone : ℕ
+  alone = bitAnd classes s
+
+  abbrev rest : ℕ
+  rest = bitXor classes alone
+
+  classes-are : classesOf t classes ≡ members alone ++ members rest
+  unfolding classesOf
+  classes-are = ap (λ (x : ℕ). members (bitAnd classes x) ++ members (bitXor classes (bitAnd classes x))) (sym e)
+
+  pub marks-both : (marks : ℕ) → toBits 9 marks ++ (eachOf (marksBits t) alone ++ eachOf (marksBits t) rest) ≡ allMarksBits t marks classes
+  unfolding allMarksBits eachOf
+  marks-both marks = ap (λ (l : List Bool). toBits 9 marks ++ l) (sym (ap (each (marksBits t)) classes-are ∙ each-append (marksBits t) (members alone) (members rest)))
+
+  pub gathers-both : (a head : ℕ) (g r : Gathered) → head ≡ headAt t a → Gathers t (record { marks = 0; flag = head / 32 }) alone g → Gathers t g rest r → GathersAll t a classes r
+  unfolding marksIn allVirtual virtualHead odd
+  gathers-both a head g r h p q =
+      let f : ℕ → ℕ = λ c. tallyAt t c % 8 in
+      let v : ℕ → Bool = λ c. odd (headAt t c / 32) in
+      record {
+        marks = omega (arith, p .marks, q .marks, total-append f (members alone) (members rest)) ∙ ap (total f) (sym classes-are);
+        flag =
+            q .flag
+            ∙ ap (λ b. b && all v (members rest)) (p .flag)
+            ∙ and-assoc (odd (head / 32)) (all v (members alone)) (all v (members rest))
+            ∙ ap₂ (λ (x : ℕ) b. odd (x / 32) && b) h (sym (all-append v (members alone) (members rest)) ∙ ap (all v) (sym classes-are));
+      }
+
+pub made-parts : (t : List ℕ) (a : ℕ) (m : Making) (key count : ℕ) (g : Gathered) → key ≡ keyAt t a → count ≡ length (parentsOf t m) → GathersAll t a (m .classes) g →
+    headBits key (m .word) (g .flag) count ++ (parentsBits t m ++ allMarksBits t (g .marks) (m .classes)) ≡ madeBits t a m
+unfolding headBits madeBits makingBits parentsBits allMarksBits nameIn
+made-parts t a m key count g k e h =
+    let N = nameBits (nameOfKey key) in
+    let W = toBits 8 (m .word) in
+    let v = odd (g .flag) in
+    let C = toBits 5 count in
+    let P = each parentBits (parentsOf t m) in
+    let M = toBits 9 (g .marks) ++ each (marksBits t) (classesOf t (m .classes)) in
+    ap (λ (l : List Bool). false ∷ l)
+    (append-assoc N (W ++ (v ∷ C)) (P ++ M)
+    ∙ ap (λ (l : List Bool). N ++ l) (append-assoc W (v ∷ C) (P ++ M) ∙ ap (λ (l : List Bool). W ++ (v ∷ l)) (sym (append-assoc C P M))))
+    ∙ ap₂ (λ (x y : ℕ). false ∷ nameBits (nameOfKey x) ++ (W ++ (v ∷ (toBits 5 y ++ P) ++ M))) k e
+    ∙ ap₂ (λ (b : Bool) (n : ℕ). false ∷ nameBits (nameIn t a) ++ (W ++ (b ∷ (toBits 5 (length (parentsOf t m)) ++ P) ++ (toBits 9 n ++ each (marksBits t) (classesOf t (m .classes)))))) (h .flag) (h .marks)

@@ -1,0 +1,242 @@
+// What is made for a type and a word, out of the catalogue, added to a pen: a synthesized resource (FORMAT 6.2) and an extension line (FORMAT 6.3).
+use item_pen::Pen;
+ghost use mathlib.Core.List.{[], _∷_, _++_};
+ghost use mathlib.Core.Path.{_≡_};
+ghost use Prim.Native.Nat.{_+_, _*_, _%_, _≤_, _<_};
+ghost use lib.ListN.{length};
+ghost use Rattle.definitions.specs.Bits.{toBits};
+ghost use Rattle.catalogue.specs.Layout.{keyAt, headAt, extensionCountAt};
+ghost use Rattle.item_pen.specs.Pen.{RoomFor, Adds};
+ghost use Rattle.item_fields.specs.Fields.{lineBits};
+ghost use Rattle.item_making.specs.Making.{members, eachOf, Recorded, added, recordBits, firstBits, parentsBits, marksBits, Gathers};
+ghost use Rattle.item_making.specs.Making.{allMarksBits, GathersAll, parentsOf, madeBits};
+
+// What is made for a type and a word: the word; the extension records that add parents; the types whose names begin the first parents; the classes; and whether a
+// first parent is P.r, for a type P, or the type itself.
+pub struct Making {
+    pub word: u64,
+    pub records: u64,
+    pub firsts: u64,
+    pub classes: u64,
+    pub inherited: bool,
+}
+
+// How many marks some classes have, and, in the last bit, whether all are virtual.
+struct Gathered {
+    marks: u64,
+    flag: u64,
+}
+
+// How many types a set has.
+fn count_of(set: u64) -> u64
+    ensures { λ r. ⌜ (r ≡ length (members set)) × (r ≤ 64) ⌝ }
+{
+    let mut n: u64 = 0;
+    let mut left = set;
+    while left != 0 {
+        n += 1;
+        left = bitsets::rest(left);
+    }
+    n
+}
+
+// How many parents extension records add (FORMAT 4.5).
+fn count_added(t: &[u64; 1544], records: u64) -> u64
+    requires { ⌜ Recorded (now t) records ⌝ }
+    ensures { λ r. ⌜ (r ≡ length (added (now (t .entry)) records)) × (r ≤ 512) ⌝ }
+{
+    let mut n: u64 = 0;
+    let mut left = records;
+    while left != 0 {
+        let e = bitsets::lowest(left);
+        n += catalogue::extension_count_at(t, e);
+        left = bitsets::rest(left);
+    }
+    n
+}
+
+// With the classes of a set (FORMAT 4.6, 4.7).
+fn gather(t: &[u64; 1544], g: Gathered, set: u64) -> Gathered
+    requires { ⌜ g .marks ≤ 448 ⌝ }
+    ensures { λ r. ⌜ Gathers (now (t .entry)) g set r ⌝ }
+{
+    let mut marks = g.marks;
+    let mut flag = g.flag;
+    let mut left = set;
+    while left != 0 {
+        let c = bitsets::lowest(left);
+        marks += catalogue::tally_at(t, c) % 8;
+        flag = flag & (catalogue::head_at(t, c) >> 5);
+        left = bitsets::rest(left);
+    }
+    Gathered { marks, flag }
+}
+
+// A first parent: the class of an own making, P.r of an inherited one (FORMAT 4.3, 4.4).
+fn add_first(buf: &mut [u8], pen: Pen, t: &[u64; 1544], m: Making, p: usize) -> Pen
+    requires { ⌜ p < 64 ⌝ }
+    requires { ⌜ RoomFor (now buf) pen 0 (firstBits (now t) m p) ⌝ }
+    ensures { λ r. ⌜ Adds (now (buf .entry)) (now (buf .exit)) pen r 0 (firstBits (now (t .entry)) m p) ⌝ }
+{
+    let key = catalogue::key_at(t, p);
+    if m.inherited {
+        return item_pen::add(buf, pen, item_fields::passing_field(key, m.word));
+    }
+    item_pen::add(buf, pen, item_fields::parent_field(key))
+}
+
+// The first parents.
+fn add_firsts(buf: &mut [u8], pen: Pen, t: &[u64; 1544], m: Making) -> Pen
+    requires { ⌜ RoomFor (now buf) pen 0 (eachOf (firstBits (now t) m) (m .firsts)) ⌝ }
+    ensures { λ r. ⌜ Adds (now (buf .entry)) (now (buf .exit)) pen r 0 (eachOf (firstBits (now (t .entry)) m) (m .firsts)) ⌝ }
+{
+    let mut to = pen;
+    let mut left = m.firsts;
+    while left != 0 {
+        let p = bitsets::lowest(left);
+        to = add_first(buf, to, t, m, p);
+        left = bitsets::rest(left);
+    }
+    to
+}
+
+// The parents of an extension record (FORMAT 4.5).
+fn add_record(buf: &mut [u8], pen: Pen, t: &[u64; 1544], e: usize) -> Pen
+    requires { ⌜ (e < 32) × (extensionCountAt (now t) e ≤ 8) ⌝ }
+    requires { ⌜ RoomFor (now buf) pen 0 (recordBits (now t) e) ⌝ }
+    ensures { λ r. ⌜ Adds (now (buf .entry)) (now (buf .exit)) pen r 0 (recordBits (now (t .entry)) e) ⌝ }
+{
+    let count = catalogue::extension_count_at(t, e);
+    let mut to = pen;
+    let mut j: usize = 0;
+    while (j as u64) < count {
+        let key = catalogue::extension_parent_at(t, 8 * e + j);
+        to = item_pen::add(buf, to, item_fields::parent_field(key));
+        j += 1;
+    }
+    to
+}
+
+// The parents of some records.
+fn add_records(buf: &mut [u8], pen: Pen, t: &[u64; 1544], records: u64) -> Pen
+    requires { ⌜ Recorded (now t) records ⌝ }
+    requires { ⌜ RoomFor (now buf) pen 0 (eachOf (recordBits (now t)) records) ⌝ }
+    ensures { λ r. ⌜ Adds (now (buf .entry)) (now (buf .exit)) pen r 0 (eachOf (recordBits (now (t .entry))) records) ⌝ }
+{
+    let mut to = pen;
+    let mut left = records;
+    while left != 0 {
+        let e = bitsets::lowest(left);
+        to = add_record(buf, to, t, e);
+        left = bitsets::rest(left);
+    }
+    to
+}
+
+// All parents: the first ones, `resource`, those of the extension (FORMAT 4.5).
+fn add_parents(buf: &mut [u8], pen: Pen, t: &[u64; 1544], m: Making) -> Pen
+    requires { ⌜ Recorded (now t) (m .records) ⌝ }
+    requires { ⌜ RoomFor (now buf) pen 0 (parentsBits (now t) m) ⌝ }
+    ensures { λ r. ⌜ Adds (now (buf .entry)) (now (buf .exit)) pen r 0 (parentsBits (now (t .entry)) m) ⌝ }
+{
+    let to = add_firsts(buf, pen, t, m);
+    let resource = item_pen::join(
+        item_pen::number(2, 1),
+        item_pen::number(8, catalogue::resource_in(t)),
+    );
+    let then = item_pen::add(buf, to, resource);
+    add_records(buf, then, t, m.records)
+}
+
+// The marks of a class, up to 63 bits: more than 56 in two parts.
+fn add_class(buf: &mut [u8], pen: Pen, t: &[u64; 1544], c: usize) -> Pen
+    requires { ⌜ c < 64 ⌝ }
+    requires { ⌜ RoomFor (now buf) pen 0 (marksBits (now t) c) ⌝ }
+    ensures { λ r. ⌜ Adds (now (buf .entry)) (now (buf .exit)) pen r 0 (marksBits (now (t .entry)) c) ⌝ }
+{
+    let width = ((catalogue::tally_at(t, c) >> 3) % 64) as usize;
+    let marks = catalogue::marks_at(t, c);
+    if width <= 56 {
+        return item_pen::add(buf, pen, item_pen::number(width, marks));
+    }
+    let to = item_pen::add(buf, pen, item_pen::number(width - 32, marks >> 32));
+    item_pen::add(buf, to, item_pen::number(32, marks))
+}
+
+// The marks of the classes of a set (FORMAT 4.7).
+fn add_classes(buf: &mut [u8], pen: Pen, t: &[u64; 1544], set: u64) -> Pen
+    requires { ⌜ RoomFor (now buf) pen 0 (eachOf (marksBits (now t)) set) ⌝ }
+    ensures { λ r. ⌜ Adds (now (buf .entry)) (now (buf .exit)) pen r 0 (eachOf (marksBits (now (t .entry))) set) ⌝ }
+{
+    let mut to = pen;
+    let mut left = set;
+    while left != 0 {
+        let c = bitsets::lowest(left);
+        to = add_class(buf, to, t, c);
+        left = bitsets::rest(left);
+    }
+    to
+}
+
+// The number of marks, and the marks of the classes, no dom first (FORMAT 4.7, 6.2).
+fn add_marks(buf: &mut [u8], pen: Pen, t: &[u64; 1544], marks: u64, classes: u64) -> Pen
+    requires { ⌜ RoomFor (now buf) pen 0 (allMarksBits (now t) marks classes) ⌝ }
+    ensures { λ r. ⌜ Adds (now (buf .entry)) (now (buf .exit)) pen r 0 (allMarksBits (now (t .entry)) marks classes) ⌝ }
+{
+    let alone = classes & catalogue::second_at(t, 0);
+    let to = item_pen::add(buf, pen, item_pen::number(9, marks));
+    let then = add_classes(buf, to, t, alone);
+    add_classes(buf, then, t, classes ^ alone)
+}
+
+// What the type and its classes give: how many marks, and whether all are virtual (FORMAT 4.6, 4.7).
+fn gather_all(t: &[u64; 1544], a: usize, classes: u64) -> Gathered
+    requires { ⌜ a < 64 ⌝ }
+    ensures { λ r. ⌜ GathersAll (now (t .entry)) a classes r ⌝ }
+{
+    let alone = classes & catalogue::second_at(t, 0);
+    let none = Gathered {
+        marks: 0,
+        flag: catalogue::head_at(t, a) >> 5,
+    };
+    let some = gather(t, none, alone);
+    gather(t, some, classes ^ alone)
+}
+
+// How many parents a making has.
+fn count_parents(t: &[u64; 1544], m: Making) -> u64
+    requires { ⌜ Recorded (now t) (m .records) ⌝ }
+    ensures { λ r. ⌜ r ≡ length (parentsOf (now (t .entry)) m) ⌝ }
+{
+    count_of(m.firsts) + 1 + count_added(t, m.records)
+}
+
+// A synthesized resource T.r, after the Rust's function of that name (FORMAT 4, 6.2).
+pub fn create_synthetic_resource(
+    buf: &mut [u8],
+    pen: Pen,
+    t: &[u64; 1544],
+    a: usize,
+    m: Making,
+) -> Pen
+    requires { ⌜ (a < 64) × Recorded (now t) (m .records) ⌝ }
+    requires { ⌜ RoomFor (now buf) pen 1 (madeBits (now t) a m) ⌝ }
+    ensures { λ r. ⌜ Adds (now (buf .entry)) (now (buf .exit)) pen r 1 (madeBits (now (t .entry)) a m) ⌝ }
+{
+    let g = gather_all(t, a, m.classes);
+    let parents = count_parents(t, m);
+    let head = item_fields::head_field(catalogue::key_at(t, a), m.word, g.flag, parents);
+    let to = item_pen::add(buf, item_pen::counted(pen), head);
+    let then = add_parents(buf, to, t, m);
+    add_marks(buf, then, t, g.marks, m.classes)
+}
+
+// The extension line of a type and a word (FORMAT 4.8, 6.3).
+pub fn extension_line(buf: &mut [u8], pen: Pen, t: &[u64; 1544], a: usize, word: u64) -> Pen
+    requires { ⌜ a < 64 ⌝ }
+    requires { ⌜ RoomFor (now buf) pen 1 (lineBits (keyAt (now t) a) (headAt (now t) a) word) ⌝ }
+    ensures { λ r. ⌜ Adds (now (buf .entry)) (now (buf .exit)) pen r 1 (lineBits (keyAt (now (t .entry)) a) (headAt (now (t .entry)) a) word) ⌝ }
+{
+    let line = item_fields::line_field(catalogue::key_at(t, a), catalogue::head_at(t, a), word);
+    item_pen::add(buf, item_pen::counted(pen), line)
+}

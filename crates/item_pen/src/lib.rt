@@ -1,0 +1,218 @@
+// A pen over lent bytes. Down, it writes bits; up, it only counts them: what counts a schedule's bits is what writes them.
+use bits::Cursor;
+ghost use mathlib.Core.List.{[], _++_};
+ghost use mathlib.Core.Path.{_≡_};
+ghost use Prim.Native.Nat.{_+_, _*_, _/_, _^_, _≤_, _<_};
+ghost use lib.ListN.{length, drop};
+ghost use Rattle.definitions.specs.Bits.{toBits, bitsOf, num};
+ghost use Rattle.bits.specs.Writing.{put};
+ghost use Rattle.item_pen.specs.Pen.{Holds, fieldBits, Full, Merged, Room, Penned, Steady, RoomFor, Adds, Counted, Finished};
+
+// Bits that are made before they are written: the last `width` bits of a number that has no others.
+pub struct Field {
+    pub width: usize,
+    pub value: u64,
+}
+
+// How many items it has put, where the next bit that it writes goes, and the bits that it holds back to write several fields at once.
+pub struct Pen {
+    pub down: bool,
+    pub items: usize,
+    pub at: usize,
+    pub width: usize,
+    pub value: u64,
+}
+
+// A number in n bits (FORMAT 2.1).
+pub fn number(n: usize, v: u64) -> Field
+    requires { ⌜ n ≤ 56 ⌝ }
+    ensures { λ r. ⌜ Holds r n (toBits n v) ⌝ }
+{
+    let one: u64 = 1;
+    Field {
+        width: n,
+        value: v % (one << n),
+    }
+}
+
+// One field behind another, as one field.
+pub fn join(a: Field, b: Field) -> Field
+    requires { ⌜ Full a × Full b × (a .width + b .width ≤ 56) ⌝ }
+    ensures { λ r. ⌜ Holds r (a .width + b .width) (fieldBits a ++ fieldBits b) ⌝ }
+{
+    Field {
+        width: a.width + b.width,
+        value: (a.value << b.width) + b.value,
+    }
+}
+
+// The byte at i.
+fn wide(x: u8) -> u64
+    ensures { λ r. ⌜ r ≡ x ⌝ }
+{
+    x as u64
+}
+
+// The 32 bits of the four bytes from i on.
+fn four_at(s: &[u8], i: usize) -> u64
+    requires { ⌜ i + 4 ≤ length (now s) ⌝ }
+    ensures { λ r. ⌜ (r ≡ num 32 (drop (8 * i) (bitsOf (now (s .entry))))) × (r < 2 ^ 32) ⌝ }
+{
+    (wide(s[i]) << 24) | (wide(s[i + 1]) << 16) | (wide(s[i + 2]) << 8) | wide(s[i + 3])
+}
+
+// The 64 bits of the eight bytes from i on.
+fn eight_at(s: &[u8], i: usize) -> u64
+    requires { ⌜ i + 8 ≤ length (now s) ⌝ }
+    ensures { λ r. ⌜ r ≡ num 64 (drop (8 * i) (bitsOf (now (s .entry)))) ⌝ }
+{
+    (four_at(s, i) << 32) | four_at(s, i + 4)
+}
+
+// The last 16 bits of x, into the two bytes from i on.
+fn put_two(buf: &mut [u8], i: usize, x: u64)
+    requires { ⌜ i + 2 ≤ length (now buf) ⌝ }
+    ensures { λ _. ⌜ now (buf .exit) ≡ put (now (buf .entry)) (8 * i) (toBits 16 x) ⌝ }
+{
+    buf[i] = ((x >> 8) % 256) as u8;
+    buf[i + 1] = (x % 256) as u8;
+}
+
+// The last 32 bits of x, into the four bytes from i on.
+fn put_four(buf: &mut [u8], i: usize, x: u64)
+    requires { ⌜ i + 4 ≤ length (now buf) ⌝ }
+    ensures { λ _. ⌜ now (buf .exit) ≡ put (now (buf .entry)) (8 * i) (toBits 32 x) ⌝ }
+{
+    put_two(buf, i, x >> 16);
+    put_two(buf, i + 2, x);
+}
+
+// The 64 bits of x, into the eight bytes from i on.
+fn put_eight(buf: &mut [u8], i: usize, x: u64)
+    requires { ⌜ i + 8 ≤ length (now buf) ⌝ }
+    ensures { λ _. ⌜ now (buf .exit) ≡ put (now (buf .entry)) (8 * i) (toBits 64 x) ⌝ }
+{
+    put_four(buf, i, x >> 32);
+    put_four(buf, i + 4, x);
+}
+
+// Eight bytes as one number, with the n bits of v behind its first o bits: those stay, zeros go behind v to the end of its last byte, and what stands behind that
+// stays.
+fn merged(old: u64, o: usize, n: usize, v: u64) -> u64
+    requires { ⌜ (0 < n) × (n ≤ 56) × (o < 8) × (v < 2 ^ n) ⌝ }
+    ensures { λ r. ⌜ Merged old o n v r ⌝ }
+{
+    let behind = 64 - o - n;
+    let kept = behind / 8 * 8;
+    let all: u64 = 18446744073709551615;
+    let one: u64 = 1;
+    let hole = (all >> o) - ((one << kept) - 1);
+    (old - (old & hole)) + (v << behind)
+}
+
+// The n bits of v at bit `at`, in the eight bytes from its byte on.
+fn put_wide(buf: &mut [u8], at: usize, n: usize, v: u64)
+    requires { ⌜ (0 < n) × (n ≤ 56) × (v < 2 ^ n) × (at / 8 + 8 ≤ length (now buf)) ⌝ }
+    ensures { λ _. ⌜ now (buf .exit) ≡ put (now (buf .entry)) at (toBits n v) ⌝ }
+{
+    let i = at / 8;
+    let old = eight_at(buf, i);
+    put_eight(buf, i, merged(old, at % 8, n, v));
+}
+
+// The same near the end of the bytes, 16 bits at a time.
+fn put_near(buf: &mut [u8], at: usize, n: usize, v: u64)
+    requires { ⌜ (n ≤ 56) × (at + n ≤ 8 * length (now buf)) × (at + n < 2 ^ 64) ⌝ }
+    ensures { λ _. ⌜ now (buf .exit) ≡ put (now (buf .entry)) at (toBits n v) ⌝ }
+{
+    let mut c = Cursor { at: at };
+    let mut left = n;
+    while 16 < left {
+        left -= 16;
+        c = c.write(buf, 16, (v >> left) as usize);
+    }
+    c.write(buf, left, v as usize);
+}
+
+// The n bits of v at bit `at`, and zeros to the end of the byte that the last of them is in. No other byte is touched.
+fn put_bits(buf: &mut [u8], at: usize, n: usize, v: u64)
+    requires { ⌜ (n ≤ 56) × (v < 2 ^ n) × (at + n ≤ 8 * length (now buf)) × (at + n < 2 ^ 64) ⌝ }
+    ensures { λ _. ⌜ now (buf .exit) ≡ put (now (buf .entry)) at (toBits n v) ⌝ }
+{
+    if n == 0 {
+        return;
+    }
+    if buf.len() < at / 8 + 8 {
+        put_near(buf, at, n, v);
+        return;
+    }
+    put_wide(buf, at, n, v);
+}
+
+// With the pen down the n bits of v go to bit `at`, and zeros to the end of their last byte; with the pen up nothing is touched. The answer is the bit behind them.
+pub fn put(buf: &mut [u8], at: usize, down: bool, n: usize, v: u64) -> usize
+    requires { ⌜ Room down (now buf) at n v ⌝ }
+    ensures { λ r. ⌜ Penned down (now (buf .entry)) (now (buf .exit)) at r (toBits n v) ⌝ }
+{
+    if !down {
+        return at + n;
+    }
+    put_bits(buf, at, n, v);
+    at + n
+}
+
+// One more field. What the pen holds back is written where the field finds no room beside it.
+pub fn add(buf: &mut [u8], pen: Pen, f: Field) -> Pen
+    requires { ⌜ Full f ⌝ }
+    requires { ⌜ RoomFor (now buf) pen 0 (fieldBits f) ⌝ }
+    ensures { λ r. ⌜ Adds (now (buf .entry)) (now (buf .exit)) pen r 0 (fieldBits f) ⌝ }
+{
+    if !pen.down {
+        return Pen {
+            down: false,
+            items: pen.items,
+            at: pen.at + f.width,
+            width: pen.width,
+            value: pen.value,
+        };
+    }
+    if pen.width + f.width <= 56 {
+        return Pen {
+            down: true,
+            items: pen.items,
+            at: pen.at,
+            width: pen.width + f.width,
+            value: (pen.value << f.width) + f.value,
+        };
+    }
+    let at = put(buf, pen.at, true, pen.width, pen.value);
+    Pen {
+        down: true,
+        items: pen.items,
+        at: at,
+        width: f.width,
+        value: f.value,
+    }
+}
+
+// One more item.
+pub fn counted(pen: Pen) -> Pen
+    requires { ⌜ (pen .items + 1 < 2 ^ 64) × Steady pen ⌝ }
+    ensures { λ r. ⌜ Counted pen r ⌝ }
+{
+    Pen {
+        down: pen.down,
+        items: pen.items + 1,
+        at: pen.at,
+        width: pen.width,
+        value: pen.value,
+    }
+}
+
+// What the pen holds back is written.
+pub fn finish(buf: &mut [u8], pen: Pen) -> usize
+    requires { ⌜ RoomFor (now buf) pen 0 [] ⌝ }
+    ensures { λ r. ⌜ Finished (now (buf .entry)) (now (buf .exit)) pen r ⌝ }
+{
+    put(buf, pen.at, pen.down, pen.width, pen.value)
+}
