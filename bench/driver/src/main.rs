@@ -3,7 +3,7 @@
 //!     bench SIDE CALL FILE MILLISECONDS     repeats for so long
 //!     bench SIDE CALL FILE once             one repetition, for callgrind
 //!
-//! SIDE is `ours`, `rust` (with 01's equality), `whole` (the same, the reading of the sheet and the
+//! SIDE is `ours`, `anchor` (the same calls in C), `rust` (with 01's equality), `whole` (the same, the reading of the sheet and the
 //! building of the type map within the clock) or `untouched`; CALL is `order`, `schedule`, or, for
 //! the Rust, `apply`: apply_associate_annotations alone.
 //! Prints: the number, how many items, repetitions, the least nanoseconds, their median.
@@ -83,7 +83,8 @@ fn main() {
     };
     let bytes = std::fs::read(file).expect("the sheet");
     let mut side: Box<dyn Side> = match side.as_str() {
-        "ours" => Box::new(ours::Ours::new(&bytes, work)),
+        "ours" => Box::new(ours::Ours::new(&bytes, ours::By::Proof, work)),
+        "anchor" => Box::new(ours::Ours::new(&bytes, ours::By::Hand, work)),
         "rust" => Box::new(by_01::Rust::new(&bytes, work)),
         "whole" => Box::new(by_01::Whole::new(&bytes, work)),
         "untouched" => Box::new(untouched::Rust::new(&bytes, work)),

@@ -1,4 +1,4 @@
-//! Our side: the exported calls on the bytes of a sheet.
+//! Our side: the exported calls on the bytes of a sheet. The anchor's calls in C have the same form, so they are run alike.
 
 use crate::{Found, Side, Work};
 use std::hint::black_box;
@@ -21,6 +21,14 @@ macro_rules! exported {
 exported!(gidzelma_order);
 #[cfg(feature = "schedule")]
 exported!(gidzelma_schedule);
+#[cfg(feature = "anchor")]
+exported!(fast_order fast_schedule);
+
+/// Who wrote the call: we, with its proof, or the anchor's author, in C.
+pub enum By {
+    Proof,
+    Hand,
+}
 
 pub struct Ours {
     call: Call,
@@ -31,20 +39,24 @@ pub struct Ours {
     parts: [u32; 3],
 }
 
-fn call_of(work: Work) -> Call {
-    match work {
-        Work::Order => gidzelma_order,
+fn call_of(by: By, work: Work) -> Call {
+    match (by, work) {
+        (By::Proof, Work::Order) => gidzelma_order,
         #[cfg(feature = "schedule")]
-        Work::Schedule => gidzelma_schedule,
+        (By::Proof, Work::Schedule) => gidzelma_schedule,
+        #[cfg(feature = "anchor")]
+        (By::Hand, Work::Order) => fast_order,
+        #[cfg(feature = "anchor")]
+        (By::Hand, Work::Schedule) => fast_schedule,
         _ => panic!("the library has no such call"),
     }
 }
 
 impl Ours {
     /// The listing takes the longest schedule that was found, 239,675 bytes.
-    pub fn new(bytes: &[u8], work: Work) -> Ours {
+    pub fn new(bytes: &[u8], by: By, work: Work) -> Ours {
         Ours {
-            call: call_of(work),
+            call: call_of(by, work),
             work,
             sheet: bytes.to_vec(),
             listing: vec![0; 1 << 18],
