@@ -6,12 +6,13 @@ use Prim.Native.Nat.{ℕ, _≤_, _<_}
 use native.Mathlib.Omega.{arith}
 use lib.ListN.{length, getD}
 use Rattle.lists.specs.Tests.{never}
+use Rattle.lists.specs.Tabulating.{length-places}
 use Rattle.definitions.specs.Records as records
 use Rattle.definitions.specs.Bits.{bitsOf}
 use Rattle.definitions.specs.Map.{TypeMap, typeMapOf}
 use Rattle.definitions.specs.Answer.{Call, schedule, order, outcome}
 use Rattle.line_laws.specs.Reading.{read-is-within}
-use Rattle.words.specs.Words.{ofWords}
+use Rattle.words.specs.Words.{wordOf, zeroWord, ofWords}
 use Rattle.types.specs.Types.{ofTypes}
 use Rattle.ordering.specs.declared.Parents.{Parents}
 use Rattle.ordering.specs.Reading.{noType, Reads, Valid, valid}
@@ -70,18 +71,19 @@ module _ (s : List ℕ) (room : ℕ) (x : Decoded) (p : Passed s room x) where
     is-valid = valid q map reads
 
     -- the schedule call
-    pub starts : Starts (p .held .s) (x .types) (x .extensions) (x .resource) q
-    unfolding typeMapOf
+    pub starts : Starts (p .held .s) (x .types) (x .extensions) (x .resource) (x .words .count) q
+    unfolding typeMapOf ofWords
     starts = record {
       readable = record { words = p .held .holds .words; once = p .held .holds .once };
       within = read-is-within (bitsOf s) (p .held .holds .rest) (p .held .s) (p .held .holds .read);
       types = sym types-are;
       extensions = sym (ap (λ (m : TypeMap). m .extensions) (p .held .map));
       word = sym (ap (λ (m : TypeMap). m .resource) (p .held .map));
+      wide = sym (ap length (p .held .words) ∙ length-places wordOf zeroWord (x .words .items) (x .words .count));
       reads = reads;
     }
 
-    pub due-schedule : (l d : List ℕ) (a : Answer) (l′ d′ : List ℕ) → length d ≡ room → Scheduled (x .types) (x .extensions) (x .resource) q l d a l′ d′ →
+    pub due-schedule : (l d : List ℕ) (a : Answer) (l′ d′ : List ℕ) → length d ≡ room → Scheduled (x .types) (x .extensions) (x .resource) (x .words .count) q l d a l′ d′ →
         Answered a l′ d′ (outcome (inputOf schedule s l d))
     due-schedule l d a l′ d′ k n =
         answered-as a l′ d′ _ _

@@ -1,21 +1,20 @@
 // The public calls.
 use answers::Answer;
 use decoding::Decoded;
-use ordering::Order;
 use ordering::Parents;
 use types::Extensions;
 use types::Types;
-ghost use mathlib.Core.Bool.{true};
 ghost use mathlib.Core.Path.{_≡_};
 ghost use Prim.Native.Nat.{_≤_};
 ghost use lib.ListN.{length};
+ghost use Rattle.definitions.specs.Records.{Sheet};
 ghost use Rattle.definitions.specs.Answer.{outcome};
-ghost use Rattle.ordering.specs.Organized.{Organized};
 ghost use Rattle.ordering.specs.Reading.{Valid};
+ghost use Rattle.synthesis.specs.Synthesized.{Synthesizes};
 ghost use Rattle.answers.specs.Answers.{answerOf, Answered, orderInput, scheduleInput};
 ghost use Rattle.access.specs.Ending.{Unordered, Ended};
 ghost use Rattle.access.specs.Lines.{LinesListed};
-ghost use Rattle.access.specs.Starting.{Started, Scheduled};
+ghost use Rattle.access.specs.Starting.{Started, RowsDue, Scheduled};
 ghost use Rattle.access.specs.Testing.{Tests};
 
 // Tests 1 to 7, for a diagnosis slice of `room` bytes: 1 and 2 before the sheet is read, the others as the decoder finds them
@@ -70,54 +69,48 @@ pub fn order(sheet: &[u8], listing: &mut [u8], diagnosis: &mut [u8]) -> Answer
     end_order(parents, listing, diagnosis)
 }
 
-// Writes the schedule of a map with an order, or the rows of its synthesis: 9, 10 or acceptance.
-fn end_synthesis(
+// 9: a type is refused; the rows of the synthesis are written (FORMAT 8.6 to 8.11).
+fn type_refused(
     types: Types,
     extensions: Extensions,
     resource: u8,
     p: Parents,
-    order: Order,
-    listing: &mut [u8],
     diagnosis: &mut [u8],
 ) -> Answer
-    requires { ⌜ Started types extensions resource p ⌝ }
-    requires { ⌜ Organized p order ⌝ }
-    requires { ⌜ (order .found ≡ true) × (1536 ≤ length (now diagnosis)) ⌝ }
-    ensures { λ r. ⌜ Scheduled types extensions resource p (now (listing .entry)) (now (diagnosis .entry)) r (now (listing .exit)) (now (diagnosis .exit)) ⌝ }
+    requires { ⌜ ((s : Sheet) × Synthesizes s types extensions resource p) ⌝ }
+    requires { ⌜ 1536 ≤ length (now diagnosis) ⌝ }
+    ensures { λ r. ⌜ RowsDue types extensions resource p (now (diagnosis .entry)) (now (diagnosis .exit)) r ⌝ }
 {
     let report = synthesis::apply_associate_annotations(types, extensions, resource, p, diagnosis);
-    if answers::rows_refuse(report.rows) {
-        return answers::type_refused(report.rows, report.more);
-    }
-    let tried = listing::write_schedule(listing, true, types, extensions, resource, p, order);
-    let listed = tried.listed;
-    answers::listed(listed.short, listed.size)
+    answers::type_refused(report.rows, report.more)
 }
 
-// Writes the schedule, if there is one: 8, 9, 10 or acceptance. The synthesis runs where the quick test can't tell that no
-// type is refused.
+// Writes the schedule, if there is one: 8, 9, 10 or acceptance. The catalogue of the map tells whether a type is refused; the
+// synthesis runs only to write the rows.
 fn end_schedule(
     types: Types,
     extensions: Extensions,
     resource: u8,
+    width: usize,
     p: Parents,
     listing: &mut [u8],
     diagnosis: &mut [u8],
 ) -> Answer
-    requires { ⌜ Started types extensions resource p ⌝ }
+    requires { ⌜ Started types extensions resource width p ⌝ }
     requires { ⌜ 1536 ≤ length (now diagnosis) ⌝ }
-    ensures { λ r. ⌜ Scheduled types extensions resource p (now (listing .entry)) (now (diagnosis .entry)) r (now (listing .exit)) (now (diagnosis .exit)) ⌝ }
+    ensures { λ r. ⌜ Scheduled types extensions resource width p (now (listing .entry)) (now (diagnosis .entry)) r (now (listing .exit)) (now (diagnosis .exit)) ⌝ }
 {
     let order = ordering::organize_type_map(p);
     if !order.found {
         return no_order(p, diagnosis);
     }
-    let tried = listing::write_schedule(listing, false, types, extensions, resource, p, order);
-    if tried.decided {
-        let listed = tried.listed;
-        return answers::listed(listed.short, listed.size);
+    let mut table = catalogue::blank();
+    let lost = item_fill::fill(&mut table, types, extensions, resource, width, p, order);
+    if item_refusal::is_refused(&table, lost) {
+        return type_refused(types, extensions, resource, p, diagnosis);
     }
-    end_synthesis(types, extensions, resource, p, order, listing, diagnosis)
+    let listed = item_schedule::write_schedule(listing, &table, order);
+    answers::listed(listed.short, listed.size)
 }
 
 // The schedule call.
@@ -136,6 +129,7 @@ pub fn schedule(sheet: &[u8], listing: &mut [u8], diagnosis: &mut [u8]) -> Answe
         types,
         extensions,
         tested.resource,
+        tested.words.count,
         parents,
         listing,
         diagnosis,
