@@ -5,16 +5,17 @@ use mathlib.Core.Path.{_≡_, refl, sym, ap, ap₂, _∙_}
 use Prim.Native.Nat.{ℕ, zero, suc, _+_, _*_, _-_, _/_, _%_, _^_, _≤_, _<_, min}
 use native.Mathlib.Omega.{arith}
 use lib.Bits.{bitAnd, bitXor}
+use lib.Dec.{eqb}
 use lib.ListN.{length, drop, length-append, length-map}
 use Rattle.lists.specs.Lists.{In, all, each}
-use Rattle.lists.specs.Tests.{and-left}
+use Rattle.lists.specs.Tests.{by, and-left}
 use Rattle.lists.specs.Appending.{each-append, each-map, each-each, all-append}
 use Rattle.lists.specs.Tabulating.{length-tabulate}
 use Rattle.definitions.specs.Bits.{odd, toBits}
 use Rattle.definitions.specs.Records.{Name}
 use Rattle.definitions.specs.Packing.{nameBits, parentBits, countedBits}
 use Rattle.definitions.specs.Comparisons.{dotted}
-use Rattle.bits.specs.NumberLaws.{toBits-split}
+use Rattle.bits.specs.NumberLaws.{length-toBits, toBits-split}
 use Rattle.rows.specs.Rows.{hasBit}
 use Rattle.law_classes.specs.Numbers.{bit-both}
 use Rattle.catalogue.specs.Layout.{keyAt, headAt, marksAt, tallyAt, extensionCountAt, extensionParentAt, secondAt, resourceIn}
@@ -24,7 +25,7 @@ use Rattle.item_fields.specs.Fields.{headBits}
 use Rattle.item_making.specs.declared.Making.{Making}
 use Rattle.item_making.specs.declared.Gathered.{Gathered}
 use Rattle.item_making.specs.Making.{members, eachOf, total, ones, others, classesOf, nameIn, firstIn, Recorded, added, parentsOf, firstBits, recordBits, parentsBits, marksBits, marksIn, allVirtual, Gathers, allMarksBits, GathersAll, makingBits, madeBits}
-use Rattle.item_making.specs.Walks.{members-next, members-none, members-most, member-of, each-next, total-next, total-none, total-append, total-most, total-same, total-each, from-next, from-end}
+use Rattle.item_making.specs.Walks.{members-next, members-none, members-most, member-of, each-next, each-none, total-next, total-none, total-append, total-most, total-same, total-each, from-next, from-end}
 
 -- ---- records
 
@@ -196,3 +197,95 @@ made-parts t a m key count g k e h =
     ∙ ap (λ (l : List Bool). N ++ l) (append-assoc W (v ∷ C) (P ++ M) ∙ ap (λ (l : List Bool). W ++ (v ∷ l)) (sym (append-assoc C P M))))
     ∙ ap₂ (λ (x y : ℕ). false ∷ nameBits (nameOfKey x) ++ (W ++ (v ∷ (toBits 5 y ++ P) ++ M))) k e
     ∙ ap₂ (λ (b : Bool) (n : ℕ). false ∷ nameBits (nameIn t a) ++ (W ++ (b ∷ (toBits 5 (length (parentsOf t m)) ++ P) ++ (toBits 9 n ++ each (marksBits t) (classesOf t (m .classes)))))) (h .flag) (h .marks)
+
+-- ---- how many bits
+
+-- the bits made of each member, summed
+pub each-long : (g : ℕ → List Bool) (left : ℕ) → length (eachOf g left) ≡ total (λ x. length (g x)) (members left)
+unfolding eachOf
+each-long g left = total-each g (members left)
+
+-- what is counted and what is left make up the whole
+pub record LongTo (g : ℕ → List Bool) (set n left : ℕ) : Type 0 where
+  pub sum : n + length (eachOf g left) ≡ length (eachOf g set)
+
+pub long-none : (g : ℕ → List Bool) (set : ℕ) → LongTo g set 0 set
+long-none g set = record { sum = omega arith }
+
+pub long-more : (g : ℕ → List Bool) (set n left k r w : ℕ) → Lowest left k → Rest left r → w ≡ length (g k) → LongTo g set n left → LongTo g set (n + w) r
+long-more g set n left k r w l d e h = record { sum = omega (arith, h .sum, e, ap length (each-next g left k r l d), length-append (g k) (eachOf g r)) }
+
+pub long-all : (g : ℕ → List Bool) (set n left : ℕ) → left ≡ 0 → LongTo g set n left → n ≡ length (eachOf g set)
+long-all g set n left e h = omega (arith, h .sum, ap length (each-none g left e))
+
+-- and it is no more than the most that one has, each time
+pub long-most : (g : ℕ → List Bool) (most set : ℕ) → ((x : ℕ) → length (g x) ≤ most) → length (eachOf g set) ≤ most * length (members set)
+long-most g most set h = rw (each-long g set) (total-most (λ x. length (g x)) most (members set) (λ x i. h x))
+
+words-long : (n : Name) → length (each (toBits 8) n) ≡ 8 * length n
+words-long [] = refl
+words-long (w ∷ n) = omega (arith, length-append (toBits 8 w) (each (toBits 8) n), length-toBits 8 w, words-long n)
+
+parent-long : (n : Name) → length (parentBits n) ≡ 2 + 8 * length n
+unfolding parentBits
+parent-long n = omega (arith, length-append (toBits 2 (length n)) (each (toBits 8) n), length-toBits 2 (length n), words-long n)
+
+key-long : (k : ℕ) → length (nameOfKey k) ≤ 2
+unfolding nameOfKey
+key-long k = by (eqb (k % 256) 0) (λ e. rw e (omega arith)) (λ e. rw e (omega arith))
+
+pub first-long : (t : List ℕ) (m : Making) (p : ℕ) → length (firstBits t m p) ≤ 26
+unfolding firstBits firstIn nameIn
+first-long t m p =
+    let n = nameOfKey (keyAt t p) in
+    by (m .inherited)
+    (λ e. rw e (omega (arith, parent-long (dotted n (m .word)), length-append n (m .word ∷ []), key-long (keyAt t p))))
+    (λ e. rw e (omega (arith, parent-long n, key-long (keyAt t p))))
+
+pub marks-long : (t : List ℕ) (c : ℕ) → length (marksBits t c) ≡ tallyAt t c / 8 % 64
+unfolding marksBits
+marks-long t c = length-toBits (tallyAt t c / 8 % 64) (marksAt t c)
+
+pub marks-few : (t : List ℕ) (c : ℕ) → length (marksBits t c) ≤ 63
+marks-few t c = omega (arith, marks-long t c)
+
+-- the parts of a making whose parents no extension adds to
+pub made-long : (t : List ℕ) (a : ℕ) (m : Making) (key s w f x y : ℕ) → key ≡ keyAt t a → s ≡ secondAt t 0 → m .records ≡ 0 → w ≡ length (nameBits (nameOfKey key)) → f ≡ length (eachOf (firstBits t m) (m .firsts))
+    → x ≡ length (eachOf (marksBits t) (bitAnd (m .classes) s)) → y ≡ length (eachOf (marksBits t) (bitXor (m .classes) (bitAnd (m .classes) s)))
+    → 34 + w + f + (x + y) ≡ length (madeBits t a m)
+unfolding madeBits makingBits allMarksBits parentsBits nameIn
+made-long t a m key s w f x y k e z hw hf hx hy =
+    let N = nameBits (nameIn t a) in
+    let W = toBits 8 (m .word) in
+    let P = each parentBits (parentsOf t m) in
+    let F = eachOf (firstBits t m) (m .firsts) in
+    let M = each (marksBits t) (classesOf t (m .classes)) in
+    let R = parentBits (resourceIn t ∷ []) in
+    let E = eachOf (recordBits t) (m .records) in
+    let p : length P ≡ f + 10 =
+    sym (ap length (parents-parts t m))
+    ∙ omega (arith, length-append F (R ++ E), length-append R E, parent-long (resourceIn t ∷ []), ap length (each-none (recordBits t) (m .records) z), hf) in
+    let v = virtualHead (headAt t a) && allVirtual t (classesOf t (m .classes)) in
+    let C = toBits 5 (length (parentsOf t m)) in
+    let K = toBits 9 (marksIn t (classesOf t (m .classes))) in
+    let A = eachOf (marksBits t) (bitAnd (m .classes) s) in
+    let B = eachOf (marksBits t) (bitXor (m .classes) (bitAnd (m .classes) s)) in
+    let q : length (allMarksBits t 0 (m .classes)) ≡ 9 + (x + y) =
+    sym (ap length (marks-both t (m .classes) s e 0)) ∙ omega (arith, length-append (toBits 9 0) (A ++ B), length-toBits 9 0, length-append A B, hx, hy) in
+    omega (
+      arith,
+      hw,
+      ap (λ (n : ℕ). length (nameBits (nameOfKey n))) k,
+      p,
+      q,
+      length-append N (W ++ (v ∷ (C ++ P) ++ (K ++ M))),
+      length-append W (v ∷ (C ++ P) ++ (K ++ M)),
+      length-append (C ++ P) (K ++ M),
+      length-append C P,
+      length-append K M,
+      length-append (toBits 9 0) M,
+      length-toBits 8 (m .word),
+      length-toBits 5 (length (parentsOf t m)),
+      length-toBits 9 (marksIn t (classesOf t (m .classes))),
+      length-toBits 9 0,
+    )

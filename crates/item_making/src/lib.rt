@@ -211,7 +211,75 @@ fn count_parents(t: &[u64; 1544], m: Making) -> u64
     count_of(m.firsts) + 1 + count_added(t, m.records)
 }
 
-// A synthesized resource T.r, after the Rust's function of that name (FORMAT 4, 6.2).
+// A synthesized resource, field by field.
+fn add_resource(buf: &mut [u8], pen: Pen, t: &[u64; 1544], a: usize, m: Making) -> Pen
+    requires { ⌜ (a < 64) × Recorded (now t) (m .records) ⌝ }
+    requires { ⌜ RoomFor (now buf) pen 1 (madeBits (now t) a m) ⌝ }
+    ensures { λ r. ⌜ Adds (now (buf .entry)) (now (buf .exit)) pen r 1 (madeBits (now (t .entry)) a m) ⌝ }
+{
+    let g = gather_all(t, a, m.classes);
+    let parents = count_parents(t, m);
+    let head = item_fields::head_field(catalogue::key_at(t, a), m.word, g.flag, parents);
+    let to = item_pen::add(buf, item_pen::counted(pen), head);
+    let then = add_parents(buf, to, t, m);
+    add_marks(buf, then, t, g.marks, m.classes)
+}
+
+// How many bits a first parent has.
+fn first_width(t: &[u64; 1544], m: Making, p: usize) -> usize
+    requires { ⌜ p < 64 ⌝ }
+    ensures { λ r. ⌜ (r ≡ length (firstBits (now (t .entry)) m p)) × (r ≤ 26) ⌝ }
+{
+    let key = catalogue::key_at(t, p);
+    if m.inherited {
+        let f = item_fields::passing_field(key, m.word);
+        return f.width;
+    }
+    let f = item_fields::parent_field(key);
+    f.width
+}
+
+// How many bits the first parents have.
+fn firsts_width(t: &[u64; 1544], m: Making) -> usize
+    ensures { λ r. ⌜ (r ≡ length (eachOf (firstBits (now (t .entry)) m) (m .firsts))) × (r ≤ 1664) ⌝ }
+{
+    let mut n: usize = 0;
+    let mut left = m.firsts;
+    while left != 0 {
+        let p = bitsets::lowest(left);
+        n += first_width(t, m, p);
+        left = bitsets::rest(left);
+    }
+    n
+}
+
+// How many bits the marks of the classes of a set have.
+fn marks_width(t: &[u64; 1544], set: u64) -> usize
+    ensures { λ r. ⌜ (r ≡ length (eachOf (marksBits (now (t .entry))) set)) × (r ≤ 4032) ⌝ }
+{
+    let mut n: usize = 0;
+    let mut left = set;
+    while left != 0 {
+        let c = bitsets::lowest(left);
+        n += ((catalogue::tally_at(t, c) >> 3) % 64) as usize;
+        left = bitsets::rest(left);
+    }
+    n
+}
+
+// How many bits a synthesized resource has to which no extension adds parents: 34, the type's name, the first parents, the marks.
+fn width_of(t: &[u64; 1544], a: usize, m: Making) -> usize
+    requires { ⌜ (a < 64) × (m .records ≡ 0) ⌝ }
+    ensures { λ r. ⌜ r ≡ length (madeBits (now (t .entry)) a m) ⌝ }
+{
+    let name = item_fields::name_field(catalogue::key_at(t, a));
+    let alone = m.classes & catalogue::second_at(t, 0);
+    let marks = marks_width(t, alone) + marks_width(t, m.classes ^ alone);
+    34 + name.width + firsts_width(t, m) + marks
+}
+
+// A synthesized resource T.r, after the Rust's function of that name (FORMAT 4, 6.2). With the pen up its bits are counted and not
+// made.
 pub fn create_synthetic_resource(
     buf: &mut [u8],
     pen: Pen,
@@ -223,12 +291,12 @@ pub fn create_synthetic_resource(
     requires { ⌜ RoomFor (now buf) pen 1 (madeBits (now t) a m) ⌝ }
     ensures { λ r. ⌜ Adds (now (buf .entry)) (now (buf .exit)) pen r 1 (madeBits (now (t .entry)) a m) ⌝ }
 {
-    let g = gather_all(t, a, m.classes);
-    let parents = count_parents(t, m);
-    let head = item_fields::head_field(catalogue::key_at(t, a), m.word, g.flag, parents);
-    let to = item_pen::add(buf, item_pen::counted(pen), head);
-    let then = add_parents(buf, to, t, m);
-    add_marks(buf, then, t, g.marks, m.classes)
+    if !pen.down {
+        if m.records == 0 {
+            return item_pen::pass_over(item_pen::counted(pen), width_of(t, a, m));
+        }
+    }
+    add_resource(buf, pen, t, a, m)
 }
 
 // The extension line of a type and a word (FORMAT 4.8, 6.3).

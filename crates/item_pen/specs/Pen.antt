@@ -78,6 +78,10 @@ pub record Adds (before after : List ℕ) (P Q : Pen) (k : ℕ) (bs : List Bool)
 pub record Counted (P Q : Pen) : Type 0 where
   pub adds : (buf : List ℕ) → Adds buf buf P Q 1 []
 
+-- So many bits are passed over, whichever they are and whatever the bytes are.
+pub record PassesOver (P : Pen) (n : ℕ) (Q : Pen) : Type 0 where
+  pub adds : (buf : List ℕ) (bs : List Bool) → length bs ≡ n → Adds buf buf P Q 0 bs
+
 -- Nothing is held back any more; q is the bit behind the last.
 pub record Finished (before after : List ℕ) (P : Pen) (q : ℕ) : Type 0 where
   pub next : q ≡ endOf P

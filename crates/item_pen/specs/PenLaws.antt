@@ -16,7 +16,7 @@ use Rattle.bits.specs.NumberLaws.{length-toBits, toBits-split, toBits-low}
 use Rattle.bits.specs.WriteLaws.{put-append, length-put, left-less, left-none}
 use Rattle.item_pen.specs.declared.Field.{Field}
 use Rattle.item_pen.specs.declared.Pen.{Pen}
-use Rattle.item_pen.specs.Pen.{fieldBits, Full, Holds, Room, Penned, endOf, shown, Steady, RoomFor, Adds, Counted, Finished, joined, RoomForAll, AddsAll}
+use Rattle.item_pen.specs.Pen.{fieldBits, Full, Holds, Room, Penned, endOf, shown, Steady, RoomFor, Adds, Counted, Finished, joined, RoomForAll, AddsAll, PassesOver}
 
 -- ---- fields
 
@@ -309,6 +309,18 @@ module _ (buf : List ℕ) (P : Pen) (f : Field) (full : Full f) (room : RoomFor 
   }
 
 -- one item more
+pub passed-over : (P : Pen) (n : ℕ) → P .down ≡ false → Steady P → PassesOver P n (record { down = false; items = P .items; at = P .at + n; width = P .width; value = P .value })
+passed-over P n d h =
+    let Q : Pen = record { down = false; items = P .items; at = P .at + n; width = P .width; value = P .value } in
+    record {
+      adds = λ buf bs e. record {
+        same = sym d;
+        items = omega arith;
+        steady = record { few = h .few; most = h .most };
+        penned = penned-as d (record { next = omega (arith, e); holds = shown-up buf Q refl ∙ sym (shown-up buf P d) });
+      };
+    }
+
 pub counted-is : (P : Pen) → Steady P → Counted P (record { down = P .down; items = P .items + 1; at = P .at; width = P .width; value = P .value })
 unfolding shown put
 counted-is P h =

@@ -1,12 +1,13 @@
 // A pen over lent bytes. Down, it writes bits; up, it only counts them: what counts a schedule's bits is what writes them.
 use bits::Cursor;
+ghost use mathlib.Core.Bool.{false};
 ghost use mathlib.Core.List.{[], _++_};
 ghost use mathlib.Core.Path.{_≡_};
 ghost use Prim.Native.Nat.{_+_, _*_, _/_, _^_, _≤_, _<_};
 ghost use lib.ListN.{length, drop};
 ghost use Rattle.definitions.specs.Bits.{toBits, bitsOf, num};
 ghost use Rattle.bits.specs.Writing.{put};
-ghost use Rattle.item_pen.specs.Pen.{Holds, fieldBits, Full, Merged, Room, Penned, Steady, RoomFor, Adds, Counted, Finished};
+ghost use Rattle.item_pen.specs.Pen.{Holds, fieldBits, Full, Merged, Room, Penned, endOf, Steady, RoomFor, Adds, Counted, PassesOver, Finished};
 
 // Bits that are made before they are written: the last `width` bits of a number that has no others.
 pub struct Field {
@@ -204,6 +205,20 @@ pub fn counted(pen: Pen) -> Pen
         down: pen.down,
         items: pen.items + 1,
         at: pen.at,
+        width: pen.width,
+        value: pen.value,
+    }
+}
+
+// With the pen up: n bits that are not even made.
+pub fn pass_over(pen: Pen, n: usize) -> Pen
+    requires { ⌜ (pen .down ≡ false) × Steady pen × (endOf pen + n < 2 ^ 64) ⌝ }
+    ensures { λ r. ⌜ PassesOver pen n r ⌝ }
+{
+    Pen {
+        down: false,
+        items: pen.items,
+        at: pen.at + n,
         width: pen.width,
         value: pen.value,
     }
