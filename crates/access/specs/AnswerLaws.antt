@@ -1,17 +1,16 @@
 -- Test by test, what the definitions answer to either call.
 use mathlib.Core.Bool.{Bool, true, false, not}
-use mathlib.Core.List.{List, [], _∷_, _++_}
-use mathlib.Core.Logic.{⊎-elim}
+use mathlib.Core.List.{List, [], _∷_}
 use mathlib.Core.Path.{_≡_, refl, sym, ap, _∙_}
 use Prim.Native.Nat.{ℕ, _≤_}
 use borrow.Author.Tests.{le-ltb}
 use lib.Dec.{ltb}
-use lib.ListN.{length, take, drop}
+use lib.ListN.{length}
 use Rattle.lists.specs.Lists.{null}
 use Rattle.lists.specs.Tests.{by}
 use Rattle.definitions.specs.Bits.{bitsOf, size, pack}
 use Rattle.definitions.specs.Records.{Sheet}
-use Rattle.definitions.specs.Parse.{done, refused}
+use Rattle.definitions.specs.Parse.{Fault, past, notAllowed, done, refused}
 use Rattle.definitions.specs.Reading.{sheet}
 use Rattle.definitions.specs.Checks.{badFill, badWords, somethingTwice}
 use Rattle.definitions.specs.Map.{TypeMap, typeMapOf}
@@ -19,11 +18,10 @@ use Rattle.definitions.specs.Order.{hasOrder}
 use Rattle.definitions.specs.OrderRows.{orderRows}
 use Rattle.definitions.specs.Relisted.{Holds}
 use Rattle.definitions.specs.Answer as rules
-use Rattle.definitions.specs.Answer.{Call, Input, Outcome, Refusal, refusedBy, restOf, sheetOf, bare, short, synthesisRows, overwrite, refusals, reject, accept, firstRefusal, typeMapIn, outcome}
+use Rattle.definitions.specs.Answer.{Call, Input, Outcome, sheetFault, refusedBy, restOf, sheetOf, Refusal, short, synthesisRows, overwrite, lateRefusals, typeMapIn, sheetRefusals, refusals, reject, accept, firstRefusal, outcome}
 use Rattle.bits.specs.NumberLaws.{length-packTo}
-use Rattle.reading_laws.specs.Statements.{NoneHolds}
-use Rattle.reading_laws.specs.Refusals.{all-pass}
-use Rattle.reading_laws.specs.RoundTrip.{refused-with-3-or-4}
+use Rattle.reading_laws.specs.Refusals.{rejected, all-pass}
+use Rattle.reading_laws.specs.Answers.{held-passes}
 use Rattle.decoding.specs.Decoding.{turnedBack, decoded}
 use Rattle.decoding.specs.Statements.{Why, unread, fill, words, twice}
 use Rattle.decoding.specs.DecodingLaws.{turned-back-why}
@@ -37,12 +35,6 @@ module _ (call : Call) (s l d : List ℕ) where
   abbrev i : Input
   i = inputOf call s l d
 
-  -- the first that holds is bare
-  bare-first : (n : ℕ) (test : Unit {0} → Bool) (before after : List Refusal) → NoneHolds before → test tt ≡ true →
-      untouched n l d ≡ firstRefusal i (before ++ (bare n test ∷ after))
-  unfolding reject
-  bare-first n test before after h e = sym (all-pass i before (bare n test ∷ after) h ∙ first-holds i (bare n test) after e)
-
   -- ---- 8, 9 and 10
 
   abbrev eight : TypeMap → Refusal
@@ -55,23 +47,23 @@ module _ (call : Call) (s l d : List ℕ) where
   ten m = short 10 (λ u. ltb (length l) (size (length (bitsFor call m)))) (λ u. size (length (bitsFor call m)))
 
   module _ (m : TypeMap) (e : typeMapIn i ≡ m) where
-    no-order : hasOrder m ≡ false → firstRefusal i (eight m ∷ nine m ∷ ten m ∷ []) ≡ ended call m l d
+    no-order : hasOrder m ≡ false → firstRefusal i (lateRefusals i m) ≡ ended call m l d
     unfolding ended reject
     no-order h = first-holds i (eight m) (nine m ∷ ten m ∷ []) (ap not h) ∙ sym (rw h)
 
     -- an order is no refusal
-    up-to-nine : hasOrder m ≡ true → firstRefusal i (eight m ∷ nine m ∷ ten m ∷ []) ≡ firstRefusal i (nine m ∷ ten m ∷ [])
+    up-to-nine : hasOrder m ≡ true → firstRefusal i (lateRefusals i m) ≡ firstRefusal i (nine m ∷ ten m ∷ [])
     up-to-nine h = first-passed i (eight m) (nine m ∷ ten m ∷ []) (ap not h)
 
-    with-rows : hasOrder m ≡ true → null (synthesisRows call m) ≡ false → firstRefusal i (eight m ∷ nine m ∷ ten m ∷ []) ≡ ended call m l d
+    with-rows : hasOrder m ≡ true → null (synthesisRows call m) ≡ false → firstRefusal i (lateRefusals i m) ≡ ended call m l d
     unfolding ended reject
     with-rows h k = up-to-nine h ∙ first-holds i (nine m) (ten m ∷ []) (ap not k) ∙ sym (rw (h, k))
 
-    up-to-ten : hasOrder m ≡ true → null (synthesisRows call m) ≡ true → firstRefusal i (eight m ∷ nine m ∷ ten m ∷ []) ≡ firstRefusal i (ten m ∷ [])
+    up-to-ten : hasOrder m ≡ true → null (synthesisRows call m) ≡ true → firstRefusal i (lateRefusals i m) ≡ firstRefusal i (ten m ∷ [])
     up-to-ten h k = up-to-nine h ∙ first-passed i (nine m) (ten m ∷ []) (ap not k)
 
     too-short : hasOrder m ≡ true → null (synthesisRows call m) ≡ true → ltb (length l) (size (length (bitsFor call m))) ≡ true →
-        firstRefusal i (eight m ∷ nine m ∷ ten m ∷ []) ≡ ended call m l d
+        firstRefusal i (lateRefusals i m) ≡ ended call m l d
     unfolding ended reject
     too-short h k q = up-to-ten h k ∙ first-holds i (ten m) [] q ∙ sym (rw (h, k, q))
 
@@ -79,7 +71,7 @@ module _ (call : Call) (s l d : List ℕ) where
     acceptance bits = outcomeOf (Answer.Accepted (length (pack bits))) (overwrite (pack bits) l) d
 
     accepted : hasOrder m ≡ true → null (synthesisRows call m) ≡ true → ltb (length l) (size (length (bitsFor call m))) ≡ false →
-        firstRefusal i (eight m ∷ nine m ∷ ten m ∷ []) ≡ ended call m l d
+        firstRefusal i (lateRefusals i m) ≡ ended call m l d
     unfolding ended firstRefusal accept acceptance pack
     accepted h k q =
         up-to-ten h k
@@ -88,7 +80,7 @@ module _ (call : Call) (s l d : List ℕ) where
         ∙ ap (λ (x : ℕ). outcomeOf (Answer.Accepted x) (overwrite (pack (bitsFor call m)) l) d) (length-packTo (size (length (bitsFor call m))) (bitsFor call m))
         ∙ sym (rw (h, k, q))
 
-    last-three : firstRefusal i (eight m ∷ nine m ∷ ten m ∷ []) ≡ ended call m l d
+    last-three : firstRefusal i (lateRefusals i m) ≡ ended call m l d
     last-three =
         by (hasOrder m)
         (λ h.
@@ -106,23 +98,18 @@ module _ (call : Call) (s l d : List ℕ) where
     p2 : ltb (length d) 1536 ≡ false
     p2 = le-ltb (length d) 1536 k
 
-    three : sheet (bitsOf s) ≡ refused 3 → untouched 3 l d ≡ outcome i
-    unfolding outcome refusals
-    three e = bare-first 3 _ (take 2 (refusals i)) (drop 3 (refusals i)) (p1, (p2, tt)) (ap (refusedBy 3) e)
-
-    four : sheet (bitsOf s) ≡ refused 4 → untouched 4 l d ≡ outcome i
-    unfolding outcome refusals
-    four e = bare-first 4 _ (take 3 (refusals i)) (drop 4 (refusals i)) (p1, (p2, (ap (refusedBy 3) e, tt))) (ap (refusedBy 4) e)
-
-    three-or-four : (n : ℕ) → sheet (bitsOf s) ≡ refused n → untouched n l d ≡ outcome i
-    three-or-four n e = ⊎-elim (λ (t : n ≡ 3). rw t (three (e ∙ ap refused t))) (λ (t : n ≡ 4). rw t (four (e ∙ ap refused t))) (refused-with-3-or-4 (bitsOf s) n e)
+    -- a fault has its number
+    faulty : (f : Fault) → sheet (bitsOf s) ≡ refused f → untouched (sheetFault f) l d ≡ outcome i
+    unfolding outcome refusals reject
+    faulty past e = sym (rejected i 3 (refusals i) (p1, (p2, tt)) (ap (refusedBy past) e))
+    faulty notAllowed e = sym (rejected i 4 (refusals i) (p1, (p2, (ap (refusedBy past) e, tt))) (ap (refusedBy notAllowed) e))
 
     module _ (t : Sheet) (rest : List Bool) (e : sheet (bitsOf s) ≡ done t rest) where
-      p3 : refusedBy 3 (sheet (bitsOf s)) ≡ false
-      p3 = ap (refusedBy 3) e
+      p3 : refusedBy past (sheet (bitsOf s)) ≡ false
+      p3 = ap (refusedBy past) e
 
-      p4 : refusedBy 4 (sheet (bitsOf s)) ≡ false
-      p4 = ap (refusedBy 4) e
+      p4 : refusedBy notAllowed (sheet (bitsOf s)) ≡ false
+      p4 = ap (refusedBy notAllowed) e
 
       f : badFill (restOf (sheet (bitsOf s))) ≡ badFill rest
       f = ap (λ p. badFill (restOf p)) e
@@ -134,44 +121,45 @@ module _ (call : Call) (s l d : List ℕ) where
       o = ap (λ p. somethingTwice (sheetOf p)) e
 
       seven : badFill rest ≡ true → untouched 7 l d ≡ outcome i
-      unfolding outcome refusals
-      seven a = bare-first 7 _ (take 4 (refusals i)) (drop 5 (refusals i)) (p1, (p2, (p3, (p4, tt)))) (f ∙ a)
+      unfolding outcome refusals reject
+      seven a = sym (rejected i 7 (refusals i) (p1, (p2, (p3, (p4, tt)))) (f ∙ a))
 
       five : badFill rest ≡ false → badWords (t .words) ≡ true → untouched 5 l d ≡ outcome i
-      unfolding outcome refusals
-      five a b = bare-first 5 _ (take 5 (refusals i)) (drop 6 (refusals i)) (p1, (p2, (p3, (p4, (f ∙ a, tt))))) (w ∙ b)
+      unfolding outcome refusals reject
+      five a b = sym (rejected i 5 (refusals i) (p1, (p2, (p3, (p4, (f ∙ a, tt))))) (w ∙ b))
 
       six : badFill rest ≡ false → badWords (t .words) ≡ false → somethingTwice t ≡ true → untouched 6 l d ≡ outcome i
-      unfolding outcome refusals
-      six a b c = bare-first 6 _ (take 6 (refusals i)) (drop 7 (refusals i)) (p1, (p2, (p3, (p4, (f ∙ a, (w ∙ b, tt)))))) (o ∙ c)
-
-      left-over : badFill rest ≡ false → badWords (t .words) ≡ false → somethingTwice t ≡ false → outcome i ≡ ended call (typeMapOf t) l d
-      unfolding outcome refusals typeMapIn
-      left-over a b c =
-          all-pass i (take 7 (refusals i)) (drop 7 (refusals i)) (p1, (p2, (p3, (p4, (f ∙ a, (w ∙ b, (o ∙ c, tt)))))))
-          ∙ last-three (typeMapOf (sheetOf (sheet (bitsOf s)))) refl
-          ∙ ap (λ p. ended call (typeMapOf (sheetOf p)) l d) e
+      unfolding outcome refusals reject
+      six a b c = sym (rejected i 6 (refusals i) (p1, (p2, (p3, (p4, (f ∙ a, (w ∙ b, tt)))))) (o ∙ c))
 
     -- what the decoder turns back is refused so
     pub turned : (n : ℕ) → decoded s ≡ turnedBack n → untouched n l d ≡ outcome i
     turned n e = go (turned-back-why s n e)
       where
         go : Why s n → untouched n l d ≡ outcome i
-        go (unread q) = three-or-four n q
+        go (unread f q g) = rw g (faulty f q)
         go (fill t rest q a g) = rw g (seven t rest q a)
         go (words t rest q a b g) = rw g (five t rest q a b)
         go (twice t rest q a b c g) = rw g (six t rest q a b c)
 
     -- what remains of a sheet: 8, 9, 10 and acceptance
     pub remains : (t : Sheet) → Holds s t → outcome i ≡ ended call (typeMapOf t) l d
-    remains t q = left-over t (q .rest) (q .read) (q .fill) (q .words) (q .once)
+    unfolding outcome refusals typeMapIn
+    remains t q =
+        all-pass i (sheetRefusals i) (lateRefusals i (typeMapIn i)) (held-passes i t (record { held = q; lent = k }))
+        ∙ last-three (typeMapIn i) refl
+        ∙ ap (λ p. ended call (typeMapOf (sheetOf p)) l d) (q .read)
 
 -- and its number stands alone
 pub turned-alone : (s : List ℕ) (n : ℕ) → decoded s ≡ turnedBack n → hasParts n ≡ false
 turned-alone s n e = go (turned-back-why s n e)
   where
+    alone : (f : Fault) → hasParts (sheetFault f) ≡ false
+    alone past = refl
+    alone notAllowed = refl
+
     go : Why s n → hasParts n ≡ false
-    go (unread q) = ⊎-elim (λ (t : n ≡ 3). ap hasParts t) (λ (t : n ≡ 4). ap hasParts t) (refused-with-3-or-4 (bitsOf s) n q)
+    go (unread f q g) = ap hasParts g ∙ alone f
     go (fill t rest q a g) = ap hasParts g
     go (words t rest q a b g) = ap hasParts g
     go (twice t rest q a b c g) = ap hasParts g

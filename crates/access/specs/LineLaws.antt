@@ -1,32 +1,24 @@
 -- Where the schedule call accepts, the items are the lines of the map.
-use mathlib.Core.Bool.{Bool, true, false, not}
+use mathlib.Core.Bool.{true}
 use mathlib.Core.List.{List, []}
-use mathlib.Core.Logic.{⊎-elim}
-use mathlib.Core.Path.{_≡_, refl, sym, ap, _∙_}
-use Prim.Native.Nat.{ℕ, _≤_}
-use borrow.Author.Tests.{ltb-false, not-false}
-use lib.ListN.{length}
+use mathlib.Core.Path.{_≡_, sym, ap, _∙_}
+use Prim.Native.Nat.{ℕ}
+use borrow.Author.Tests.{not-false}
 use Rattle.lists.specs.Lists.{null}
-use Rattle.lists.specs.Tests.{never, null-nil}
-use Rattle.definitions.specs.Bits.{bitsOf, pack}
+use Rattle.lists.specs.Tests.{null-nil}
 use Rattle.definitions.specs.Records.{Sheet}
-use Rattle.definitions.specs.Parse.{Parsed, done, refused}
-use Rattle.definitions.specs.Reading.{sheet}
-use Rattle.definitions.specs.Checks.{badFill, badWords, somethingTwice}
 use Rattle.definitions.specs.Map.{typeMapOf}
 use Rattle.definitions.specs.Order.{hasOrder}
-use Rattle.definitions.specs.Packing.{scheduleBits}
 use Rattle.definitions.specs.Relisted.{Holds}
-use Rattle.definitions.specs.Answer.{schedule, Input, Outcome, refusedBy, restOf, sheetOf, scheduleOf, synthesisRows, overwrite, refusals, accept, firstRefusal, typeMapIn, outcome}
+use Rattle.definitions.specs.Answer.{schedule, Input, Outcome, sheetOf, scheduleOf, synthesisRows, lateRefusals, readIn, typeMapIn, sheetRefusals, refusals, accept, firstRefusal, outcome}
 use Rattle.line_laws.specs.Refused.{accepted-is-tested}
 use Rattle.line_laws.specs.Lines.{items-are-lines}
 use Rattle.line_laws.specs.Once.{items-once}
 use Rattle.synthesis_laws.specs.Statements.{Ordered, MakesLines}
 use Rattle.synthesis_laws.specs.Rows.{rows-are-tested}
 use Rattle.reading_laws.specs.Statements.{NoneHolds}
-use Rattle.reading_laws.specs.Refusals.{all-pass}
-use Rattle.reading_laws.specs.Answers.{accepted-exactly}
-use Rattle.reading_laws.specs.RoundTrip.{refused-with-3-or-4}
+use Rattle.reading_laws.specs.Refusals.{passed, none-front, all-pass}
+use Rattle.reading_laws.specs.Answers.{accepted-exactly, passed-is-held}
 use Rattle.answers.specs.declared.Answer.{Answer}
 use Rattle.answers.specs.Answers.{answerOf, Answered, scheduleInput}
 use Rattle.access.specs.Lines.{Lists, LinesListed}
@@ -38,23 +30,6 @@ items-listed s o e =
     let a = accepted-is-tested s (o .readable) .0 (rows-are-tested s o .0 (null-nil (synthesisRows schedule (typeMapOf s)) e)) in
     record { lines = items-are-lines s (o .readable) a; once = items-once s (o .readable) a }
 
--- what was not refused by 3 or 4 was read
-record WasRead (bits : List Bool) : Type 0 where
-  s : Sheet
-  rest : List Bool
-  read : sheet bits ≡ done s rest
-
-was-read : (bits : List Bool) → refusedBy 3 (sheet bits) ≡ false → refusedBy 4 (sheet bits) ≡ false → WasRead bits
-was-read bits a b = go (sheet bits) refl
-  where
-    go : (p : Parsed Sheet) → sheet bits ≡ p → WasRead bits
-    go (done s rest) e = record { s = s; rest = rest; read = e }
-    go (refused n) e =
-        ⊎-elim
-        (λ (t : n ≡ 3). never (ap (refusedBy 3) (e ∙ ap refused t)) a)
-        (λ (t : n ≡ 4). never (ap (refusedBy 4) (e ∙ ap refused t)) b)
-        (refused-with-3-or-4 bits n e)
-
 module _ (s l d : List ℕ) (e : outcome (scheduleInput s l d) .answer .number ≡ 0) where
   abbrev i : Input
   i = scheduleInput s l d
@@ -62,38 +37,20 @@ module _ (s l d : List ℕ) (e : outcome (scheduleInput s l d) .answer .number �
   none : NoneHolds (refusals i)
   none = accepted-exactly i .0 e
 
-  -- the tests
-  short : length s ≤ 40960
-  unfolding refusals
-  short = ltb-false 40960 (length s) (none .0)
-
-  read : WasRead (bitsOf s)
-  unfolding refusals
-  read = was-read (bitsOf s) (none .1 .1 .0) (none .1 .1 .1 .0)
-
   abbrev t : Sheet
-  t = read .s
+  t = sheetOf (readIn i)
 
   holds : Holds s t
   unfolding refusals
-  holds = record {
-    rest = read .rest;
-    short = short;
-    read = read .read;
-    fill = sym (ap (λ p. badFill (restOf p)) (read .read)) ∙ none .1 .1 .1 .1 .0;
-    words = sym (ap (λ p. badWords (sheetOf p .words)) (read .read)) ∙ none .1 .1 .1 .1 .1 .0;
-    once = sym (ap (λ p. somethingTwice (sheetOf p)) (read .read)) ∙ none .1 .1 .1 .1 .1 .1 .0;
-  }
+  holds = passed-is-held i (none-front (sheetRefusals i) (lateRefusals i (typeMapIn i)) none) .held
 
   has-order : hasOrder (typeMapOf t) ≡ true
-  unfolding refusals
-  has-order = sym (ap (λ p. hasOrder (typeMapOf (sheetOf p))) (read .read)) ∙ not-false (hasOrder _) (none .1 .1 .1 .1 .1 .1 .1 .0)
+  unfolding refusals typeMapIn
+  has-order = not-false (hasOrder (typeMapOf t)) (passed 8 (refusals i) none)
 
   no-rows : null (synthesisRows schedule (typeMapOf t)) ≡ true
-  unfolding refusals
-  no-rows =
-      sym (ap (λ p. null (synthesisRows schedule (typeMapOf (sheetOf p)))) (read .read))
-      ∙ not-false (null (synthesisRows schedule (typeMapOf (sheetOf (sheet (bitsOf s)))))) (none .1 .1 .1 .1 .1 .1 .1 .1 .0)
+  unfolding refusals typeMapIn
+  no-rows = not-false (null (synthesisRows schedule (typeMapOf t))) (passed 9 (refusals i) none)
 
   accepts : outcome i ≡ accept i
   unfolding outcome refusals firstRefusal
@@ -104,9 +61,7 @@ module _ (s l d : List ℕ) (e : outcome (scheduleInput s l d) .answer .number �
   accepted-lists = record {
     s = t;
     holds = holds;
-    written =
-        ap (λ (o : Outcome). o .listing) accepts
-        ∙ ap (λ p. overwrite (pack (scheduleBits (scheduleOf schedule (typeMapOf (sheetOf p))))) l) (read .read);
+    written = ap (λ (o : Outcome). o .listing) accepts;
     lines = items-listed t (record { readable = record { words = holds .words; once = holds .once }; order = has-order }) no-rows;
   }
 

@@ -1,30 +1,24 @@
 -- Every part of an answer fits 32 bits, whatever the input: so a caller in C or Rust can be given three numbers of 32 bits.
-use mathlib.Core.Bool.{Bool}
 use mathlib.Core.List.{List, [], _∷_, _++_}
-use mathlib.Core.Logic.{⊎-elim}
-use mathlib.Core.Path.{_≡_, refl, sym, ap, _∙_, subst}
+use mathlib.Core.Path.{_≡_, refl}
 use Prim.Native.Nat.{ℕ, _+_, _*_, _≤_}
 use native.Mathlib.Omega.{arith}
-use lib.Dec.{ltb}
-use lib.ListN.{length, take, drop, length-append}
-use Rattle.lists.specs.Tests.{by, never}
+use lib.ListN.{length, length-append}
+use Rattle.lists.specs.Tests.{by}
 use Rattle.definitions.specs.Bits.{bitsOf, size, pack}
-use Rattle.definitions.specs.Parse.{Parsed, done, refused}
 use Rattle.definitions.specs.Records.{Sheet}
-use Rattle.definitions.specs.Reading.{sheet}
-use Rattle.definitions.specs.Checks.{badWords, somethingTwice}
 use Rattle.definitions.specs.Map.{TypeMap, typeMapOf}
 use Rattle.definitions.specs.Order.{organizeTypeMap}
 use Rattle.definitions.specs.Legal.{Every}
 use Rattle.definitions.specs.Packing.{orderBits, scheduleBits, countedBits, itemBits}
-use Rattle.definitions.specs.Answer.{Call, schedule, order, Input, Refusal, refusedBy, sheetOf, itemsWritten, scheduleOf, bitsWritten, refusals, reject, accept, firstRefusal, typeMapIn, outcome}
+use Rattle.definitions.specs.Answer.{Call, schedule, order, Input, sheetOf, itemsWritten, scheduleOf, bitsWritten, Refusal, lateRefusals, readIn, typeMapIn, sheetRefusals, refusals, reject, accept, firstRefusal, outcome}
 use Rattle.bits.specs.NumberLaws.{length-packTo}
 use Rattle.line_laws.specs.Statements.{Readable}
 use Rattle.line_laws.specs.Within.{Within}
 use Rattle.line_laws.specs.Reading.{read-is-within}
 use Rattle.line_laws.specs.Size.{schedule-at-most}
 use Rattle.reading_laws.specs.Statements.{NoneHolds}
-use Rattle.reading_laws.specs.RoundTrip.{refused-with-3-or-4}
+use Rattle.reading_laws.specs.Answers.{passed-is-held}
 
 -- the largest size that is proved: 7 + 64 × 17 + 16 bits and 37,120 items of 4,515 bits
 abbrev pub most : ℕ
@@ -58,44 +52,31 @@ front i (r ∷ before) after z h =
 
 -- ---- 10 and acceptance
 
--- the bits that an input calls for
-abbrev bitsFor : Input → Parsed Sheet → List Bool
-bitsFor i r = bitsWritten (i .call) (scheduleOf (i .call) (typeMapOf (sheetOf r)))
+-- what a call writes, where the tests before the order are passed
+small : (i : Input) → NoneHolds (sheetRefusals i) → size (length (bitsWritten (i .call) (scheduleOf (i .call) (typeMapIn i)))) ≤ most
+unfolding typeMapIn
+small i n =
+    let t = passed-is-held i n .held in
+    few-bits (i .call) (sheetOf (readIn i)) (record { words = t .words; once = t .once }) (read-is-within (bitsOf (i .sheet)) (t .rest) (sheetOf (readIn i)) (t .read))
 
-small : (i : Input) → NoneHolds (take 7 (refusals i)) → size (length (bitsFor i (sheet (bitsOf (i .sheet))))) ≤ most
-unfolding refusals
-small i n = go (sheet (bitsOf (i .sheet))) refl
-  where
-    go : (r : Parsed Sheet) → sheet (bitsOf (i .sheet)) ≡ r → size (length (bitsFor i (sheet (bitsOf (i .sheet))))) ≤ most
-    go (done s rest) e =
-        subst (λ (r : Parsed Sheet). size (length (bitsFor i r)) ≤ most) (sym e)
-        (few-bits (i .call) s
-        (record {
-          words = sym (ap (λ (r : Parsed Sheet). badWords (sheetOf r .words)) e) ∙ n .1 .1 .1 .1 .1 .0;
-          once = sym (ap (λ (r : Parsed Sheet). somethingTwice (sheetOf r)) e) ∙ n .1 .1 .1 .1 .1 .1 .0;
-        })
-        (read-is-within (bitsOf (i .sheet)) rest s e))
-    go (refused k) e =
-        ⊎-elim
-        (λ (q : k ≡ 3). never (ap (refusedBy 3) (e ∙ ap refused q)) (n .1 .1 .0))
-        (λ (q : k ≡ 4). never (ap (refusedBy 4) (e ∙ ap refused q)) (n .1 .1 .1 .0))
-        (refused-with-3-or-4 (bitsOf (i .sheet)) k e)
+-- each names at most this size, and so does acceptance
+each-small : (i : Input) (l : List Refusal) → Every (λ (r : Refusal). r .size tt ≤ most) l → accept i .answer .size ≤ most → firstRefusal i l .answer .size ≤ most
+unfolding firstRefusal reject
+each-small i [] h a = a
+each-small i (r ∷ l) h a = by (r .holds tt) (λ e. rw (e, firstRefusal) (h .0)) (λ e. rw (e, firstRefusal) (each-small i l (h .1) a))
 
--- 10 and acceptance name the size of what the call writes (FORMAT 7.4)
-last : (i : Input) → NoneHolds (take 7 (refusals i)) → firstRefusal i (drop 9 (refusals i)) .answer .size ≤ most
-unfolding refusals firstRefusal reject accept typeMapIn pack
-last i n =
-    let b = small i n in
-    let bits = bitsFor i (sheet (bitsOf (i .sheet))) in
-    by (ltb (length (i .listing)) (size (length bits)))
-    (λ e. rw (e, firstRefusal) b)
-    (λ e. rw (e, firstRefusal, length-packTo (size (length bits)) bits) b)
+-- acceptance names the size of what the call writes (FORMAT 7.4)
+accept-small : (i : Input) → NoneHolds (sheetRefusals i) → accept i .answer .size ≤ most
+unfolding accept pack
+accept-small i n =
+    let bits = bitsWritten (i .call) (scheduleOf (i .call) (typeMapIn i)) in
+    rw (length-packTo (size (length bits)) bits) (small i n)
 
 pub sizes : (i : Input) → outcome i .answer .size ≤ most
 unfolding outcome refusals
 sizes i =
-    front i (take 7 (refusals i)) (drop 7 (refusals i)) (refl, (refl, (refl, (refl, (refl, (refl, (refl, tt)))))))
-    (λ n. front i (take 2 (drop 7 (refusals i))) (drop 9 (refusals i)) (refl, (refl, tt)) (λ k. last i n))
+    front i (sheetRefusals i) (lateRefusals i (typeMapIn i)) (refl, (refl, (refl, (refl, (refl, (refl, (refl, tt)))))))
+    (λ n. each-small i (lateRefusals i (typeMapIn i)) (omega arith, (omega arith, (small i n, tt))) (accept-small i n))
 
 -- ---- rows
 

@@ -11,7 +11,7 @@ use lib.Dec.{leb}
 use lib.ListN.{length, drop, length-append, length-drop}
 use lib.Seq
 use Rattle.definitions.specs.Bits.{bit, toBits, bitsOf, num}
-use Rattle.definitions.specs.Parse.{Parsed, done, refused, fieldOnto, field}
+use Rattle.definitions.specs.Parse.{past, Parsed, done, refused, fieldOnto, field}
 use Rattle.bits.specs.declared.Cursor.{Cursor}
 use Rattle.bits.specs.declared.Read.the-variants.{Value, Past}
 use Rattle.bits.specs.Reading.{readAt, pickRead, ofRead}
@@ -20,7 +20,7 @@ use Rattle.bits.specs.NumberLaws.{length-toBits, length-bitsOf, num-lt, 
 -- whether a value was read
 abbrev pub isDone : {A : Type 0} → Parsed A → Bool
 isDone (done a rest) = true
-isDone (refused r) = false
+isDone (refused f) = false
 
 -- ---- reading at a position
 pub read-in : (s : List ℕ) (p n : ℕ) → p + n ≤ 8 * length s →
@@ -62,7 +62,7 @@ fieldOnto-in v (suc n) [] h = absurd (omega arith)
 fieldOnto-in v (suc n) (b ∷ bs) h =
     rw (fieldOnto-in (2 * v + bit b) n bs (omega arith), add-mul, mul-comm 2 v, mul-assoc v 2 (2 ^ n), ← pow-succ' 2 n, add-assoc)
 
-fieldOnto-past : (v n : ℕ) (bs : List Bool) → length bs < n → fieldOnto v n bs ≡ refused 3
+fieldOnto-past : (v n : ℕ) (bs : List Bool) → length bs < n → fieldOnto v n bs ≡ refused past
 unfolding fieldOnto
 fieldOnto-past v zero bs h = absurd (omega arith)
 fieldOnto-past v (suc n) [] h = refl

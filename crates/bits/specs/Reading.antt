@@ -5,7 +5,7 @@ use Prim.Native.Nat.{ℕ, _+_}
 use lib.Dec.{leb}
 use lib.ListN.{length, drop}
 use Rattle.definitions.specs.Bits.{num}
-use Rattle.definitions.specs.Parse.{Parsed, done, refused}
+use Rattle.definitions.specs.Parse.{past, Parsed, done, refused}
 use Rattle.bits.specs.declared.Read.{Read}
 use Rattle.bits.specs.declared.Read.the-variants.{Value, Past}
 
@@ -17,7 +17,7 @@ pickRead false a b = b
 unfoldable pub readAt : List Bool → ℕ → ℕ → Read
 readAt bs p n = pickRead (leb (p + n) (length bs)) (Value (num n (drop p bs)) (record { at = p + n })) Past
 
--- what was read of bs, as the definitions' parsers give it: the value and the bits left, or refusal 3
+-- what was read of bs, as the definitions' parsers give it: the value and the bits left, or that the field passes the end
 abbrev pub ofRead : List Bool → Read → Parsed ℕ
 ofRead bs (Value v c) = done v (drop (c .at) bs)
-ofRead bs Past = refused 3
+ofRead bs Past = refused past

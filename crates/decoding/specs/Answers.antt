@@ -3,6 +3,9 @@ use mathlib.Core.Bool.{Bool, cond}
 use Prim.Native.Nat.{ℕ}
 use lib.Dec.{eqb}
 use Rattle.definitions.specs.Map.{TypeMap}
+use Rattle.definitions.specs.Answer.{sheetFault}
+use Rattle.fields.specs.Fields.{faultOf}
+use Rattle.fields.specs.declared.Fault.{Fault}
 use Rattle.words.specs.Words.{ofWords}
 use Rattle.types.specs.Types.{ofTypes}
 use Rattle.types.specs.Extensions.{ofExtensions}
@@ -15,6 +18,10 @@ mapIn r = record { resource = r .resource; self = r .«self_word»; types = ofTy
 
 abbrev pub decodedOf : Decoded → Decoding
 decodedOf r = cond (r .ok) (whole (ofWords (r .words)) (mapIn r)) (turnedBack (r .refusal))
+
+-- 0, or the number of the fault (FORMAT 7.2)
+abbrev pub numberIf : Bool → Fault → ℕ
+numberIf ok f = cond ok 0 (sheetFault (faultOf f))
 
 -- the first of two numbers that is not 0
 abbrev pub firstOf : ℕ → ℕ → ℕ

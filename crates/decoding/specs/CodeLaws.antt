@@ -2,7 +2,7 @@
 use mathlib.Core.Bool.{Bool, true, false, cond, _||_}
 use mathlib.Core.List.{List}
 use mathlib.Core.Logic.{_⊎_, inl, inr, ⊎-elim}
-use mathlib.Core.Path.{_≡_, sym, ap, _∙_}
+use mathlib.Core.Path.{_≡_, refl, sym, ap, _∙_}
 use Prim.Native.Nat.{ℕ}
 use lib.Dec.{eqb}
 use lib.ListN.{drop}
@@ -10,11 +10,12 @@ use Rattle.lists.specs.Lists.{repeats, sort}
 use Rattle.lists.specs.Tests.{by}
 use Rattle.definitions.specs.Records as records
 use Rattle.definitions.specs.Bits.{bitsOf}
-use Rattle.definitions.specs.Parse.{done, refused, counted}
+use Rattle.definitions.specs.Parse.{Fault, past, notAllowed, done, refused, counted}
 use Rattle.definitions.specs.Reading.{word, typeInfo, extension, sheet}
 use Rattle.definitions.specs.Checks.{resourceBytes, selfBytes, badFill, badWords, somethingTwice}
 use Rattle.definitions.specs.Map.{numberOf, typeMapOf}
-use Rattle.reading_laws.specs.RoundTrip.{refused-with-3-or-4}
+use Rattle.definitions.specs.Answer.{sheetFault}
+use Rattle.fields.specs.Fields.{faultOf}
 use Rattle.words.specs.declared.WordsRead.{WordsRead}
 use Rattle.words.specs.Words.{ofWords, ofWordsRead}
 use Rattle.words.specs.WordLaws.{length-ofWords}
@@ -30,8 +31,13 @@ use Rattle.sheet.specs.Sheets.{version, lists, ofOpening, typesIn, namesIn, ofT
 use Rattle.sheet.specs.SheetLaws.{sheet-parts}
 use Rattle.sorting.specs.Sorting.{byName}
 use Rattle.decoding.specs.Decoding.{Decoding, turnedBack, whole, tested, decoded}
-use Rattle.decoding.specs.Answers.{firstOf, behind}
+use Rattle.decoding.specs.Answers.{numberIf, firstOf, behind}
 use Rattle.decoding.specs.DecodingLaws.{was-read, not-read, seven, five, six, passed}
+
+-- no fault has the number 0
+not-zero : (f : Fault) → eqb (sheetFault f) 0 ≡ false
+not-zero past = refl
+not-zero notAllowed = refl
 
 -- ---- the lists of a sheet, each read behind the one before
 
@@ -46,24 +52,17 @@ module _ (s : List ℕ) (o : Opening) (ws : WordsRead) (ts : TypesRead) (es : Ex
   abbrev rest : List Bool
   rest = drop (es .next .at) (bitsOf s)
 
-  -- the refusal by the first field that deserves one; 0 for none
+  -- the number of the first fault; 0 for none
   abbrev unread : ℕ
-  unread = firstOf (o .refusal) (firstOf (cond (ws .ok) 0 (ws .refusal)) (firstOf (cond (ts .ok) 0 (ts .refusal)) (cond (es .ok) 0 (es .refusal))))
-
-  not-zero : (r : ℕ) → sheet (bitsOf s) ≡ refused r → eqb r 0 ≡ false
-  not-zero r q = ⊎-elim (λ (t : r ≡ 3). ap (λ (n : ℕ). eqb n 0) t) (λ (t : r ≡ 4). ap (λ (n : ℕ). eqb n 0) t) (refused-with-3-or-4 (bitsOf s) r q)
+  unread = firstOf (numberIf (o .ok) (o .fault)) (firstOf (numberIf (ws .ok) (ws .fault)) (firstOf (numberIf (ts .ok) (ts .fault)) (numberIf (es .ok) (es .fault))))
 
   abbrev Was : Type 0
-  Was = ((eqb unread 0 ≡ true) × (sheet (bitsOf s) ≡ done read rest)) ⊎ ((eqb unread 0 ≡ false) × (sheet (bitsOf s) ≡ refused unread))
-
-  -- refused with r, which the code finds first
-  was-refused : (r : ℕ) → sheet (bitsOf s) ≡ refused r → unread ≡ r → Was
-  was-refused r q e = inr (ap (λ (n : ℕ). eqb n 0) e ∙ not-zero r q, q ∙ ap refused (sym e))
+  Was = ((eqb unread 0 ≡ true) × (sheet (bitsOf s) ≡ done read rest)) ⊎ ((f : Fault) × (unread ≡ sheetFault f) × (sheet (bitsOf s) ≡ refused f))
 
   was : Was
   unfolding lists
   was =
-      by (eqb (o .refusal) 0)
+      by (o .ok)
       (λ a.
       by (ws .ok)
       (λ b.
@@ -72,17 +71,11 @@ module _ (s : List ℕ) (o : Opening) (ws : WordsRead) (ts : TypesRead) (es : Ex
       by (es .ok)
       (λ d. inl (rw (a, b, c, d), sheet-parts (bitsOf s) ∙ rw (← eo, a, ← ew, b, length-ofWords (ws .words), ← et, c, ← ee, d)))
       (λ d.
-      let q : sheet (bitsOf s) ≡ refused (es .refusal) = sheet-parts (bitsOf s) ∙ rw (← eo, a, ← ew, b, length-ofWords (ws .words), ← et, c, ← ee, d) in
-      was-refused (es .refusal) q (rw (a, b, c, d))))
+      inr (faultOf (es .fault), rw (a, b, c, d), sheet-parts (bitsOf s) ∙ rw (← eo, a, ← ew, b, length-ofWords (ws .words), ← et, c, ← ee, d))))
       (λ c.
-      let q : sheet (bitsOf s) ≡ refused (ts .refusal) = sheet-parts (bitsOf s) ∙ rw (← eo, a, ← ew, b, length-ofWords (ws .words), ← et, c) in
-      was-refused (ts .refusal) q (rw (a, b, c, not-zero (ts .refusal) q))))
-      (λ b.
-      let q : sheet (bitsOf s) ≡ refused (ws .refusal) = sheet-parts (bitsOf s) ∙ rw (← eo, a, ← ew, b) in
-      was-refused (ws .refusal) q (rw (a, b, not-zero (ws .refusal) q))))
-      (λ a.
-      let q : sheet (bitsOf s) ≡ refused (o .refusal) = sheet-parts (bitsOf s) ∙ rw (← eo, a) in
-      was-refused (o .refusal) q (rw a))
+      inr (faultOf (ts .fault), rw (a, b, c, not-zero (faultOf (ts .fault))), sheet-parts (bitsOf s) ∙ rw (← eo, a, ← ew, b, length-ofWords (ws .words), ← et, c))))
+      (λ b. inr (faultOf (ws .fault), rw (a, b, not-zero (faultOf (ws .fault))), sheet-parts (bitsOf s) ∙ rw (← eo, a, ← ew, b))))
+      (λ a. inr (faultOf (o .fault), rw (a, not-zero (faultOf (o .fault))), sheet-parts (bitsOf s) ∙ rw (← eo, a)))
 
   -- ---- test by test
 
@@ -116,7 +109,7 @@ module _ (s : List ℕ) (o : Opening) (ws : WordsRead) (ts : TypesRead) (es : Ex
     as-decoded =
         ⊎-elim
         (λ (p : (eqb unread 0 ≡ true) × (sheet (bitsOf s) ≡ done read rest)). sym (was-read s read rest (p .1) ∙ passes (sym (rw (p .0)))))
-        (λ (p : (eqb unread 0 ≡ false) × (sheet (bitsOf s) ≡ refused unread)). rw (p .0, p .0) (sym (not-read s unread (p .1))))
+        (λ (p : (f : Fault) × (unread ≡ sheetFault f) × (sheet (bitsOf s) ≡ refused f)). rw (p .1, not-zero (p .0), not-zero (p .0)) (sym (not-read s (p .0) (p .2))))
         was
 
     -- and so by the number that the code has

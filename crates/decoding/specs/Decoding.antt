@@ -8,6 +8,7 @@ use Rattle.definitions.specs.Records.{Sheet}
 use Rattle.definitions.specs.Reading.{sheet}
 use Rattle.definitions.specs.Checks.{badFill, badWords, somethingTwice}
 use Rattle.definitions.specs.Map.{TypeMap, typeMapOf}
+use Rattle.definitions.specs.Answer.{sheetFault}
 
 -- the number of a refusal, or the whole sheet: its words, and its map with the types in name order
 pub data Decoding : Type 0 where
@@ -21,10 +22,10 @@ wholeOf s = whole (s .words) (typeMapOf s)
 abbrev pub tested : Sheet → List Bool → Decoding
 tested s rest = cond (badFill rest) (turnedBack 7) (cond (badWords (s .words)) (turnedBack 5) (cond (somethingTwice s) (turnedBack 6) (wholeOf s)))
 
--- 3 or 4 where reading ended early (FORMAT 2.1), otherwise the later tests
+-- the number of the fault where reading ended early (FORMAT 2.1), otherwise the later tests
 abbrev pub ofParsed : Parsed Sheet → Decoding
 ofParsed (done s rest) = tested s rest
-ofParsed (refused n) = turnedBack n
+ofParsed (refused f) = turnedBack (sheetFault f)
 
 unfoldable pub decoded : List ℕ → Decoding
 decoded bytes = ofParsed (sheet (bitsOf bytes))

@@ -5,11 +5,12 @@ use mathlib.Core.Path.{_≡_, refl, sym, ap, _∙_}
 use Prim.Native.Nat.{ℕ}
 use Rattle.lists.specs.Tests.{by, never}
 use Rattle.definitions.specs.Bits.{bitsOf}
-use Rattle.definitions.specs.Parse.{Parsed, done, refused}
+use Rattle.definitions.specs.Parse.{Fault, Parsed, done, refused}
 use Rattle.definitions.specs.Records.{Sheet}
 use Rattle.definitions.specs.Reading.{sheet}
 use Rattle.definitions.specs.Checks.{badFill, badWords, somethingTwice}
 use Rattle.definitions.specs.Map.{TypeMap}
+use Rattle.definitions.specs.Answer.{sheetFault}
 use Rattle.decoding.specs.Decoding.{Decoding, turnedBack, whole, wholeOf, tested, ofParsed, decoded}
 use Rattle.decoding.specs.Statements.{HeldIsWhole, Held, WholeIsHeld, Why, unread, fill, words, twice, TurnedBackWhy}
 
@@ -41,9 +42,9 @@ pub was-read : (bytes : List ℕ) (s : Sheet) (rest : List Bool) → sheet (bits
 unfolding decoded
 was-read bytes s rest e = ap ofParsed e
 
-pub not-read : (bytes : List ℕ) (n : ℕ) → sheet (bitsOf bytes) ≡ refused n → decoded bytes ≡ turnedBack n
+pub not-read : (bytes : List ℕ) (f : Fault) → sheet (bitsOf bytes) ≡ refused f → decoded bytes ≡ turnedBack (sheetFault f)
 unfolding decoded
-not-read bytes n e = ap ofParsed e
+not-read bytes f e = ap ofParsed e
 
 module _ (s : Sheet) (rest : List Bool) where
   pub seven : badFill rest ≡ true → tested s rest ≡ turnedBack 7
@@ -66,7 +67,7 @@ unfolding decoded wordsIn mapIn
 whole-is-held bytes ws m short = go (sheet (bitsOf bytes)) refl
   where
     go : (p : Parsed Sheet) → sheet (bitsOf bytes) ≡ p → ofParsed p ≡ whole ws m → Held bytes ws m
-    go (refused n) q e = not-whole e
+    go (refused f) q e = not-whole e
     go (done s rest) q e =
         by (badFill rest) (λ a. not-whole (sym (seven s rest a) ∙ e)) (λ a.
         by (badWords (s .words)) (λ b. not-whole (sym (five s rest a b) ∙ e)) (λ b.
@@ -84,7 +85,7 @@ unfolding decoded numberIn
 turned-back-why bytes n = go (sheet (bitsOf bytes)) refl
   where
     go : (p : Parsed Sheet) → sheet (bitsOf bytes) ≡ p → ofParsed p ≡ turnedBack n → Why bytes n
-    go (refused k) q e = unread (q ∙ ap refused (ap numberIn e))
+    go (refused f) q e = unread f q (sym (ap numberIn e))
     go (done s rest) q e =
         by (badFill rest) (λ a. fill s rest q a (ap numberIn (sym e ∙ seven s rest a))) (λ a.
         by (badWords (s .words)) (λ b. words s rest q a b (ap numberIn (sym e ∙ five s rest a b))) (λ b.

@@ -5,11 +5,12 @@ use mathlib.Core.Path.{_≡_}
 use Prim.Native.Nat.{ℕ, _≤_}
 use lib.ListN.{length}
 use Rattle.definitions.specs.Bits.{bitsOf}
-use Rattle.definitions.specs.Parse.{done, refused}
+use Rattle.definitions.specs.Parse.{Fault, done, refused}
 use Rattle.definitions.specs.Records.{Sheet}
 use Rattle.definitions.specs.Reading.{sheet}
 use Rattle.definitions.specs.Checks.{badFill, badWords, somethingTwice}
 use Rattle.definitions.specs.Map.{TypeMap, typeMapOf}
+use Rattle.definitions.specs.Answer.{sheetFault}
 use Rattle.definitions.specs.Relisted.{Holds}
 use Rattle.decoding.specs.Decoding.{turnedBack, whole, wholeOf, decoded}
 
@@ -29,7 +30,7 @@ WholeIsHeld = (bytes : List ℕ) (ws : List (List ℕ)) (m : TypeMap) → length
 
 -- why bytes are turned back with n: 3 or 4, 7, 5 or 6, in this order
 pub data Why (bytes : List ℕ) (n : ℕ) : Type 0 where
-  unread : sheet (bitsOf bytes) ≡ refused n → Why bytes n
+  unread : (f : Fault) → sheet (bitsOf bytes) ≡ refused f → n ≡ sheetFault f → Why bytes n
   fill : (s : Sheet) (rest : List Bool) → sheet (bitsOf bytes) ≡ done s rest → badFill rest ≡ true → n ≡ 7 → Why bytes n
   words : (s : Sheet) (rest : List Bool) → sheet (bitsOf bytes) ≡ done s rest → badFill rest ≡ false → badWords (s .words) ≡ true → n ≡ 5 → Why bytes n
   twice : (s : Sheet) (rest : List Bool) → sheet (bitsOf bytes) ≡ done s rest → badFill rest ≡ false → badWords (s .words) ≡ false → somethingTwice s ≡ true → n ≡ 6

@@ -1,18 +1,21 @@
 // The decoder: tests 3 to 7 of a sheet, and the whole of one that passes them.
 use bits::Cursor;
+use fields::Fault;
 use keys::Keys;
 use types::Extensions;
 use types::Types;
 use words::Words;
-ghost use mathlib.Core.Bool.{false, cond, _||_};
+ghost use mathlib.Core.Bool.{false, _||_};
 ghost use mathlib.Core.Path.{_≡_};
 ghost use Prim.Native.Nat.{_≤_};
 ghost use lib.ListN.{length};
 ghost use Rattle.lists.specs.Lists.{repeats};
+ghost use Rattle.definitions.specs.Answer.{sheetFault};
+ghost use Rattle.fields.specs.Fields.{faultOf};
 ghost use Rattle.types.specs.Extensions.{ofExtensions};
 ghost use Rattle.keys.specs.Keys.{ofKeys, sameKey, sameExtensionKey};
 ghost use Rattle.decoding.specs.Decoding.{decoded};
-ghost use Rattle.decoding.specs.Answers.{decodedOf, firstOf, behind};
+ghost use Rattle.decoding.specs.Answers.{decodedOf, numberIf, firstOf, behind};
 
 // ok: every field of the sheet, its types in name order, and the numbers of the words `resource` and `self`. Else a refusal.
 pub struct Decoded {
@@ -42,11 +45,21 @@ pub fn turned_back(number: usize) -> Decoded
     }
 }
 
-// The refusal of a list; 0 where it was read.
-fn refusal_of(ok: bool, refusal: usize) -> usize
-    ensures { λ r. ⌜ r ≡ cond ok 0 refusal ⌝ }
+// The number of a fault in a sheet (FORMAT 7.2).
+fn number_of(fault: Fault) -> usize
+    ensures { λ r. ⌜ r ≡ sheetFault (faultOf fault) ⌝ }
 {
-    if ok { 0 } else { refusal }
+    match fault {
+        Fault::Past => 3,
+        Fault::NotAllowed => 4,
+    }
+}
+
+// The number that a part of the sheet is refused with; 0 where it was read.
+fn refusal_of(ok: bool, fault: Fault) -> usize
+    ensures { λ r. ⌜ r ≡ numberIf ok fault ⌝ }
+{
+    if ok { 0 } else { number_of(fault) }
 }
 
 // The first of two numbers that is not 0.
@@ -54,6 +67,13 @@ fn first_of(a: usize, b: usize) -> usize
     ensures { λ r. ⌜ r ≡ firstOf a b ⌝ }
 {
     if a == 0 { b } else { a }
+}
+
+// The first of four.
+fn first_of_four(a: usize, b: usize, c: usize, d: usize) -> usize
+    ensures { λ r. ⌜ r ≡ firstOf a (firstOf b (firstOf c d)) ⌝ }
+{
+    first_of(a, first_of(b, first_of(c, d)))
 }
 
 // What is tested behind the last field, in this order (FORMAT 7.3); 0 where none holds.
@@ -94,10 +114,15 @@ pub fn decode(sheet: &[u8]) -> Decoded
     let ts = sheet::read_types(sheet, ws.next, words.count);
     let es = types::read_extensions(sheet, Cursor { at: ts.at }, words.count);
     let extensions = es.extensions;
-    let lists = first_of(refusal_of(ts.ok, ts.refusal), refusal_of(es.ok, es.refusal));
-    let unread = first_of(
-        opening.refusal,
-        first_of(refusal_of(ws.ok, ws.refusal), lists),
+    let bad_version = opening.fault;
+    let bad_word = ws.fault;
+    let bad_type = ts.fault;
+    let bad_extension = es.fault;
+    let unread = first_of_four(
+        refusal_of(opening.ok, bad_version),
+        refusal_of(ws.ok, bad_word),
+        refusal_of(ts.ok, bad_type),
+        refusal_of(es.ok, bad_extension),
     );
     let fill = sheet::is_bad_fill(sheet, es.next);
     let spelled = spelling::spell(words);

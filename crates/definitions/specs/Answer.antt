@@ -2,11 +2,11 @@
 use mathlib.Core.Bool.{Bool, true, false, not}
 use mathlib.Core.List.{List, [], _∷_, _++_}
 use Prim.Native.Nat.{ℕ, _*_, min}
-use lib.Dec.{eqb, ltb}
+use lib.Dec.{ltb}
 use lib.ListN.{length, take, drop}
 use Rattle.lists.specs.Lists.{null, each}
 use Rattle.definitions.specs.Bits.{bitsOf, size, pack}
-use Rattle.definitions.specs.Parse.{Parsed, done, refused}
+use Rattle.definitions.specs.Parse.{Fault, past, notAllowed, Parsed, done, refused}
 use Rattle.definitions.specs.Records.{Sheet, Item, Schedule, Row}
 use Rattle.definitions.specs.Reading.{sheet}
 use Rattle.definitions.specs.Checks.{badFill, badWords, somethingTwice}
@@ -52,20 +52,32 @@ pub record Outcome : Type 0 where
 
 -- ---- what was read
 
--- Whether reading was refused with this number.
-abbrev pub refusedBy : {A : Type 0} → ℕ → Parsed A → Bool
-refusedBy n (done a rest) = false
-refusedBy n (refused r) = eqb n r
+-- The number of a fault in a sheet (FORMAT 7.2).
+abbrev pub sheetFault : Fault → ℕ
+sheetFault past = 3
+sheetFault notAllowed = 4
+
+-- Whether two faults are the same.
+abbrev pub sameFault : Fault → Fault → Bool
+sameFault past past = true
+sameFault past notAllowed = false
+sameFault notAllowed past = false
+sameFault notAllowed notAllowed = true
+
+-- Whether reading ended with this fault.
+abbrev pub refusedBy : {A : Type 0} → Fault → Parsed A → Bool
+refusedBy f (done a rest) = false
+refusedBy f (refused g) = sameFault f g
 
 -- The bits behind the last field.
 abbrev pub restOf : {A : Type 0} → Parsed A → List Bool
 restOf (done a rest) = rest
-restOf (refused r) = []
+restOf (refused f) = []
 
 -- The sheet that was read, or an empty one where reading was refused, which no later test sees.
 abbrev pub sheetOf : Parsed Sheet → Sheet
 sheetOf (done s rest) = s
-sheetOf (refused r) = record { words = []; types = []; extensions = [] }
+sheetOf (refused f) = record { words = []; types = []; extensions = [] }
 
 -- ---- what an accepted sheet gives
 
@@ -114,25 +126,50 @@ abbrev pub synthesisRows : Call → TypeMap → List Row
 synthesisRows schedule m = synthesis m .rows
 synthesisRows order m = []
 
--- The ten tests in their order (FORMAT 7.3). 3 and 4 come of one reading, which gives the one or the other.
-unfoldable pub refusals : Input → List Refusal
-refusals i =
-    let r = sheet (bitsOf (i .sheet)) in
-    let s = sheetOf r in
-    let m = typeMapOf s in
-    let rs = synthesisRows (i .call) m in
-    let n = size (length (bitsWritten (i .call) (scheduleOf (i .call) m))) in
+-- 1 and 2: the sheet is too long, the diagnosis slice too short (FORMAT 7.2).
+abbrev pub earlyRefusals : Input → List Refusal
+earlyRefusals i =
     bare 1 (λ u. ltb 40960 (length (i .sheet)))
     ∷ bare 2 (λ u. ltb (length (i .diagnosis)) (6 * i .settings .rows))
-    ∷ bare 3 (λ u. refusedBy 3 r)
-    ∷ bare 4 (λ u. refusedBy 4 r)
+    ∷ []
+
+-- 3, 4 and 7: what came of reading the sheet, which has at most one fault, and what is left behind it (FORMAT 7.2).
+abbrev pub readingRefusals : Parsed Sheet → List Refusal
+readingRefusals r =
+    bare (sheetFault past) (λ u. refusedBy past r)
+    ∷ bare (sheetFault notAllowed) (λ u. refusedBy notAllowed r)
     ∷ bare 7 (λ u. badFill (restOf r))
-    ∷ bare 5 (λ u. badWords (s .words))
-    ∷ bare 6 (λ u. somethingTwice s)
-    ∷ diagnosed 8 (λ u. not (hasOrder m)) (λ u. orderRows m)
+    ∷ []
+
+-- 5 and 6: the words, and what stands twice (FORMAT 7.2).
+abbrev pub contentRefusals : Sheet → List Refusal
+contentRefusals s = bare 5 (λ u. badWords (s .words)) ∷ bare 6 (λ u. somethingTwice s) ∷ []
+
+-- 8, 9 and 10: the order, the synthesis, and the size of what is written (FORMAT 7.2).
+abbrev pub lateRefusals : Input → TypeMap → List Refusal
+lateRefusals i m =
+    let rs = synthesisRows (i .call) m in
+    let n = size (length (bitsWritten (i .call) (scheduleOf (i .call) m))) in
+    diagnosed 8 (λ u. not (hasOrder m)) (λ u. orderRows m)
     ∷ diagnosed 9 (λ u. not (null rs)) (λ u. rs)
     ∷ short 10 (λ u. ltb (length (i .listing)) n) (λ u. n)
     ∷ []
+
+-- What the sheet of an input is read to.
+abbrev pub readIn : Input → Parsed Sheet
+readIn i = sheet (bitsOf (i .sheet))
+
+-- The map of an input.
+unfoldable pub typeMapIn : Input → TypeMap
+typeMapIn i = typeMapOf (sheetOf (readIn i))
+
+-- The tests before the order is asked for: 1, 2, 3, 4, 7, 5, 6 (FORMAT 7.3).
+abbrev pub sheetRefusals : Input → List Refusal
+sheetRefusals i = earlyRefusals i ++ readingRefusals (readIn i) ++ contentRefusals (sheetOf (readIn i))
+
+-- The ten tests in their order (FORMAT 7.3).
+unfoldable pub refusals : Input → List Refusal
+refusals i = sheetRefusals i ++ lateRefusals i (typeMapIn i)
 
 -- A refusal leaves both slices, but the rows of 8 and 9, up to the limit, go to the start of the diagnosis slice; the flag is
 -- set exactly if there are more (FORMAT 7.4, 8.2).
@@ -149,10 +186,6 @@ reject i r =
       listing = i .listing;
       diagnosis = overwrite (each rowBytes (take (i .settings .rows) rs)) (i .diagnosis);
     }
-
--- The map of an input.
-unfoldable pub typeMapIn : Input → TypeMap
-typeMapIn i = typeMapOf (sheetOf (sheet (bitsOf (i .sheet))))
 
 -- Acceptance writes the listing, names its size, and leaves the diagnosis slice (FORMAT 7.4).
 unfoldable pub accept : Input → Outcome

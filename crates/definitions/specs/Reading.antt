@@ -1,5 +1,4 @@
--- Reading a sheet, bit by bit: each construct is a parser. Refusals 3 and 4 come from the first field that deserves one
--- (FORMAT 2).
+-- Reading a sheet, bit by bit: each construct is a parser. The first field with a fault ends the reading (FORMAT 2).
 use mathlib.Core.Bool.{Bool, _&&_, _||_}
 use mathlib.Core.List.{List, [], _∷_}
 use Prim.Native.Nat.{ℕ}
@@ -8,7 +7,7 @@ use lib.ListN.{length, getD}
 use Rattle.definitions.specs.Records.{Name, Resource, makeList, associate, nestAssociate, alias, inherit, derive}
 use Rattle.definitions.specs.Records.{noDerive, Annotation, Variant, domain, resource, other, Mark, makelistMark}
 use Rattle.definitions.specs.Records.{deriveMark, TypeInfo, Extension, Sheet}
-use Rattle.definitions.specs.Parse.{Parser, _>>=_, pure, refuse, choose, field, allowed, flag, counted}
+use Rattle.definitions.specs.Parse.{notAllowed, Parser, _>>=_, pure, refuse, choose, field, allowed, flag, counted}
 
 -- Whether a byte may stand in a word: A-Z, a-z, 0-9, `_` (FORMAT 1.1).
 unfoldable pub isWordByte : ℕ → Bool
@@ -51,7 +50,7 @@ unfoldable pub kinds : ℕ → Bool → List (Parser Annotation)
 kinds W oneWord =
     pure makeList
     ∷ (associatedList W >>= λ rs. pure (associate rs))
-    ∷ choose oneWord (associatedList W >>= λ rs. pure (nestAssociate rs)) (refuse 4)
+    ∷ choose oneWord (associatedList W >>= λ rs. pure (nestAssociate rs)) (refuse notAllowed)
     ∷ (wordField W >>= λ w. pure (alias w))
     ∷ (counted 4 0 15 (name W) >>= λ ns. pure (inherit ns))
     ∷ (field 8 >>= λ t. pure (derive t))
@@ -62,7 +61,7 @@ kinds W oneWord =
 unfoldable pub annotation : ℕ → Bool → Parser Annotation
 annotation W oneWord = do
   kind ← field 3
-  getD (kinds W oneWord) kind (refuse 4)
+  getD (kinds W oneWord) kind (refuse notAllowed)
 
 -- A mark (FORMAT 2.9).
 unfoldable pub mark : Parser Mark
@@ -74,7 +73,7 @@ mark = do
 unfoldable pub variant : Parser Variant
 variant = do
   v ← field 2
-  getD (pure domain ∷ pure resource ∷ pure other ∷ []) v (refuse 4)
+  getD (pure domain ∷ pure resource ∷ pure other ∷ []) v (refuse notAllowed)
 
 -- A type record, each count directly before its entries (FORMAT 2.6).
 unfoldable pub typeInfo : ℕ → Parser TypeInfo

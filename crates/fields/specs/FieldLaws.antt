@@ -12,7 +12,7 @@ use Rattle.lists.specs.Lists.{sameList}
 use Rattle.lists.specs.Tabulating.{tabulate-set, length-tabulate}
 use Rattle.lists.specs.Tests.{and-left, and-right}
 use Rattle.definitions.specs.Comparisons.{sameName}
-use Rattle.definitions.specs.Parse.{Parsed, done, refused, Parser, next, pure, refuse, choose, field, allowed, between, repeat, counted}
+use Rattle.definitions.specs.Parse.{notAllowed, Parsed, done, refused, Parser, next, pure, refuse, choose, field, allowed, between, repeat, counted}
 use Rattle.definitions.specs.Reading.{wordField}
 use Rattle.fields.specs.ParseLaws.{repeat-length}
 use Rattle.fields.specs.Fields.{ofByte, ofWordIfFlag, twoWords, nameOf, ofNames}
@@ -25,11 +25,11 @@ pub allowed-holds : (n : ℕ) (ok : ℕ → Bool) (bs : List Bool) (v : ℕ) (re
 unfolding allowed
 allowed-holds n ok bs v rest e = go (field n bs) e
   where
-    at : (w : ℕ) (left : List Bool) (t : Bool) → ok w ≡ t → choose t (pure w) (refuse 4) left ≡ done v rest → ok v ≡ true
+    at : (w : ℕ) (left : List Bool) (t : Bool) → ok w ≡ t → choose t (pure w) (refuse notAllowed) left ≡ done v rest → ok v ≡ true
     at w left true h e = let q : w ≡ v = cc in rw (← q) h
     at w left false h e = let z : _≡_ {A = ℕ} 0 1 = cc in absurd (omega arith)
 
-    go : (x : Parsed ℕ) → next x (λ w. choose (ok w) (pure w) (refuse 4)) ≡ done v rest → ok v ≡ true
+    go : (x : Parsed ℕ) → next x (λ w. choose (ok w) (pure w) (refuse notAllowed)) ≡ done v rest → ok v ≡ true
     go (done w left) e = at w left (ok w) refl e
     go (refused r) e = let z : _≡_ {A = ℕ} 0 1 = cc in absurd (omega arith)
 

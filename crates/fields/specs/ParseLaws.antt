@@ -6,7 +6,7 @@ use Prim.Native.Nat.{ℕ, zero, suc, _+_, _-_, _≤_, _<_}
 use native.Mathlib.Numerals.{sub-one}
 use native.Mathlib.Omega.{arith}
 use lib.ListN.{length, length-append}
-use Rattle.definitions.specs.Parse.{Parsed, done, refused, Parser, next, pure, between, repeatOnto, repeat, counted}
+use Rattle.definitions.specs.Parse.{Fault, Parsed, done, refused, Parser, next, pure, between, repeatOnto, repeat, counted}
 
 -- ---- repetition
 
@@ -21,7 +21,7 @@ unfolding repeatOnto
 repeat-done xs m zero bs x rest h e = absurd (omega arith)
 repeat-done xs m (suc n) bs x rest h e = rw (sub-one (suc n), e)
 
-pub repeat-refused : {A : Type 0} (xs : List A) (m : Parser A) (n : ℕ) (bs : List Bool) (r : ℕ) → 0 < n → m bs ≡ refused r → repeatOnto xs m n bs ≡ refused r
+pub repeat-refused : {A : Type 0} (xs : List A) (m : Parser A) (n : ℕ) (bs : List Bool) (r : Fault) → 0 < n → m bs ≡ refused r → repeatOnto xs m n bs ≡ refused r
 unfolding repeatOnto
 repeat-refused xs m zero bs r h e = absurd (omega arith)
 repeat-refused xs m (suc n) bs r h e = rw e

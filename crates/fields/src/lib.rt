@@ -1,5 +1,5 @@
 // The fields of a sheet: counts, words, names and lists of names. A function at a cursor answers what its parser in the
-// definitions gives for the bits from there on, refusals 3 and 4 included.
+// definitions gives for the bits from there on, its faults included.
 use bits::Cursor;
 use bits::Read;
 ghost use mathlib.Core.Bool.{false};
@@ -12,16 +12,22 @@ ghost use Rattle.definitions.specs.Parse.{refused, field, between, repeat, coun
 ghost use Rattle.definitions.specs.Reading.{wordField, wordIfFlag, name};
 ghost use Rattle.fields.specs.Fields.{ofField, ofByte, ofWordIfFlag, nameOf, ofName, ofNames, ofNamesRead};
 
-// A field's value and the cursor behind it, or a refusal.
+// What can be wrong with a field: it passes the end, or its value is not allowed (FORMAT 2.1).
+pub enum Fault {
+    Past,
+    NotAllowed,
+}
+
+// A field's value and the cursor behind it, or its fault.
 pub enum Field {
     At(usize, Cursor),
-    Refused(usize),
+    Refused(Fault),
 }
 
 // A field of 8 bits: a word, a tag, or 255 where there is no word.
 pub enum ByteRead {
     At(u8, Cursor),
-    Refused(usize),
+    Refused(Fault),
 }
 
 // A name (FORMAT 1.3). The second word is 255 where there is none: a word is below W, at most 200.
@@ -32,7 +38,7 @@ pub struct Name {
 
 pub enum NameRead {
     At(Name, Cursor),
-    Refused(usize),
+    Refused(Fault),
 }
 
 // The first count names of the arrays.
@@ -42,10 +48,10 @@ pub struct Names {
     pub second: [u8; 15],
 }
 
-// ok: the names and the cursor behind them. Else a refusal.
+// ok: the names and the cursor behind them. Else a fault.
 pub struct NamesRead {
     pub ok: bool,
-    pub refusal: usize,
+    pub fault: Fault,
     pub next: Cursor,
     pub names: Names,
 }
@@ -58,14 +64,14 @@ pub fn read_between(s: &[u8], c: Cursor, n: usize, least: usize, most: usize) ->
     match reader::read_at(s, c, n) {
         Read::Value(v, next) => {
             if v < least {
-                return Field::Refused(4);
+                return Field::Refused(Fault::NotAllowed);
             }
             if most < v {
-                return Field::Refused(4);
+                return Field::Refused(Fault::NotAllowed);
             }
             Field::At(v, next)
         }
-        Read::Past => Field::Refused(3),
+        Read::Past => Field::Refused(Fault::Past),
     }
 }
 
@@ -76,7 +82,7 @@ pub fn read_tag(s: &[u8], c: Cursor) -> ByteRead
 {
     match c.read(s, 8) {
         Read::Value(v, next) => ByteRead::At(v as u8, next),
-        Read::Past => ByteRead::Refused(3),
+        Read::Past => ByteRead::Refused(Fault::Past),
     }
 }
 
@@ -90,10 +96,10 @@ pub fn read_word_field(s: &[u8], c: Cursor, limit: usize) -> ByteRead
             if v < limit {
                 ByteRead::At(v as u8, next)
             } else {
-                ByteRead::Refused(4)
+                ByteRead::Refused(Fault::NotAllowed)
             }
         }
-        Read::Past => ByteRead::Refused(3),
+        Read::Past => ByteRead::Refused(Fault::Past),
     }
 }
 
@@ -110,7 +116,7 @@ pub fn read_word_if_flag(s: &[u8], c: Cursor, limit: usize) -> ByteRead
                 ByteRead::At(255, next)
             }
         }
-        Read::Past => ByteRead::Refused(3),
+        Read::Past => ByteRead::Refused(Fault::Past),
     }
 }
 
@@ -150,13 +156,13 @@ pub fn with_name(t: Names, n: Name) -> Names
     r
 }
 
-pub fn names_refused(r: usize) -> NamesRead
-    ensures { λ x. ⌜ (x .ok ≡ false) × (x .refusal ≡ r) ⌝ }
+pub fn names_refused(r: Fault) -> NamesRead
+    ensures { λ x. ⌜ (x .ok ≡ false) × (x .fault ≡ r) ⌝ }
 {
     let names = no_names();
     NamesRead {
         ok: false,
-        refusal: r,
+        fault: r,
         next: Cursor { at: 0 },
         names,
     }
@@ -184,7 +190,7 @@ fn read_each_name(s: &[u8], c: Cursor, limit: usize, n: usize) -> NamesRead
     }
     NamesRead {
         ok: true,
-        refusal: 0,
+        fault: Fault::Past,
         next,
         names,
     }

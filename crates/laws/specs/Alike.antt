@@ -1,6 +1,6 @@
 -- Relisted inputs: the refusals of the two are alike one by one, so the answers are.
 use mathlib.Core.Bool.{true, false, not}
-use mathlib.Core.List.{List, [], _∷_}
+use mathlib.Core.List.{List, [], _∷_, _++_}
 use mathlib.Core.Path.{_≡_, refl, sym, ap, ap₂, _∙_, subst₂}
 use Prim.Native.Nat.{ℕ, _*_}
 use lib.Dec.{eqb, ltb}
@@ -11,13 +11,13 @@ use Rattle.lists.specs.Lists.{null}
 use Rattle.lists.specs.Tests.{by}
 use Rattle.definitions.specs.Records.{Sheet}
 use Rattle.definitions.specs.Bits.{bitsOf, size, pack}
-use Rattle.definitions.specs.Parse.{Parsed}
+use Rattle.definitions.specs.Parse.{Fault, past, notAllowed, Parsed}
 use Rattle.definitions.specs.Reading.{sheet}
 use Rattle.definitions.specs.Checks.{badFill, badWords, somethingTwice}
 use Rattle.definitions.specs.Map.{TypeMap, typeMapOf, lineMapOf}
 use Rattle.definitions.specs.Order.{hasOrder, organizeTypeMap}
 use Rattle.definitions.specs.Items.{itemsOf}
-use Rattle.definitions.specs.Answer.{Settings, Call, schedule, order, Input, Outcome, overwrite, refusedBy, restOf, sheetOf, itemsWritten, scheduleOf, bitsWritten, Refusal, synthesisRows, refusals, reject, typeMapIn, accept, firstRefusal, outcome}
+use Rattle.definitions.specs.Answer.{Settings, Call, schedule, order, Input, Outcome, overwrite, refusedBy, restOf, sheetOf, itemsWritten, scheduleOf, bitsWritten, Refusal, synthesisRows, earlyRefusals, readingRefusals, contentRefusals, lateRefusals, refusals, reject, readIn, typeMapIn, accept, firstRefusal, outcome}
 use Rattle.definitions.specs.Relisted.{Holds, RelistedInputs, Alike}
 use Rattle.laws.specs.Comparisons.{names-once}
 use Rattle.laws.specs.Relisting.{relisted-map, relisted-order}
@@ -29,6 +29,11 @@ data Match : List Refusal → List Refusal → Type 0 where
   none : Match [] []
   next : {r q : Refusal} {l k : List Refusal} → eqb (r .number) 0 ≡ false → r .number ≡ q .number → r .holds tt ≡ q .holds tt → r .size tt ≡ q .size tt
       → (r .holds tt ≡ false → Match l k) → Match (r ∷ l) (q ∷ k)
+
+-- one list behind the other
+match-append : {l k l′ k′ : List Refusal} → Match l k → Match l′ k′ → Match (l ++ l′) (k ++ k′)
+match-append none m = m
+match-append (next p n h z f) m = next p n h z (λ e. match-append (f e) m)
 
 pub first-holds : (i : Input) (r : Refusal) (l : List Refusal) → r .holds tt ≡ true → firstRefusal i (r ∷ l) ≡ reject i r
 unfolding firstRefusal
@@ -66,8 +71,8 @@ module _ {bytes : List ℕ} {s : Sheet} (h : Holds bytes s) where
   pub not-long : ltb 40960 (length bytes) ≡ false
   not-long = le-ltb 40960 (length bytes) (h .short)
 
-  pub not-refused : (n : ℕ) → refusedBy n r ≡ false
-  not-refused n = ap (refusedBy n) (h .read)
+  pub not-refused : (f : Fault) → refusedBy f r ≡ false
+  not-refused f = ap (refusedBy f) (h .read)
 
   pub not-filled : badFill (restOf r) ≡ false
   not-filled = ap (λ (p : Parsed Sheet). badFill (restOf p)) (h .read) ∙ h .fill
@@ -122,20 +127,35 @@ module _ (i j : Input) (h : RelistedInputs i j) (left : Holds (i .sheet) (h .s))
 
   -- where there is an order, and the synthesis leaves no row of the one exactly if it leaves none of the other
   module _ (rows : hasOrder (typeMapIn i) ≡ true → null (synthesisRows (i .call) (typeMapIn i)) ≡ null (synthesisRows (j .call) (typeMapIn j))) where
-    matches : Match (refusals i) (refusals j)
-    unfolding refusals typeMapIn
-    matches =
+    early : Match (earlyRefusals i) (earlyRefusals j)
+    early =
         next refl refl (not-long left ∙ sym (not-long right)) refl
         (λ e. next refl refl (ap₂ (λ n (c : Settings). ltb n (6 * c .rows)) (h .diagnosis) (h .settings)) refl
-        (λ e. next refl refl (not-refused left 3 ∙ sym (not-refused right 3)) refl
-        (λ e. next refl refl (not-refused left 4 ∙ sym (not-refused right 4)) refl
+        (λ e. none))
+
+    reading : Match (readingRefusals (readIn i)) (readingRefusals (readIn j))
+    reading =
+        next refl refl (not-refused left past ∙ sym (not-refused right past)) refl
+        (λ e. next refl refl (not-refused left notAllowed ∙ sym (not-refused right notAllowed)) refl
         (λ e. next refl refl (not-filled left ∙ sym (not-filled right)) refl
-        (λ e. next refl refl (good-words left ∙ sym (good-words right)) refl
+        (λ e. none)))
+
+    content : Match (contentRefusals (sheetOf (readIn i))) (contentRefusals (sheetOf (readIn j)))
+    content =
+        next refl refl (good-words left ∙ sym (good-words right)) refl
         (λ e. next refl refl (nothing-twice left ∙ sym (nothing-twice right)) refl
-        (λ e. next refl refl (ap not has-order) refl
+        (λ e. none))
+
+    late : Match (lateRefusals i (typeMapIn i)) (lateRefusals j (typeMapIn j))
+    late =
+        next refl refl (ap not has-order) refl
         (λ o. next refl refl (ap not (rows (not-false (hasOrder (typeMapIn i)) o))) refl
         (λ e. next refl refl (ap₂ (λ n b. ltb n (size (length b))) (h .listing) bits) (ap (λ b. size (length b)) bits)
-        (λ e. none))))))))))
+        (λ e. none)))
+
+    matches : Match (refusals i) (refusals j)
+    unfolding refusals
+    matches = match-append (match-append (match-append early reading) content) late
 
     pub alike : Alike i j
     unfolding outcome

@@ -11,7 +11,7 @@ use lib.Dec.{eqb, ltb, leb}
 use lib.ListN.{length, getD, length-append}
 use Rattle.lists.specs.Lists.{In}
 use Rattle.lists.specs.Tests.{never, and-left, and-right, cons-elim}
-use Rattle.definitions.specs.Parse.{Parsed, done, refused, Parser, next, _>>=_, pure, refuse, choose, fieldOnto, field, allowed, between, flag, repeatOnto, counted}
+use Rattle.definitions.specs.Parse.{Fault, notAllowed, Parsed, done, refused, Parser, next, _>>=_, pure, refuse, choose, fieldOnto, field, allowed, between, flag, repeatOnto, counted}
 use Rattle.definitions.specs.Records.{makeList, associate, nestAssociate, alias, inherit, derive, noDerive, Annotation, makelistMark, deriveMark}
 use Rattle.definitions.specs.Reading.{word, wordField, wordIfFlag, name, associated, associatedList, kinds, annotation, mark, variant, typeInfo, extension, sheet}
 use Rattle.bits.specs.ReadLaws.{isDone}
@@ -26,16 +26,16 @@ Yields {A} m P = (bs rest : List Bool) (a : A) → m bs ≡ done a rest → P a
 
 abbrev valueOf : {A : Type 0} → A → Parsed A → A
 valueOf d (done a rest) = a
-valueOf d (refused r) = d
+valueOf d (refused f) = d
 
-refused-not : {A C : Type 0} {r : ℕ} {a : A} {rest : List Bool} → refused r ≡ done a rest → C
+refused-not : {A C : Type 0} {f : Fault} {a : A} {rest : List Bool} → refused f ≡ done a rest → C
 refused-not e = never {b = true} refl (sym (ap isDone e))
 
 yields-pure : {A : Type 0} (P : A → Type 0) (a : A) → P a → Yields (pure a) P
 yields-pure P a h bs rest b e = subst P (ap (valueOf a) e) h
 
-yields-refuse : {A : Type 0} (P : A → Type 0) (r : ℕ) → Yields {A = A} (refuse r) P
-yields-refuse P r bs rest b e = refused-not e
+yields-refuse : {A : Type 0} (P : A → Type 0) (f : Fault) → Yields {A = A} (refuse f) P
+yields-refuse P f bs rest b e = refused-not e
 
 yields-any : {A : Type 0} (m : Parser A) → Yields m (λ a. Unit {0})
 yields-any m bs rest a e = tt
@@ -74,7 +74,7 @@ allowed-is : (n : ℕ) (ok : ℕ → Bool) → Yields (allowed n ok) (λ v. ok v
 unfolding allowed
 allowed-is n ok =
     yields-bind (field n) _ (λ v. Unit {0}) _ (yields-any (field n)) (λ v _.
-    yields-choose (λ v. ok v ≡ true) (ok v) (pure v) (refuse 4) (λ e. yields-pure (λ v. ok v ≡ true) v e) (λ _. yields-refuse (λ v. ok v ≡ true) 4))
+    yields-choose (λ v. ok v ≡ true) (ok v) (pure v) (refuse notAllowed) (λ e. yields-pure (λ v. ok v ≡ true) v e) (λ _. yields-refuse (λ v. ok v ≡ true) notAllowed))
 
 -- ---- lists
 
@@ -156,10 +156,10 @@ kinds-are W oneWord =
         yields-bind (associatedList W) _ (Counted (ResourceWithin W) 0 15) _ (associated-list-is W)
             (λ rs h. yields-pure P (associate rs) (record { resources = h .high; resource = h .every })),
         (
-          yields-choose P oneWord _ (refuse 4)
+          yields-choose P oneWord _ (refuse notAllowed)
               (λ _. yields-bind (associatedList W) _ (Counted (ResourceWithin W) 0 15) _ (associated-list-is W)
               (λ rs h. yields-pure P (nestAssociate rs) (record { resources = h .high; resource = h .every })))
-              (λ _. yields-refuse P 4),
+              (λ _. yields-refuse P notAllowed),
           (
             yields-bind (wordField W) _ (λ w. Unit {0}) _ (yields-any (wordField W)) (λ w _. yields-pure P (alias w) (none-within (alias w) refl)),
             (
@@ -179,7 +179,7 @@ annotation-is : (W : ℕ) (oneWord : Bool) → Yields (annotation W oneWord) (An
 unfolding annotation
 annotation-is W oneWord =
     yields-bind (field 3) _ (λ k. Unit {0}) _ (yields-any (field 3)) (λ k _.
-    yields-getD (AnnotationWithin W) (kinds W oneWord) k (refuse 4) (kinds-are W oneWord) (yields-refuse (AnnotationWithin W) 4))
+    yields-getD (AnnotationWithin W) (kinds W oneWord) k (refuse notAllowed) (kinds-are W oneWord) (yields-refuse (AnnotationWithin W) notAllowed))
 
 mark-is : Yields mark MarkWithin
 unfolding mark

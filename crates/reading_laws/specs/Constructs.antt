@@ -11,7 +11,7 @@ use lib.ListN.{length, getD}
 use Rattle.lists.specs.Tests.{and-left, and-right, and-both, or-cases, or-left, or-right}
 use Rattle.definitions.specs.Bits.{toBits}
 use Rattle.definitions.specs.Records.{Name, makeList, associate, nestAssociate, alias, inherit, derive, noDerive, Annotation, Variant, domain, resource, other, Mark, makelistMark, deriveMark, TypeInfo, Sheet}
-use Rattle.definitions.specs.Parse.{_>>=_, pure, refuse, choose, field, allowed, counted}
+use Rattle.definitions.specs.Parse.{notAllowed, _>>=_, pure, refuse, choose, field, allowed, counted}
 use Rattle.definitions.specs.Reading.{isWordByte, word, wordField, wordIfFlag, name, associated, associatedList, kinds, annotation, mark, variant, typeInfo, extension, sheet}
 use Rattle.definitions.specs.Packing.{countedBits, wordIfFlagBits, nameBits, markBits}
 use Rattle.definitions.specs.Legal.{Counted, LegalByte, upper, lower, digit, underscore, LegalWord, LegalWordIfAny, LegalName, LegalResource, LegalResources, LegalAnnotation, LegalMark, LegalType, LegalExtension, WithinLimits}
@@ -77,7 +77,7 @@ variant-codes = record { back = back; only = only-next (field-codes 2) _ (Exact 
     back resource u = reads-end (field 2) _ 1 resource (toBits 2 1) (field-codes 2 .back 1 (omega arith)) (reads-pure resource)
     back other u = reads-end (field 2) _ 2 other (toBits 2 2) (field-codes 2 .back 2 (omega arith)) (reads-pure other)
 
-    go : (k : ℕ) → Only (getD (pure domain ∷ pure resource ∷ pure other ∷ []) k (refuse 4)) (λ v ys. Exact variantBits (λ v. Unit {0}) v (toBits 2 k ++ ys))
+    go : (k : ℕ) → Only (getD (pure domain ∷ pure resource ∷ pure other ∷ []) k (refuse notAllowed)) (λ v ys. Exact variantBits (λ v. Unit {0}) v (toBits 2 k ++ ys))
     go zero = only-pure (λ v ys. Exact variantBits (λ v. Unit {0}) v (toBits 2 0 ++ ys)) domain (append-nil (toBits 2 0), tt)
     go (suc zero) = only-pure (λ v ys. Exact variantBits (λ v. Unit {0}) v (toBits 2 1 ++ ys)) resource (append-nil (toBits 2 1), tt)
     go (suc (suc zero)) = only-pure (λ v ys. Exact variantBits (λ v. Unit {0}) v (toBits 2 2 ++ ys)) other (append-nil (toBits 2 2), tt)
@@ -156,12 +156,12 @@ module _ (W : ℕ) (small : W ≤ 256) where
     kind-reads (derive t) h = reads-next (field-codes 3) _ 5 (derive t) (toBits 8 t) (omega arith) (reads-last (field-codes 8) (λ t. derive t) t h)
     kind-reads noDerive h = reads-next (field-codes 3) _ 6 noDerive [] (omega arith) (reads-pure noDerive)
 
-    kind-only : (k : ℕ) → Only (getD (kinds W (eqb (length n) 1)) k (refuse 4)) (λ a ys. ExactAnnotation a (toBits 3 k ++ ys))
+    kind-only : (k : ℕ) → Only (getD (kinds W (eqb (length n) 1)) k (refuse notAllowed)) (λ a ys. ExactAnnotation a (toBits 3 k ++ ys))
     unfolding annotationBits contentBits kinds ExactAnnotation
     kind-only zero = only-pure (λ a ys. ExactAnnotation a (toBits 3 0 ++ ys)) makeList (refl, tt)
     kind-only (suc zero) = only-last associatedList-codes (λ rs. associate rs) (λ a ys. ExactAnnotation a (toBits 3 1 ++ ys)) (λ rs h. (refl, h))
     kind-only (suc (suc zero)) =
-        only-choose (eqb (length n) 1) (associatedList W >>= λ rs. pure (nestAssociate rs)) (refuse 4) (λ a ys. ExactAnnotation a (toBits 3 2 ++ ys))
+        only-choose (eqb (length n) 1) (associatedList W >>= λ rs. pure (nestAssociate rs)) (refuse notAllowed) (λ a ys. ExactAnnotation a (toBits 3 2 ++ ys))
         (λ e. only-last associatedList-codes (λ rs. nestAssociate rs) (λ a ys. ExactAnnotation a (toBits 3 2 ++ ys)) (λ rs h. (refl, (eqb-true (length n) 1 e, h))))
         (λ e. only-refuse (λ a ys. ExactAnnotation a (toBits 3 2 ++ ys)))
     kind-only (suc (suc (suc zero))) = only-last wordField-codes (λ w. alias w) (λ a ys. ExactAnnotation a (toBits 3 3 ++ ys)) (λ w h. (refl, h))

@@ -1,7 +1,6 @@
 -- Laws of the parsers, once for each way to build one.
 use mathlib.Core.Bool.{Bool, true, false, _&&_}
 use mathlib.Core.List.{List, [], _∷_, _++_, append-assoc, append-nil}
-use mathlib.Core.Logic.{_⊎_, inl, inr, ⊎-elim}
 use mathlib.Core.Path.{_≡_, refl, sym, ap, ap₂, _∙_}
 use Prim.Native.Nat.{ℕ, zero, suc, _+_, _*_, _/_, _%_, _^_, _≤_, _<_}
 use native.Mathlib.Nat.{mod-eq-of-lt, zero-mul, zero-add, pow-succ'}
@@ -16,7 +15,7 @@ use lib.Seq
 use Rattle.lists.specs.Lists.{each}
 use Rattle.lists.specs.Tests.{never, and-left, and-right, and-both}
 use Rattle.definitions.specs.Bits.{bit, toBits}
-use Rattle.definitions.specs.Parse.{Parsed, done, refused, Parser, next, _>>=_, pure, refuse, choose, fieldOnto, field, allowed, between, flag, repeatOnto, repeat, counted}
+use Rattle.definitions.specs.Parse.{past, notAllowed, Parsed, done, refused, Parser, next, _>>=_, pure, refuse, choose, fieldOnto, field, allowed, between, flag, repeatOnto, repeat, counted}
 use Rattle.definitions.specs.Packing.{countedBits}
 use Rattle.definitions.specs.Legal.{Every, Counted}
 use Rattle.bits.specs.NumberLaws.{bit-lt, bit-odd, odd-bit, toBits-low}
@@ -26,12 +25,14 @@ use Rattle.bits.specs.ReadLaws.{isDone}
 abbrev pub Reads : {A : Type 0} → Parser A → A → List Bool → Type 0
 Reads m a xs = (rest : List Bool) → m (xs ++ rest) ≡ done a rest
 
--- what m answers on bs: a value, the bits that it was read from and those behind them; or 3; or 4, whatever follows
+-- what m answers on bs: a value, the bits that it was read from and those behind them; or that a field passes the end; or that a
+-- value is not allowed, whatever follows
 abbrev pub Told : {A : Type 0} → Parser A → (A → List Bool → Type 0) → List Bool → Parsed A → Type 0
 Told m S bs (done a rest) = (xs : List Bool) × (bs ≡ xs ++ rest) × S a xs
-Told m S bs (refused r) = (r ≡ 3) ⊎ ((r ≡ 4) × ((more : List Bool) → m (bs ++ more) ≡ refused 4))
+Told m S bs (refused past) = Unit {0}
+Told m S bs (refused notAllowed) = (more : List Bool) → m (bs ++ more) ≡ refused notAllowed
 
--- m reads nothing but values in S to the bits that they were read from, and refuses with 3 or 4 only
+-- m reads nothing but values in S to the bits that they were read from, and more bits change no value that is not allowed
 abbrev pub Only : {A : Type 0} → Parser A → (A → List Bool → Type 0) → Type 0
 Only m S = (bs : List Bool) → Told m S bs (m bs)
 
@@ -59,14 +60,14 @@ reads-end m k a b xs f g rest = rw (f rest) (g rest)
 pub only-pure : {A : Type 0} (S : A → List Bool → Type 0) (a : A) → S a [] → Only (pure a) S
 only-pure S a s bs = ([], refl, s)
 
-pub only-refuse : {A : Type 0} (S : A → List Bool → Type 0) → Only (refuse 4) S
-only-refuse S bs = inr (refl, λ more. refl)
+pub only-refuse : {A : Type 0} (S : A → List Bool → Type 0) → Only (refuse notAllowed) S
+only-refuse S bs = λ more. refl
 
 told-behind : {A : Type 0} (m n : Parser A) (S : A → List Bool → Type 0) (bs xs rest : List Bool) → bs ≡ xs ++ rest →
     ((more : List Bool) → m (bs ++ more) ≡ n (rest ++ more)) → (r : Parsed A) → Told n (λ b ys. S b (xs ++ ys)) rest r → Told m S bs r
 told-behind m n S bs xs rest e f (done b left) t = (xs ++ t .0, e ∙ ap (λ l. xs ++ l) (t .1) ∙ sym (append-assoc xs (t .0) left), t .2)
-told-behind m n S bs xs rest e f (refused r) (inl p) = inl p
-told-behind m n S bs xs rest e f (refused r) (inr p) = inr (p .0, λ more. f more ∙ p .1 more)
+told-behind m n S bs xs rest e f (refused past) t = tt
+told-behind m n S bs xs rest e f (refused notAllowed) t = λ more. f more ∙ t more
 
 pub only-then : {A B : Type 0} (m : Parser A) (k : A → Parser B) (enc : A → List Bool) (P : A → Type 0) (S : B → List Bool → Type 0) →
     Codes m enc P → ((a : A) → P a → Only (k a) (λ b ys. S b (enc a ++ ys))) → Only (m >>= k) S
@@ -78,8 +79,8 @@ only-then m k enc P S c g bs = go (m bs) (c .only bs)
         told-behind (m >>= k) (k a) S bs (enc a) rest e
         (λ more. ap (λ l. next (m l) k) (ap (λ l. l ++ more) e ∙ append-assoc (enc a) rest more) ∙ ap (λ r. next r k) (c .back a (t .2 .1) (rest ++ more)))
         (k a rest) (g a (t .2 .1) rest)
-    go (refused r) (inl p) = inl p
-    go (refused r) (inr p) = inr (p .0, λ more. ap (λ r. next r k) (p .1 more))
+    go (refused past) t = tt
+    go (refused notAllowed) t = λ more. ap (λ r. next r k) (t more)
 
 pub only-choose : {A : Type 0} (b : Bool) (x y : Parser A) (S : A → List Bool → Type 0) → (b ≡ true → Only x S) → (b ≡ false → Only y S) → Only (choose b x y) S
 only-choose true x y S f g = f refl
@@ -91,7 +92,8 @@ only-more m S R h f bs = go (m bs) (f bs)
   where
     go : (r : Parsed _) → Told m S bs r → Told m R bs r
     go (done a rest) t = (t .0, t .1, h a (t .0) (t .2))
-    go (refused r) t = t
+    go (refused past) t = tt
+    go (refused notAllowed) t = t
 
 -- ---- fields
 
@@ -118,11 +120,12 @@ toBits-more n b v l = rw (Pow.high (bit b) n l, odd-bit b, toBits-low n (bit b) 
 field-only : (n v : ℕ) → Only (fieldOnto v n) (OntoField v n)
 unfolding fieldOnto toBits OntoField
 field-only zero v bs = ([], refl, (0, omega arith, omega arith, refl))
-field-only (suc n) v [] = inl refl
+field-only (suc n) v [] = tt
 field-only (suc n) v (b ∷ bs) = go (fieldOnto (2 * v + bit b) n bs) (field-only n (2 * v + bit b) bs)
   where
     go : (r : Parsed ℕ) → Told (fieldOnto (2 * v + bit b) n) (OntoField (2 * v + bit b) n) bs r → Told (fieldOnto v (suc n)) (OntoField v (suc n)) (b ∷ bs) r
-    go (refused r) t = t
+    go (refused past) t = tt
+    go (refused notAllowed) t = t
     go (done a rest) t =
         let w = t .2 .0 in
         let l : w < 2 ^ n = t .2 .2 in (
@@ -159,7 +162,7 @@ allowed-codes n ok =
           only-then (field n) _ (toBits n) (λ v. v < 2 ^ n) S (field-codes n)
           (λ v l.
           let R : ℕ → List Bool → Type 0 = λ a ys. S a (toBits n v ++ ys) in
-          only-choose (ok v) (pure v) (refuse 4) R (λ e. only-pure R v (append-nil (toBits n v), (l, e))) (λ e. only-refuse R));
+          only-choose (ok v) (pure v) (refuse notAllowed) R (λ e. only-pure R v (append-nil (toBits n v), (l, e))) (λ e. only-refuse R));
     }
 
 -- what is read, said in other words
@@ -185,7 +188,7 @@ flag-codes = record { back = back; only = only }
     back false u rest = refl
 
     only : Only flag (Exact (λ b. b ∷ []) (λ b. Unit {0}))
-    only [] = inl refl
+    only [] = tt
     only (true ∷ bs) = (true ∷ [], refl, (refl, tt))
     only (false ∷ bs) = (false ∷ [], refl, (refl, tt))
 
@@ -250,7 +253,7 @@ module _ {A B : Type 0} {m : Parser A} {enc : A → List Bool} {P : A → Type 0
 
 abbrev behind : {A : Type 0} → Parsed A → List Bool
 behind (done a rest) = rest
-behind (refused r) = []
+behind (refused f) = []
 
 -- the values of two answers that are equal
 pub done-value : {A : Type 0} (a b : A) (p q : List Bool) → done a p ≡ done b q → a ≡ b
@@ -258,7 +261,7 @@ done-value {A} a b p q e = ap value e
   where
     value : Parsed A → A
     value (done x rest) = x
-    value (refused r) = a
+    value (refused f) = a
 
 module _ {A : Type 0} {m : Parser A} {enc : A → List Bool} {P : A → Type 0} (c : Codes m enc P) where
   pub done-only : (bs : List Bool) (a : A) (rest : List Bool) → m bs ≡ done a rest → (bs ≡ enc a ++ rest) × P a
@@ -266,41 +269,33 @@ module _ {A : Type 0} {m : Parser A} {enc : A → List Bool} {P : A → Type 0} 
       let t : Told m (Exact enc P) bs (done a rest) = rw e at (c .only bs) in
       (t .1 ∙ ap (λ l. l ++ rest) (t .2 .0), t .2 .1)
 
-  pub refused-only : (bs : List Bool) (r : ℕ) → m bs ≡ refused r → (r ≡ 3) ⊎ (r ≡ 4)
-  refused-only bs r e =
-      let t : Told m (Exact enc P) bs (refused r) = rw e at (c .only bs) in
-      ⊎-elim inl (λ p. inr (p .0)) t
-
   -- two values whose bits begin the same list are one value, and what follows them is the same
   pub one-value : (a b : A) (rest more : List Bool) → P a → P b → enc a ++ rest ≡ enc b ++ more → (a ≡ b) × (rest ≡ more)
   one-value a b rest more p q e =
       let d : done a rest ≡ done b more = sym (c .back a p rest) ∙ ap m e ∙ c .back b q more in
       (done-value a b rest more d, ap behind d)
 
-  -- what is behind the bits read changes no value, and nothing a refusal with 4
+  -- what is behind the bits read changes no value, neither one that is read nor one that is not allowed
   pub done-stays : (bs : List Bool) (a : A) (rest more : List Bool) → m bs ≡ done a rest → m (bs ++ more) ≡ done a (rest ++ more)
   done-stays bs a rest more e =
       let t = done-only bs a rest e in
       ap m (ap (λ l. l ++ more) (t .0) ∙ append-assoc (enc a) rest more) ∙ c .back a (t .1) (rest ++ more)
 
-  pub refused-stays : (bs more : List Bool) → m bs ≡ refused 4 → m (bs ++ more) ≡ refused 4
+  pub refused-stays : (bs more : List Bool) → m bs ≡ refused notAllowed → m (bs ++ more) ≡ refused notAllowed
   refused-stays bs more e =
-      let t : Told m (Exact enc P) bs (refused 4) = rw e at (c .only bs) in
-      ⊎-elim (λ p. absurd (omega (arith, p))) (λ p. p .1 more) t
+      let t : Told m (Exact enc P) bs (refused notAllowed) = rw e at (c .only bs) in
+      t more
 
-  -- bits that end before the value does are refused with 3
-  pub cut-short : (a : A) → P a → (xs ys : List Bool) → enc a ≡ xs ++ ys → 0 < length ys → m xs ≡ refused 3
+  -- bits that end before the value does have a field that passes the end
+  pub cut-short : (a : A) → P a → (xs ys : List Bool) → enc a ≡ xs ++ ys → 0 < length ys → m xs ≡ refused past
   cut-short a p xs ys e l = go (m xs) refl
     where
       whole : m (xs ++ ys) ≡ done a []
       whole = ap m (sym e ∙ sym (append-nil (enc a))) ∙ c .back a p []
 
-      go : (r : Parsed A) → m xs ≡ r → m xs ≡ refused 3
+      go : (r : Parsed A) → m xs ≡ r → m xs ≡ refused past
       go (done b rest) q =
           let h : length (rest ++ ys) ≡ 0 = ap (λ r. length (behind r)) (sym (done-stays xs b rest ys q) ∙ whole) in
           absurd (omega (arith, h, length-append rest ys))
-      go (refused r) q =
-          ⊎-elim
-          (λ h. q ∙ ap refused h)
-          (λ h. never (ap isDone whole) (ap isDone (refused-stays xs ys (q ∙ ap refused h))))
-          (refused-only xs r q)
+      go (refused past) q = q
+      go (refused notAllowed) q = never (ap isDone whole) (ap isDone (refused-stays xs ys q))

@@ -1,17 +1,16 @@
 -- The answer's number is that of the first refusal that holds.
-use mathlib.Core.Bool.{true, false}
+use mathlib.Core.Bool.{Bool, true, false, cond}
 use mathlib.Core.List.{List, [], _∷_, _++_}
 use mathlib.Core.Logic.{_↔_}
 use mathlib.Core.Path.{_≡_, refl, sym, ap, _∙_}
 use Prim.Native.Nat.{ℕ}
-use borrow.Author.Tests.{eqb-false}
+use borrow.Author.Tests.{eqb-true, eqb-false}
 use lib.Dec.{eqb}
-use lib.ListN.{take}
-use Rattle.lists.specs.Lists.{At, here, later, any, repeats}
-use Rattle.lists.specs.Tests.{by, or-false-left, or-false-right, any-not, at-in}
+use Rattle.lists.specs.Lists.{any, repeats}
+use Rattle.lists.specs.Tests.{by, never, or-false-left, or-false-right}
 use Rattle.definitions.specs.Answer.{Input, Refusal, reject, accept, firstRefusal}
 use Rattle.laws.specs.Alike.{first-passed}
-use Rattle.reading_laws.specs.Statements.{NoneHolds}
+use Rattle.reading_laws.specs.Statements.{NoneHolds, before, refusalOf}
 
 -- none of them has the number n
 abbrev pub NoneNumbered : ℕ → List Refusal → Type 0
@@ -52,26 +51,62 @@ numbered-rest r l d = record {
   apart = or-false-right (any (λ (q : Refusal). eqb (q .number) (r .number)) l) (repeats (λ (r q : Refusal). eqb (q .number) (r .number)) l) (d .apart);
 }
 
-other-number : (n : ℕ) {r : Refusal} {k : ℕ} {l : List Refusal} → At r k l → NoneNumbered n l → r .number ≡ n → ⊥
-other-number n {r} a h e = eqb-false (r .number) n (any-not (λ (q : Refusal). eqb (q .number) n) h (at-in a)) e
+-- the number n is answered exactly if its refusal holds and none before it does
+pub answered : (i : Input) (n : ℕ) (l : List Refusal) → eqb 0 n ≡ false → Numbered l →
+    (firstRefusal i l .answer .number ≡ n) ↔ (NoneHolds (before n l) × (refusalOf n l .holds tt ≡ true))
+unfolding firstRefusal accept
+answered i n [] z d = (λ e. absurd (eqb-false 0 n z e), λ h. never refl (sym (h .1)))
+answered i n (r ∷ l) z d = go (eqb (r .number) n) refl (answered i n l z (numbered-rest r l d))
+  where
+    passed : r .holds tt ≡ false → firstRefusal i (r ∷ l) .answer .number ≡ firstRefusal i l .answer .number
+    passed p = ap (λ o. o .answer .number) (first-passed i r l p)
 
--- the number of the refusal at place k is answered exactly if that one holds and none before it does
-pub answered : (i : Input) {k : ℕ} {r : Refusal} {l : List Refusal} → At r k l → Numbered l →
-    (firstRefusal i l .answer .number ≡ r .number) ↔ (NoneHolds (take k l) × (r .holds tt ≡ true))
-answered i {r = r} (here {l = l}) d = (
-  λ e.
-      by (r .holds tt)
-      (λ p. (tt, p))
-      (λ p. absurd (not-answered i (r .number) l (numbered-first r l d .0) (numbered-first r l d .1) (sym (ap (λ o. o .answer .number) (first-passed i r l p)) ∙ e))),
-  λ h. first-holds i r l (h .1),
-)
-answered i {r = r} (later {y = q} {l = l} a) d = (
-  λ e.
-      by (q .holds tt)
-      (λ p. absurd (other-number (q .number) a (numbered-first q l d .1) (sym e ∙ first-holds i q l p)))
-      (λ p. let t = answered i a (numbered-rest q l d) .0 (sym (ap (λ o. o .answer .number) (first-passed i q l p)) ∙ e) in ((p, t .0), t .1)),
-  λ h. ap (λ o. o .answer .number) (first-passed i q l (h .0 .0)) ∙ answered i a (numbered-rest q l d) .1 (h .0 .1, h .1),
-)
+    go : (b : Bool) → eqb (r .number) n ≡ b → (firstRefusal i l .answer .number ≡ n) ↔ (NoneHolds (before n l) × (refusalOf n l .holds tt ≡ true)) →
+        (firstRefusal i (r ∷ l) .answer .number ≡ n) ↔ (NoneHolds (cond b [] (r ∷ before n l)) × (cond b r (refusalOf n l) .holds tt ≡ true))
+    go true q ih =
+        let same = eqb-true (r .number) n q in (
+          λ e.
+              by (r .holds tt)
+              (λ p. (tt, p))
+              (λ p. absurd (not-answered i n l z (rw same at (numbered-first r l d .1)) (sym (passed p) ∙ e))),
+          λ h. first-holds i r l (h .1) ∙ same,
+        )
+    go false q ih = (
+      λ e.
+          by (r .holds tt)
+          (λ p. absurd (eqb-false (r .number) n q (sym (first-holds i r l p) ∙ e)))
+          (λ p. let t = ih .0 (sym (passed p) ∙ e) in ((p, t .0), t .1)),
+      λ h. passed (h .0 .0) ∙ ih .1 (h .0 .1, h .1),
+    )
+
+-- and then its refusal is the outcome
+pub rejected : (i : Input) (n : ℕ) (l : List Refusal) → NoneHolds (before n l) → refusalOf n l .holds tt ≡ true → firstRefusal i l ≡ reject i (refusalOf n l)
+rejected i n [] h e = never refl (sym e)
+rejected i n (r ∷ l) h e = go (eqb (r .number) n) h e (rejected i n l)
+  where
+    go : (b : Bool) → NoneHolds (cond b [] (r ∷ before n l)) → cond b r (refusalOf n l) .holds tt ≡ true →
+        (NoneHolds (before n l) → refusalOf n l .holds tt ≡ true → firstRefusal i l ≡ reject i (refusalOf n l)) →
+        firstRefusal i (r ∷ l) ≡ reject i (cond b r (refusalOf n l))
+    go true h e ih = Rattle.laws.specs.Alike.first-holds i r l e
+    go false h e ih = first-passed i r l (h .0) ∙ ih (h .1) e
+
+-- where none holds, that with the number n does not
+pub passed : (n : ℕ) (l : List Refusal) → NoneHolds l → refusalOf n l .holds tt ≡ false
+passed n [] h = refl
+passed n (r ∷ l) h = go (eqb (r .number) n) (passed n l (h .1))
+  where
+    go : (b : Bool) → refusalOf n l .holds tt ≡ false → cond b r (refusalOf n l) .holds tt ≡ false
+    go true e = h .0
+    go false e = e
+
+-- none of two lists holds, and so of either
+pub none-append : (l k : List Refusal) → NoneHolds l → NoneHolds k → NoneHolds (l ++ k)
+none-append [] k h g = g
+none-append (r ∷ l) k h g = (h .0, none-append l k (h .1) g)
+
+pub none-front : (l k : List Refusal) → NoneHolds (l ++ k) → NoneHolds l
+none-front [] k h = tt
+none-front (r ∷ l) k h = (h .0, none-front l k (h .1))
 
 -- 0 is answered exactly if none holds
 pub none-answered : (i : Input) (l : List Refusal) → any (λ (q : Refusal). eqb 0 (q .number)) l ≡ false → (firstRefusal i l .answer .number ≡ 0) ↔ NoneHolds l

@@ -11,15 +11,15 @@ use Rattle.lists.specs.Tests.{or-left}
 use Rattle.definitions.specs.Records.{Sheet}
 use Rattle.definitions.specs.Checks.{badFill}
 use Rattle.definitions.specs.Bits.{bitsOf, pack}
-use Rattle.definitions.specs.Parse.{done, refused}
+use Rattle.definitions.specs.Parse.{past, done, refused}
 use Rattle.definitions.specs.Reading.{sheet}
 use Rattle.definitions.specs.Legal.{Every, Legal}
 use Rattle.definitions.specs.Encoding.{sheetBits, encode}
 use Rattle.definitions.specs.Relisted.{Holds}
-use Rattle.reading_laws.specs.Statements.{NothingLegalIsRefused, NothingIllegalIsRead, HeldExactly, OneMap, ReadExactly, RefusedWith3Or4, FourStays}
+use Rattle.reading_laws.specs.Statements.{NothingLegalIsRefused, NothingIllegalIsRead, HeldExactly, OneMap, ReadExactly, FourStays}
 use Rattle.bits.specs.NumberLaws.{length-bitsOf, bitsOf-append, bitsOf-pack}
 use Rattle.reading_laws.specs.Packed.{length-pack, pack-bytes, fill, packed-only}
-use Rattle.reading_laws.specs.Parsers.{done-value, done-only, refused-only, done-stays, refused-stays, cut-short}
+use Rattle.reading_laws.specs.Parsers.{done-value, done-only, done-stays, refused-stays, cut-short}
 use Rattle.reading_laws.specs.Constructs.{sheet-codes}
 use Rattle.reading_laws.specs.Sizes.{sheet-size}
 use Rattle.reading_laws.specs.Rules.{none-set, fill-exactly, words-exactly, twice-exactly}
@@ -29,9 +29,6 @@ read-exactly bits s rest = (
   λ e. let t = done-only sheet-codes bits s rest e in (t .1, t .0),
   λ h. ap sheet (h .1) ∙ sheet-codes .back s (h .0) rest,
 )
-
-pub refused-with-3-or-4 : RefusedWith3Or4
-refused-with-3-or-4 bits r e = refused-only sheet-codes bits r e
 
 zeros-false : (n : ℕ) → Every (λ b. b ≡ false) (replicate n false)
 zeros-false zero = tt
@@ -91,7 +88,7 @@ begins (b ∷ x) w (c ∷ a) z e h =
     let q : a ++ z ≡ x ++ w = ap (λ l. drop 1 l) e in
     rw p (ap (λ l. b ∷ l) (begins x w a z q (omega arith)))
 
-pub cut-short-read : (s : Sheet) (k : ℕ) → Legal s → k < length (encode s) → sheet (bitsOf (take k (encode s))) ≡ refused 3
+pub cut-short-read : (s : Sheet) (k : ℕ) → Legal s → k < length (encode s) → sheet (bitsOf (take k (encode s))) ≡ refused past
 unfolding encode
 cut-short-read s k h l =
     let bs = sheetBits s in

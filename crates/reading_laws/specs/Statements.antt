@@ -1,22 +1,21 @@
 -- What is proved about reading a sheet and about the refusals. Each statement is a type of its own; its proof stands in the
 -- file that is named beside it.
-use mathlib.Core.Bool.{Bool, true, false}
+use mathlib.Core.Bool.{Bool, true, false, cond}
 use mathlib.Core.List.{List, [], _∷_, _++_}
-use mathlib.Core.Logic.{_⊎_, _↔_}
+use mathlib.Core.Logic.{_↔_}
 use mathlib.Core.Path.{_≡_}
 use Prim.Native.Nat.{ℕ, _*_, _≤_, _<_}
-use lib.Dec.{ltb}
-use lib.ListN.{length, take, drop}
-use Rattle.lists.specs.Lists.{At}
+use lib.Dec.{eqb, ltb}
+use lib.ListN.{length, take}
 use Rattle.definitions.specs.Records.{Sheet}
 use Rattle.definitions.specs.Bits.{bitsOf}
-use Rattle.definitions.specs.Parse.{Parsed, done, refused}
+use Rattle.definitions.specs.Parse.{past, notAllowed, done, refused}
 use Rattle.definitions.specs.Reading.{sheet}
 use Rattle.definitions.specs.Checks.{badFill, badWords, somethingTwice}
 use Rattle.definitions.specs.Legal.{Every, WithinLimits, GoodWords, NothingTwice, Legal}
 use Rattle.definitions.specs.Encoding.{sheetBits, encode}
 use Rattle.definitions.specs.Relisted.{Holds}
-use Rattle.definitions.specs.Answer.{Input, Refusal, refusedBy, restOf, sheetOf, refusals, firstRefusal, outcome}
+use Rattle.definitions.specs.Answer.{Input, refusedBy, restOf, sheetOf, Refusal, bare, lateRefusals, readIn, typeMapIn, sheetRefusals, refusals, firstRefusal, outcome}
 
 -- each is a byte
 abbrev pub Bytes : List ℕ → Type 0
@@ -47,13 +46,9 @@ OneMap = (s t : Sheet) → Legal s → Legal t → encode s ≡ encode t → s �
 abbrev pub ReadExactly : Type 0
 ReadExactly = (bits : List Bool) (s : Sheet) (rest : List Bool) → (sheet bits ≡ done s rest) ↔ (WithinLimits s × (bits ≡ sheetBits s ++ rest))
 
--- Reading refuses with 3 or 4 only.
-abbrev pub RefusedWith3Or4 : Type 0
-RefusedWith3Or4 = (bits : List Bool) (r : ℕ) → sheet bits ≡ refused r → (r ≡ 3) ⊎ (r ≡ 4)
-
--- More bits do not change a refusal 4: the first field that is not allowed decides (FORMAT 2.1).
+-- More bits make no value allowed that is not: the first field with a fault decides (FORMAT 2.1).
 abbrev pub FourStays : Type 0
-FourStays = (bits more : List Bool) → sheet bits ≡ refused 4 → sheet (bits ++ more) ≡ refused 4
+FourStays = (bits more : List Bool) → sheet bits ≡ refused notAllowed → sheet (bits ++ more) ≡ refused notAllowed
 
 -- ---- what 7, 5 and 6 test (Rules.antt)
 
@@ -75,19 +70,24 @@ TwiceExactly = (s : Sheet) → (somethingTwice s ≡ false) ↔ NothingTwice s
 abbrev pub NoneHolds : List Refusal → Type 0
 NoneHolds l = Every (λ (q : Refusal). q .holds tt ≡ false) l
 
--- Each exactly on its condition: the number at place k of the list of refusals is answered exactly if that one holds and none
--- before it does.
+-- the refusals before the one with the number n
+abbrev pub before : ℕ → List Refusal → List Refusal
+before n [] = []
+before n (r ∷ l) = cond (eqb (r .number) n) [] (r ∷ before n l)
+
+-- the refusal with the number n; where none has it, one that never holds
+abbrev pub refusalOf : ℕ → List Refusal → Refusal
+refusalOf n [] = bare n (λ u. false)
+refusalOf n (r ∷ l) = cond (eqb (r .number) n) r (refusalOf n l)
+
+-- Each exactly on its condition: a number other than 0 is answered exactly if its refusal holds and none before it does.
 abbrev pub EachOnItsCondition : Type 0
 EachOnItsCondition =
-    (i : Input) (k : ℕ) (r : Refusal) → At r k (refusals i) → (outcome i .answer .number ≡ r .number) ↔ (NoneHolds (take k (refusals i)) × (r .holds tt ≡ true))
+    (i : Input) (n : ℕ) → 0 < n → (outcome i .answer .number ≡ n) ↔ (NoneHolds (before n (refusals i)) × (refusalOf n (refusals i) .holds tt ≡ true))
 
 -- Acceptance exactly if none of the ten holds.
 abbrev pub AcceptedExactly : Type 0
 AcceptedExactly = (i : Input) → (outcome i .answer .number ≡ 0) ↔ NoneHolds (refusals i)
-
--- what reading the sheet of an input gives
-abbrev pub readOf : Input → Parsed Sheet
-readOf i = sheet (bitsOf (i .sheet))
 
 -- the tests, by their numbers
 abbrev pub test1 : Input → Bool
@@ -97,19 +97,19 @@ abbrev pub test2 : Input → Bool
 test2 i = ltb (length (i .diagnosis)) (6 * i .settings .rows)
 
 abbrev pub test3 : Input → Bool
-test3 i = refusedBy 3 (readOf i)
+test3 i = refusedBy past (readIn i)
 
 abbrev pub test4 : Input → Bool
-test4 i = refusedBy 4 (readOf i)
+test4 i = refusedBy notAllowed (readIn i)
 
 abbrev pub test7 : Input → Bool
-test7 i = badFill (restOf (readOf i))
+test7 i = badFill (restOf (readIn i))
 
 abbrev pub test5 : Input → Bool
-test5 i = badWords (sheetOf (readOf i) .words)
+test5 i = badWords (sheetOf (readIn i) .words)
 
 abbrev pub test6 : Input → Bool
-test6 i = somethingTwice (sheetOf (readOf i))
+test6 i = somethingTwice (sheetOf (readIn i))
 
 abbrev pub Passes : List Bool → Type 0
 Passes l = Every (λ b. b ≡ false) l
@@ -127,14 +127,26 @@ pub record ExactlyIf (i : Input) : Type 0 where
 abbrev pub FirstSevenExactly : Type 0
 FirstSevenExactly = (i : Input) → ExactlyIf i
 
+-- the tests before the order are passed with the sheet s: the bytes hold it, and the diagnosis slice has six bytes for each row
+pub record PastSeven (i : Input) (s : Sheet) : Type 0 where
+  pub held : Holds (i .sheet) s
+  pub lent : 6 * i .settings .rows ≤ length (i .diagnosis)
+
+-- They are passed with a sheet exactly if none of them holds.
+abbrev pub HeldPasses : Type 0
+HeldPasses = (i : Input) (s : Sheet) → PastSeven i s → NoneHolds (sheetRefusals i)
+
+abbrev pub PassedIsHeld : Type 0
+PassedIsHeld = (i : Input) → NoneHolds (sheetRefusals i) → PastSeven i (sheetOf (readIn i))
+
 -- A legal map passes the first seven tests, in each call that lends a diagnosis slice that is long enough: what it answers is
 -- decided by 8, 9 and 10.
 abbrev pub LegalPassesSeven : Type 0
-LegalPassesSeven = (i : Input) (s : Sheet) → Legal s → i .sheet ≡ encode s → 6 * i .settings .rows ≤ length (i .diagnosis) → outcome i ≡ firstRefusal i (drop 7 (refusals i))
+LegalPassesSeven = (i : Input) (s : Sheet) → Legal s → i .sheet ≡ encode s → 6 * i .settings .rows ≤ length (i .diagnosis) → outcome i ≡ firstRefusal i (lateRefusals i (typeMapIn i))
 
 -- And no other input does.
 abbrev pub OnlyLegalPassesSeven : Type 0
-OnlyLegalPassesSeven = (i : Input) → Bytes (i .sheet) → NoneHolds (take 7 (refusals i)) → (s : Sheet) × Legal s × (i .sheet ≡ encode s) × (6 * i .settings .rows ≤ length (i .diagnosis))
+OnlyLegalPassesSeven = (i : Input) → Bytes (i .sheet) → NoneHolds (sheetRefusals i) → (s : Sheet) × Legal s × (i .sheet ≡ encode s) × (6 * i .settings .rows ≤ length (i .diagnosis))
 
 -- A legal map's sheet that is cut short gives 3.
 abbrev pub CutShort : Type 0

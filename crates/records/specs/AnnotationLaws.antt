@@ -8,11 +8,11 @@ use borrow.Author.Tests.{le-leb, lt-leb}
 use lib.Dec.{eqb, leb}
 use lib.ListN.{length, getD, set, drop}
 use Rattle.lists.specs.Tabulating.{places-set, length-places}
-use Rattle.definitions.specs.Parse.{Parsed, done, refused, next, _>>=_, pure, refuse, choose, field, allowed, between, counted}
+use Rattle.definitions.specs.Parse.{notAllowed, Parsed, done, refused, next, _>>=_, pure, refuse, choose, field, allowed, between, counted}
 use Rattle.definitions.specs.Reading.{wordField, wordIfFlag, name, associated, associatedList, kinds, annotation}
 use Rattle.definitions.specs.Records.{Resource, AnnotationOf, associate, nestAssociate, alias, derive}
 use Rattle.fields.specs.ParseLaws.{counted-map}
-use Rattle.fields.specs.Fields.{ofNames, ofNamesRead}
+use Rattle.fields.specs.Fields.{faultOf, ofNames, ofNamesRead}
 use Rattle.fields.specs.declared.NamesRead.{NamesRead}
 use Rattle.records.specs.Annotations.{resourceOf, annotationAs, rowOfWord, rowOfTag, rowsFor, withKind, annotationOf, ofAnnotationRead, zeroAnnotation, ofAnnotations}
 use Rattle.records.specs.declared.Annotation.{Annotation}
@@ -42,7 +42,7 @@ associated-names W bs = counted-map resourceOf (name W) (associated W) (associat
 -- an annotation is its kind and the rows behind it
 pub annotation-rows : (W : ℕ) (oneWord : Bool) (bs : List Bool) →
     annotation W oneWord bs
-    ≡ next (between 3 0 6 bs) (λ kind. choose (eqb kind 2 && not oneWord) (refuse 4) (rowsFor W kind >>= λ rows. pure (annotationAs kind rows)))
+    ≡ next (between 3 0 6 bs) (λ kind. choose (eqb kind 2 && not oneWord) (refuse notAllowed) (rowsFor W kind >>= λ rows. pure (annotationAs kind rows)))
 unfolding annotation kinds allowed rowsFor annotationAs rowOfWord rowOfTag
 annotation-rows W oneWord bs = go (field 3 bs)
   where
@@ -57,15 +57,15 @@ annotation-rows W oneWord bs = go (field 3 bs)
     words f (refused r) = refl
 
     nests : (one : Bool) (rest : List Bool) →
-        choose one (associatedList W >>= λ rs. pure (nestAssociate rs)) (refuse 4) rest
-        ≡ choose (true && not one) (refuse 4) (counted 4 0 15 (name W) >>= λ rows. pure (nestAssociate (map resourceOf rows))) rest
+        choose one (associatedList W >>= λ rs. pure (nestAssociate rs)) (refuse notAllowed) rest
+        ≡ choose (true && not one) (refuse notAllowed) (counted 4 0 15 (name W) >>= λ rows. pure (nestAssociate (map resourceOf rows))) rest
     nests true rest = rw (associated-names W rest) (lists nestAssociate (counted 4 0 15 (name W) rest))
     nests false rest = refl
 
     at : (kind : ℕ) (rest : List Bool) →
-        getD (kinds W oneWord) kind (refuse 4) rest
-        ≡ next (choose (leb 0 kind && leb kind 6) (pure kind) (refuse 4) rest)
-        (λ kind. choose (eqb kind 2 && not oneWord) (refuse 4) (rowsFor W kind >>= λ rows. pure (annotationAs kind rows)))
+        getD (kinds W oneWord) kind (refuse notAllowed) rest
+        ≡ next (choose (leb 0 kind && leb kind 6) (pure kind) (refuse notAllowed) rest)
+        (λ kind. choose (eqb kind 2 && not oneWord) (refuse notAllowed) (rowsFor W kind >>= λ rows. pure (annotationAs kind rows)))
     at zero rest = refl
     at (suc zero) rest = rw (associated-names W rest) (lists associate (counted 4 0 15 (name W) rest))
     at (suc (suc zero)) rest = nests oneWord rest
@@ -77,9 +77,9 @@ annotation-rows W oneWord bs = go (field 3 bs)
         rw (lt-leb (suc (suc (suc (suc (suc (suc (suc k))))))) 6 (omega arith), le-leb 0 (suc (suc (suc (suc (suc (suc (suc k))))))) (omega arith))
 
     go : (x : Parsed ℕ) →
-        next x (λ kind. getD (kinds W oneWord) kind (refuse 4))
-        ≡ next (next x (λ kind. choose (leb 0 kind && leb kind 6) (pure kind) (refuse 4)))
-        (λ kind. choose (eqb kind 2 && not oneWord) (refuse 4) (rowsFor W kind >>= λ rows. pure (annotationAs kind rows)))
+        next x (λ kind. getD (kinds W oneWord) kind (refuse notAllowed))
+        ≡ next (next x (λ kind. choose (leb 0 kind && leb kind 6) (pure kind) (refuse notAllowed)))
+        (λ kind. choose (eqb kind 2 && not oneWord) (refuse notAllowed) (rowsFor W kind >>= λ rows. pure (annotationAs kind rows)))
     go (done kind rest) = at kind rest
     go (refused r) = refl
 
@@ -92,8 +92,8 @@ with-kind-is bs kind r x e = rw e (go (r .ok))
     a : AnnotationOf Resource
     a = annotationAs kind (ofNames (r .names))
 
-    go : (t : Bool) → cond t (done a (drop (r .next .at) bs)) (refused (r .refusal))
-        ≡ next (cond t (done (ofNames (r .names)) (drop (r .next .at) bs)) (refused (r .refusal))) (λ rows. pure (annotationAs kind rows))
+    go : (t : Bool) → cond t (done a (drop (r .next .at) bs)) (refused (faultOf (r .fault)))
+        ≡ next (cond t (done (ofNames (r .names)) (drop (r .next .at) bs)) (refused (faultOf (r .fault)))) (λ rows. pure (annotationAs kind rows))
     go true = refl
     go false = refl
 

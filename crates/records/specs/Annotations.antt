@@ -7,7 +7,7 @@ use Rattle.lists.specs.Tabulating.{places}
 use Rattle.definitions.specs.Parse.{Parsed, done, refused, Parser, _>>=_, pure, field, counted}
 use Rattle.definitions.specs.Reading.{wordField, name}
 use Rattle.definitions.specs.Records.{Resource, AnnotationOf, makeList, associate, nestAssociate, alias, inherit, derive, noDerive}
-use Rattle.fields.specs.Fields.{ofNames}
+use Rattle.fields.specs.Fields.{faultOf, ofNames}
 use Rattle.fields.specs.declared.NamesRead.{NamesRead}
 use Rattle.records.specs.declared.Annotation.{Annotation}
 use Rattle.records.specs.declared.AnnotationRead.{AnnotationRead}
@@ -56,7 +56,7 @@ rowsFor W kind =
 abbrev pub withKind : ℕ → NamesRead → AnnotationRead
 withKind kind r = record {
   ok = r .ok;
-  refusal = r .refusal;
+  fault = r .fault;
   next = r .next;
   annotation = record { kind = kind; count = r .names .count; words = r .names .first; doms = r .names .second };
 }
@@ -65,7 +65,7 @@ unfoldable pub annotationOf : Annotation → AnnotationOf Resource
 annotationOf a = annotationAs (a .kind) (ofNames (record { count = a .count; first = a .words; second = a .doms }))
 
 abbrev pub ofAnnotationRead : List Bool → AnnotationRead → Parsed (AnnotationOf Resource)
-ofAnnotationRead bs r = cond (r .ok) (done (annotationOf (r .annotation)) (drop (r .next .at) bs)) (refused (r .refusal))
+ofAnnotationRead bs r = cond (r .ok) (done (annotationOf (r .annotation)) (drop (r .next .at) bs)) (refused (faultOf (r .fault)))
 
 -- what stands past the end of an array of annotations
 abbrev pub zeroAnnotation : Annotation
@@ -75,4 +75,4 @@ unfoldable pub ofAnnotations : Annotations → List (AnnotationOf Resource)
 ofAnnotations t = places annotationOf zeroAnnotation (t .items) (t .count)
 
 abbrev pub ofAnnotationsRead : List Bool → AnnotationsRead → Parsed (List (AnnotationOf Resource))
-ofAnnotationsRead bs r = cond (r .ok) (done (ofAnnotations (r .annotations)) (drop (r .next .at) bs)) (refused (r .refusal))
+ofAnnotationsRead bs r = cond (r .ok) (done (ofAnnotations (r .annotations)) (drop (r .next .at) bs)) (refused (faultOf (r .fault)))

@@ -2,6 +2,7 @@
 use bits::Cursor;
 use bits::Read;
 use fields::ByteRead;
+use fields::Fault;
 use fields::Field;
 use fields::Name;
 use fields::Names;
@@ -29,10 +30,10 @@ pub struct Annotation {
     pub doms: [u8; 15],
 }
 
-// ok: the annotation and the cursor behind it. Else a refusal.
+// ok: the annotation and the cursor behind it. Else a fault.
 pub struct AnnotationRead {
     pub ok: bool,
-    pub refusal: usize,
+    pub fault: Fault,
     pub next: Cursor,
     pub annotation: Annotation,
 }
@@ -45,7 +46,7 @@ pub struct Annotations {
 
 pub struct AnnotationsRead {
     pub ok: bool,
-    pub refusal: usize,
+    pub fault: Fault,
     pub next: Cursor,
     pub annotations: Annotations,
 }
@@ -58,7 +59,7 @@ pub struct Mark {
 
 pub enum MarkRead {
     At(Mark, Cursor),
-    Refused(usize),
+    Refused(Fault),
 }
 
 // The first count marks.
@@ -70,7 +71,7 @@ pub struct Marks {
 
 pub struct MarksRead {
     pub ok: bool,
-    pub refusal: usize,
+    pub fault: Fault,
     pub next: Cursor,
     pub marks: Marks,
 }
@@ -88,7 +89,7 @@ fn one_row(w: u8, next: Cursor) -> NamesRead
     );
     NamesRead {
         ok: true,
-        refusal: 0,
+        fault: Fault::Past,
         next,
         names,
     }
@@ -131,7 +132,7 @@ fn read_rows(s: &[u8], c: Cursor, limit: usize, kind: usize) -> NamesRead
             let names = fields::no_names();
             NamesRead {
                 ok: true,
-                refusal: 0,
+                fault: Fault::Past,
                 next: c,
                 names,
             }
@@ -143,13 +144,14 @@ fn read_rows(s: &[u8], c: Cursor, limit: usize, kind: usize) -> NamesRead
 fn with_kind(kind: usize, r: NamesRead) -> AnnotationRead
     ensures { λ x. ⌜ x ≡ withKind kind r ⌝ }
 {
+    let fault = r.fault;
     let next = r.next;
     let t = r.names;
     let words = t.first;
     let doms = t.second;
     AnnotationRead {
         ok: r.ok,
-        refusal: r.refusal,
+        fault,
         next,
         annotation: Annotation {
             kind,
@@ -160,8 +162,8 @@ fn with_kind(kind: usize, r: NamesRead) -> AnnotationRead
     }
 }
 
-fn annotation_refused(r: usize) -> AnnotationRead
-    ensures { λ x. ⌜ (x .ok ≡ false) × (x .refusal ≡ r) ⌝ }
+fn annotation_refused(r: Fault) -> AnnotationRead
+    ensures { λ x. ⌜ (x .ok ≡ false) × (x .fault ≡ r) ⌝ }
 {
     let none = fields::names_refused(r);
     with_kind(0, none)
@@ -182,7 +184,7 @@ pub fn read_annotation(s: &[u8], c: Cursor, limit: usize, single: bool) -> Annot
     match fields::read_between(s, c, 3, 0, 6) {
         Field::At(kind, next) => {
             if is_nested_in_two(kind, single) {
-                return annotation_refused(4);
+                return annotation_refused(Fault::NotAllowed);
             }
             let rows = read_rows(s, next, limit, kind);
             with_kind(kind, rows)
@@ -206,13 +208,13 @@ pub fn no_annotations() -> Annotations
     }
 }
 
-fn annotations_refused(r: usize) -> AnnotationsRead
-    ensures { λ x. ⌜ (x .ok ≡ false) × (x .refusal ≡ r) ⌝ }
+fn annotations_refused(r: Fault) -> AnnotationsRead
+    ensures { λ x. ⌜ (x .ok ≡ false) × (x .fault ≡ r) ⌝ }
 {
     let annotations = no_annotations();
     AnnotationsRead {
         ok: false,
-        refusal: r,
+        fault: r,
         next: Cursor { at: 0 },
         annotations,
     }
@@ -241,13 +243,14 @@ fn read_each_annotation(
             annotations.count = i + 1;
             next = r.next;
         } else {
-            return annotations_refused(r.refusal);
+            let fault = r.fault;
+            return annotations_refused(fault);
         }
         left -= 1;
     }
     AnnotationsRead {
         ok: true,
-        refusal: 0,
+        fault: Fault::Past,
         next,
         annotations,
     }
@@ -279,7 +282,7 @@ pub fn read_mark(s: &[u8], c: Cursor) -> MarkRead
                 MarkRead::At(Mark { derive: 0, tag: 0 }, next)
             }
         }
-        Read::Past => MarkRead::Refused(3),
+        Read::Past => MarkRead::Refused(Fault::Past),
     }
 }
 
@@ -306,13 +309,13 @@ fn with_mark(t: Marks, m: Mark) -> Marks
     r
 }
 
-fn marks_refused(r: usize) -> MarksRead
-    ensures { λ x. ⌜ (x .ok ≡ false) × (x .refusal ≡ r) ⌝ }
+fn marks_refused(r: Fault) -> MarksRead
+    ensures { λ x. ⌜ (x .ok ≡ false) × (x .fault ≡ r) ⌝ }
 {
     let marks = no_marks();
     MarksRead {
         ok: false,
-        refusal: r,
+        fault: r,
         next: Cursor { at: 0 },
         marks,
     }
@@ -340,7 +343,7 @@ fn read_each_mark(s: &[u8], c: Cursor, n: usize) -> MarksRead
     }
     MarksRead {
         ok: true,
-        refusal: 0,
+        fault: Fault::Past,
         next,
         marks,
     }

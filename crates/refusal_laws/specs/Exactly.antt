@@ -1,11 +1,11 @@
 -- The tests 8, 9 and 10 by what is declared of an order and of a refused type, and so the numbers of both calls.
 use mathlib.Core.Bool.{Bool, true, false}
-use mathlib.Core.List.{List, [], _∷_}
 use mathlib.Core.Logic.{_⊎_, inl, inr, ⊎-elim, _↔_}
 use mathlib.Core.Path.{_≡_, sym, ap, ap₂, _∙_, subst}
-use Prim.Native.Nat.{ℕ, zero, suc, _≤_, _<_}
-use lib.ListN.{length, take}
-use Rattle.lists.specs.Lists.{here, later, null}
+use Prim.Native.Nat.{_≤_, _<_}
+use native.Mathlib.Omega.{arith}
+use lib.ListN.{length}
+use Rattle.lists.specs.Lists.{null}
 use Rattle.lists.specs.Tests.{by, never, not-so, null-nil, any-of}
 use Rattle.definitions.specs.Bits.{size}
 use Rattle.definitions.specs.Records.{Sheet}
@@ -13,7 +13,7 @@ use Rattle.definitions.specs.Map.{LineType, typeMapOf}
 use Rattle.definitions.specs.Order.{hasOrder}
 use Rattle.definitions.specs.Items.{ancestors}
 use Rattle.definitions.specs.Ancestry.{HasOrder}
-use Rattle.definitions.specs.Answer.{schedule, order, Input, Refusal, scheduleOf, bitsWritten, synthesisRows, refusals, typeMapIn, outcome}
+use Rattle.definitions.specs.Answer.{schedule, order, Input, sheetOf, scheduleOf, bitsWritten, synthesisRows, lateRefusals, readIn, typeMapIn, sheetRefusals, refusals, outcome}
 use Rattle.laws.specs.Comparisons.{names-once}
 use Rattle.laws.specs.Order.{order-exists}
 use Rattle.laws.specs.Alike.{map-read}
@@ -21,10 +21,11 @@ use Rattle.line_laws.specs.Statements.{Readable, lineMap, Accepted, isRefused, 
 use Rattle.line_laws.specs.Declarations.{type-of}
 use Rattle.line_laws.specs.Refused.{refused-is-tested, accepted-is-tested}
 use Rattle.synthesis_laws.specs.Rows.{rows-are-refusals}
-use Rattle.reading_laws.specs.Statements.{NoneHolds}
-use Rattle.reading_laws.specs.Answers.{each-on-its-condition, accepted-exactly, first-seven-exactly}
-use Rattle.refusal_laws.specs.Statements.{PastSeven, SomeRefused, NoneRefused, scheduleSize, orderSize, ScheduleAnswers, ScheduleOfSheet, OrderAnswers, OrderOfSheet, ScheduleExactly, OrderExactly}
-use Rattle.refusal_laws.specs.Late.{needed, rowless, past-seven, eight-tested, nine-tested, ten-tested, accepted-tested}
+use Rattle.reading_laws.specs.Statements.{NoneHolds, PastSeven, before}
+use Rattle.reading_laws.specs.Refusals.{none-front}
+use Rattle.reading_laws.specs.Answers.{each-on-its-condition, accepted-exactly, first-seven-exactly, passed-is-held}
+use Rattle.refusal_laws.specs.Statements.{SomeRefused, NoneRefused, scheduleSize, orderSize, ScheduleAnswers, ScheduleOfSheet, OrderAnswers, OrderOfSheet, ScheduleExactly, OrderExactly}
+use Rattle.refusal_laws.specs.Late.{needed, rowless, eight-tested, nine-tested, ten-tested, accepted-tested}
 
 -- ---- refused types
 
@@ -135,30 +136,26 @@ order-of-sheet i s c h =
 
 -- ---- every input
 
--- where none of the list holds, none of its first ones does
-first-ones : (k : ℕ) (l : List Refusal) → NoneHolds l → NoneHolds (take k l)
-first-ones zero l h = tt
-first-ones (suc k) [] h = tt
-first-ones (suc k) (r ∷ l) h = (h .0, first-ones k l (h .1))
-
--- what is answered by 8, 9, 10 or 0 has passed the first seven
+-- what is answered by 8, 9, 10 or 0 has passed the tests before the order
 module _ (i : Input) where
+  past-seven : NoneHolds (sheetRefusals i) → (s : Sheet) × PastSeven i s
+  past-seven h = (sheetOf (readIn i), passed-is-held i h)
+
   past-by-8 : outcome i .answer .number ≡ 8 → (s : Sheet) × PastSeven i s
   unfolding refusals
-  past-by-8 e = past-seven i (each-on-its-condition i 7 _ (later (later (later (later (later (later (later here))))))) .0 e .0)
+  past-by-8 e = past-seven (each-on-its-condition i 8 (omega arith) .0 e .0)
 
   past-by-9 : outcome i .answer .number ≡ 9 → (s : Sheet) × PastSeven i s
   unfolding refusals
-  past-by-9 e =
-      past-seven i (first-ones 7 (take 8 (refusals i)) (each-on-its-condition i 8 _ (later (later (later (later (later (later (later (later here)))))))) .0 e .0))
+  past-by-9 e = past-seven (none-front (sheetRefusals i) (before 9 (lateRefusals i (typeMapIn i))) (each-on-its-condition i 9 (omega arith) .0 e .0))
 
   past-by-10 : outcome i .answer .number ≡ 10 → (s : Sheet) × PastSeven i s
   unfolding refusals
-  past-by-10 e =
-      past-seven i (first-ones 7 (take 9 (refusals i)) (each-on-its-condition i 9 _ (later (later (later (later (later (later (later (later (later here))))))))) .0 e .0))
+  past-by-10 e = past-seven (none-front (sheetRefusals i) (before 10 (lateRefusals i (typeMapIn i))) (each-on-its-condition i 10 (omega arith) .0 e .0))
 
   past-by-0 : outcome i .answer .number ≡ 0 → (s : Sheet) × PastSeven i s
-  past-by-0 e = past-seven i (first-ones 7 (refusals i) (accepted-exactly i .0 e))
+  unfolding refusals
+  past-by-0 e = past-seven (none-front (sheetRefusals i) (lateRefusals i (typeMapIn i)) (accepted-exactly i .0 e))
 
 pub schedule-exactly : ScheduleExactly
 schedule-exactly i c =

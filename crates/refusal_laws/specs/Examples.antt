@@ -14,8 +14,8 @@ use Rattle.definitions.specs.Ancestry.{HasOrder}
 use Rattle.definitions.specs.Answer.{Call, schedule, order, Input, standard, restOf, outcome}
 use Rattle.definitions.specs.Relisted.{Holds}
 use Rattle.definitions.specs.Cases.{hex, lent, run}
-use Rattle.reading_laws.specs.Statements.{test1, test2, test3, test4, test5, test6, test7}
-use Rattle.refusal_laws.specs.Statements.{PastSeven, SomeRefused, NoneRefused, scheduleSize, orderSize, ScheduleExactlyIf, OrderExactlyIf}
+use Rattle.reading_laws.specs.Statements.{test1, test2, test3, test4, test5, test6, test7, PastSeven}
+use Rattle.refusal_laws.specs.Statements.{SomeRefused, NoneRefused, scheduleSize, orderSize, ScheduleExactlyIf, OrderExactlyIf}
 use Rattle.refusal_laws.specs.Exactly.{schedule-of-sheet, order-of-sheet, schedule-exactly, order-exactly}
 
 abbrev asked : Call → List ℕ → ℕ → ℕ → Input

@@ -2,7 +2,7 @@
 -- 10 by what is declared of an order and of a refused type. The proofs are in Exactly.antt.
 use mathlib.Core.Logic.{_↔_}
 use mathlib.Core.Path.{_≡_}
-use Prim.Native.Nat.{ℕ, _*_, _≤_, _<_}
+use Prim.Native.Nat.{ℕ, _≤_, _<_}
 use lib.ListN.{length}
 use Rattle.lists.specs.Lists.{In}
 use Rattle.definitions.specs.Bits.{size}
@@ -12,15 +12,9 @@ use Rattle.definitions.specs.Ancestry.{HasOrder}
 use Rattle.definitions.specs.Lines.{Refused}
 use Rattle.definitions.specs.Packing.{orderBits, scheduleBits}
 use Rattle.definitions.specs.Answer.{schedule, order, Input, scheduleOf, outcome}
-use Rattle.definitions.specs.Relisted.{Holds}
-use Rattle.reading_laws.specs.Statements.{ExactlyIf}
+use Rattle.reading_laws.specs.Statements.{ExactlyIf, PastSeven}
 
 -- ---- the conditions
-
--- the tests 1 to 7 are passed with the sheet s: the bytes hold it, and the diagnosis slice has six bytes for each row
-pub record PastSeven (i : Input) (s : Sheet) : Type 0 where
-  pub held : Holds (i .sheet) s
-  pub lent : 6 * i .settings .rows ≤ length (i .diagnosis)
 
 -- a type of the sheet is refused; none is
 abbrev pub SomeRefused : Sheet → Type 0

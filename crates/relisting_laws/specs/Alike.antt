@@ -13,6 +13,7 @@ use Rattle.lists.specs.Lists.{any, null}
 use Rattle.lists.specs.Tests.{by, never, not-so, same-test, null-nil, any-of, cons-elim}
 use Rattle.definitions.specs.Bits.{pack}
 use Rattle.definitions.specs.Records.{Sheet}
+use Rattle.definitions.specs.Parse.{past, notAllowed}
 use Rattle.definitions.specs.Checks.{badFill, badWords, somethingTwice}
 use Rattle.definitions.specs.Map.{TypeMap, typeMapOf}
 use Rattle.definitions.specs.Order.{hasOrder}
@@ -55,8 +56,8 @@ pub held-is-compared : HeldIsCompared
 held-is-compared i s h m =
     let x = first-seven-exactly i in
     cons-elim m (λ e. never (x .one .0 e) (not-long h))
-    (λ m. cons-elim m (λ e. never (x .three .0 e .1) (not-refused h 3))
-    (λ m. cons-elim m (λ e. never (x .four .0 e .1) (not-refused h 4))
+    (λ m. cons-elim m (λ e. never (x .three .0 e .1) (not-refused h past))
+    (λ m. cons-elim m (λ e. never (x .four .0 e .1) (not-refused h notAllowed))
     (λ m. cons-elim m (λ e. never (x .five .0 e .1) (good-words h))
     (λ m. cons-elim m (λ e. never (x .six .0 e .1) (nothing-twice h))
     (λ m. cons-elim m (λ e. never (x .seven .0 e .1) (not-filled h))
@@ -75,8 +76,8 @@ module _ (i : Input) (s : Sheet) (r : ReadTo (i .sheet) s) (c : Compared i) wher
   held two =
       let x = first-seven-exactly i in
       let one = compared-short in
-      let three : test3 i ≡ false = ap (refusedBy 3) (r .read) in
-      let four : test4 i ≡ false = ap (refusedBy 4) (r .read) in
+      let three : test3 i ≡ false = ap (refusedBy past) (r .read) in
+      let four : test4 i ≡ false = ap (refusedBy notAllowed) (r .read) in
       let seven : test7 i ≡ false = not-so (λ p. not-answered 7 refl (x .seven .1 ((one, (two, (three, (four, tt)))), p))) in
       let five : test5 i ≡ false = not-so (λ p. not-answered 5 refl (x .five .1 ((one, (two, (three, (four, (seven, tt))))), p))) in
       let six : test6 i ≡ false = not-so (λ p. not-answered 6 refl (x .six .1 ((one, (two, (three, (four, (seven, (five, tt)))))), p))) in

@@ -3,7 +3,7 @@ use mathlib.Core.Bool.{true}
 use mathlib.Core.List.{List, []}
 use mathlib.Core.Path.{_≡_, refl, sym, ap, _∙_, subst}
 use Prim.Native.Nat.{ℕ}
-use borrow.Author.Tests.{ltb-false, not-false}
+use borrow.Author.Tests.{not-false}
 use lib.ListN.{length, take, drop}
 use lib.Seq
 use Rattle.lists.specs.Lists.{null}
@@ -15,7 +15,7 @@ use Rattle.definitions.specs.Order.{hasOrder, lastPass, organizeTypeMap}
 use Rattle.definitions.specs.Packing.{orderBits, scheduleBits}
 use Rattle.definitions.specs.LegalSchedule.{LegalOrder, LegalSchedule}
 use Rattle.definitions.specs.Relisted.{Holds}
-use Rattle.definitions.specs.Answer.{Call, schedule, order, Input, Outcome, restOf, sheetOf, scheduleOf, bitsWritten, synthesisRows, refusals, accept, firstRefusal, typeMapIn, outcome}
+use Rattle.definitions.specs.Answer.{Call, schedule, order, Input, Outcome, sheetOf, scheduleOf, bitsWritten, synthesisRows, lateRefusals, readIn, typeMapIn, sheetRefusals, refusals, accept, firstRefusal, outcome}
 use Rattle.laws.specs.Statements.{WellNamed}
 use Rattle.laws.specs.Comparisons.{names-once}
 use Rattle.laws.specs.Order.{order-exists, order-is-by-round}
@@ -26,9 +26,9 @@ use Rattle.line_laws.specs.Lines.{items-are-lines}
 use Rattle.line_laws.specs.Once.{items-once}
 use Rattle.synthesis_laws.specs.Statements.{Ordered, MakesLines}
 use Rattle.synthesis_laws.specs.Rows.{rows-are-tested}
-use Rattle.reading_laws.specs.Statements.{NoneHolds, readOf}
-use Rattle.reading_laws.specs.Refusals.{all-pass}
-use Rattle.reading_laws.specs.Answers.{accepted-exactly, read-done}
+use Rattle.reading_laws.specs.Statements.{NoneHolds}
+use Rattle.reading_laws.specs.Refusals.{passed, none-front, all-pass}
+use Rattle.reading_laws.specs.Answers.{accepted-exactly, passed-is-held}
 use Rattle.schedule_laws.specs.Statements.{bytesWritten, BytesOf, OrderBytesOf, NamesInOrder, ListedExactly, OrderListedExactly, BytesHoldLines}
 use Rattle.schedule_laws.specs.OneToOne.{bytes-determine, order-bytes-determine}
 use Rattle.schedule_laws.specs.Written.{written-is-legal, written-order-is-legal}
@@ -64,32 +64,25 @@ module _ (i : Input) (e : outcome i .answer .number ≡ 0) where
   none = accepted-exactly i .0 e
 
   abbrev s : Sheet
-  s = sheetOf (readOf i)
+  s = sheetOf (readIn i)
 
   holds : Holds (i .sheet) s
   unfolding refusals
-  holds = record {
-    rest = restOf (readOf i);
-    short = ltb-false 40960 (length (i .sheet)) (none .0);
-    read = read-done (bitsOf (i .sheet)) (readOf i) refl (none .1 .1 .0) (none .1 .1 .1 .0);
-    fill = none .1 .1 .1 .1 .0;
-    words = none .1 .1 .1 .1 .1 .0;
-    once = none .1 .1 .1 .1 .1 .1 .0;
-  }
+  holds = passed-is-held i (none-front (sheetRefusals i) (lateRefusals i (typeMapIn i)) none) .held
 
   within : Within s
   within = read-is-within (bitsOf (i .sheet)) (holds .rest) s (holds .read)
 
   ordered : Ordered s
-  unfolding refusals
+  unfolding refusals typeMapIn
   ordered = record {
     readable = record { words = holds .words; once = holds .once };
-    order = not-false (hasOrder (typeMapOf s)) (none .1 .1 .1 .1 .1 .1 .1 .0);
+    order = not-false (hasOrder (typeMapOf s)) (passed 8 (refusals i) none);
   }
 
   no-rows : null (synthesisRows (i .call) (typeMapOf s)) ≡ true
-  unfolding refusals
-  no-rows = not-false (null (synthesisRows (i .call) (typeMapOf s))) (none .1 .1 .1 .1 .1 .1 .1 .1 .0)
+  unfolding refusals typeMapIn
+  no-rows = not-false (null (synthesisRows (i .call) (typeMapOf s))) (passed 9 (refusals i) none)
 
   accepts : outcome i ≡ accept i
   unfolding outcome refusals firstRefusal

@@ -9,6 +9,7 @@ use Rattle.lists.specs.Lists.{any}
 use Rattle.definitions.specs.Parse.{Parsed, done, refused, Parser, _>>=_, pure, allowed, counted}
 use Rattle.definitions.specs.Reading.{word, typeInfo, extension}
 use Rattle.definitions.specs.Records as records
+use Rattle.fields.specs.Fields.{faultOf}
 use Rattle.types.specs.Types.{ofTypes}
 use Rattle.types.specs.declared.Types.{Types}
 use Rattle.keys.specs.Keys.{ofKeys, keysIn, typeKeys}
@@ -29,7 +30,7 @@ lists = do
   pure (record { words = ws; types = ts; extensions = es })
 
 abbrev pub ofOpening : List Bool → Opening → Parsed ℕ
-ofOpening bs r = cond (eqb (r .refusal) 0) (done 1 (drop (r .next .at) bs)) (refused (r .refusal))
+ofOpening bs r = cond (r .ok) (done 1 (drop (r .next .at) bs)) (refused (faultOf (r .fault)))
 
 -- the types that were read
 abbrev pub typesIn : TypesRead → Types
@@ -40,7 +41,7 @@ abbrev pub namesIn : TypesRead → Keys
 namesIn r = keysIn (r .count) (r .first) (r .second) (r .word)
 
 abbrev pub ofTypesRead : List Bool → TypesRead → Parsed (List records.TypeInfo)
-ofTypesRead bs r = cond (r .ok) (done (ofTypes (typesIn r)) (drop (r .at) bs)) (refused (r .refusal))
+ofTypesRead bs r = cond (r .ok) (done (ofTypes (typesIn r)) (drop (r .at) bs)) (refused (faultOf (r .fault)))
 
 -- the names of the types, and whether one repeats something within itself
 pub record Noted (t : Types) (k : Keys) (twice : Bool) : Type 0 where

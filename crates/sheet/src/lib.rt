@@ -1,6 +1,7 @@
 // The parts of a sheet: its version, its types, and the fill behind its lists.
 use bits::Cursor;
 use bits::Read;
+use fields::Fault;
 use fields::Field;
 use types::TypeInfo;
 ghost use mathlib.Core.Bool.{true, false, _||_};
@@ -13,17 +14,18 @@ ghost use Rattle.definitions.specs.Checks.{badFill};
 ghost use Rattle.definitions.specs.Reading.{typeInfo};
 ghost use Rattle.sheet.specs.Sheets.{version, ofOpening, typesIn, namesIn, ofTypesRead, Noted};
 
-// What a sheet begins with: the cursor behind the version, or a refusal other than 0.
+// ok: the version is right, and the cursor is behind it. Else a fault.
 pub struct Opening {
-    pub refusal: usize,
+    pub ok: bool,
+    pub fault: Fault,
     pub next: Cursor,
 }
 
-// ok: the first count types as listed, and the place behind them. Else a refusal.
+// ok: the first count types as listed, and the place behind them. Else a fault.
 // Their names stand in arrays of their own too, with a word of 0 each; twice: a type repeats something within itself.
 pub struct TypesRead {
     pub ok: bool,
-    pub refusal: usize,
+    pub fault: Fault,
     pub at: usize,
     pub twice: bool,
     pub count: usize,
@@ -41,26 +43,35 @@ pub fn read_version(s: &[u8], c: Cursor) -> Opening
     match reader::read_at(s, c, 4) {
         Read::Value(v, next) => {
             if v == 1 {
-                Opening { refusal: 0, next }
+                Opening {
+                    ok: true,
+                    fault: Fault::Past,
+                    next,
+                }
             } else {
-                Opening { refusal: 4, next }
+                Opening {
+                    ok: false,
+                    fault: Fault::NotAllowed,
+                    next,
+                }
             }
         }
         Read::Past => Opening {
-            refusal: 3,
+            ok: false,
+            fault: Fault::Past,
             next: c,
         },
     }
 }
 
-// No type yet.
-fn no_types_read(c: Cursor) -> TypesRead
-    ensures { λ r. ⌜ (r .ok ≡ true) × (r .at ≡ c .at) × (r .count ≡ 0) × Noted (typesIn r) (namesIn r) (r .twice) ⌝ }
+// No type: none was read yet, or there is a fault.
+fn no_types_read(c: Cursor, ok: bool, fault: Fault) -> TypesRead
+    ensures { λ r. ⌜ (r .ok ≡ ok) × (r .fault ≡ fault) × (r .at ≡ c .at) × (r .count ≡ 0) × Noted (typesIn r) (namesIn r) (r .twice) ⌝ }
 {
     let info = types::no_type();
     TypesRead {
-        ok: true,
-        refusal: 0,
+        ok,
+        fault,
         at: c.at,
         twice: false,
         count: 0,
@@ -71,13 +82,10 @@ fn no_types_read(c: Cursor) -> TypesRead
     }
 }
 
-fn types_refused(r: usize) -> TypesRead
-    ensures { λ x. ⌜ (x .ok ≡ false) × (x .refusal ≡ r) × Noted (typesIn x) (namesIn x) (x .twice) ⌝ }
+fn types_refused(r: Fault) -> TypesRead
+    ensures { λ x. ⌜ (x .ok ≡ false) × (x .fault ≡ r) × Noted (typesIn x) (namesIn x) (x .twice) ⌝ }
 {
-    let mut read = no_types_read(Cursor { at: 0 });
-    read.ok = false;
-    read.refusal = r;
-    read
+    no_types_read(Cursor { at: 0 }, false, r)
 }
 
 fn either(a: bool, b: bool) -> bool
@@ -91,14 +99,13 @@ fn read_each_type(s: &[u8], c: Cursor, limit: usize, n: usize) -> TypesRead
     requires { ⌜ (length (now s) ≤ 40960) × (limit ≤ 255) × (n ≤ 64) ⌝ }
     ensures { λ r. ⌜ (ofTypesRead (bitsOf (now (s .entry))) r ≡ repeat (typeInfo limit) n (drop (c .at) (bitsOf (now (s .entry))))) × Noted (typesIn r) (namesIn r) (r .twice) ⌝ }
 {
-    let mut read = no_types_read(c);
+    let mut read = no_types_read(c, true, Fault::Past);
     let mut left = n;
     while 0 < left {
         let r = types::read_type(s, Cursor { at: read.at }, limit);
         if !r.ok {
-            read.ok = false;
-            read.refusal = r.refusal;
-            return read;
+            let fault = r.fault;
+            return types_refused(fault);
         }
         let x = r.info;
         let name = x.name;

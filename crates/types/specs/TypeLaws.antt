@@ -8,7 +8,7 @@ use borrow.Author.Tests.{le-leb, lt-leb}
 use lib.Dec.{eqb, leb}
 use lib.ListN.{length, getD, set}
 use Rattle.lists.specs.Tabulating.{places-set, length-places}
-use Rattle.definitions.specs.Parse.{Parsed, done, refused, next, _>>=_, pure, refuse, choose, field, allowed, between, flag}
+use Rattle.definitions.specs.Parse.{notAllowed, Parsed, done, refused, next, _>>=_, pure, refuse, choose, field, allowed, between, flag}
 use Rattle.definitions.specs.Reading.{name, variant, typeInfo}
 use Rattle.definitions.specs.Records.{Variant, domain, resource, other}
 use Rattle.definitions.specs.Records as records
@@ -26,16 +26,16 @@ unfolding variant allowed
 variant-number bs = go (field 2 bs)
   where
     at : (v : ℕ) (rest : List Bool) →
-        getD (pure domain ∷ pure resource ∷ pure other ∷ []) v (refuse 4) rest
-        ≡ next (choose (leb 0 v && leb v 2) (pure v) (refuse 4) rest) (λ v. pure (variantOf v))
+        getD (pure domain ∷ pure resource ∷ pure other ∷ []) v (refuse notAllowed) rest
+        ≡ next (choose (leb 0 v && leb v 2) (pure v) (refuse notAllowed) rest) (λ v. pure (variantOf v))
     at zero rest = refl
     at (suc zero) rest = refl
     at (suc (suc zero)) rest = refl
     at (suc (suc (suc v))) rest = rw (lt-leb (suc (suc (suc v))) 2 (omega arith), le-leb 0 (suc (suc (suc v))) (omega arith))
 
     go : (x : Parsed ℕ) →
-        next x (λ v. getD (pure domain ∷ pure resource ∷ pure other ∷ []) v (refuse 4))
-        ≡ next (next x (λ v. choose (leb 0 v && leb v 2) (pure v) (refuse 4))) (λ v. pure (variantOf v))
+        next x (λ v. getD (pure domain ∷ pure resource ∷ pure other ∷ []) v (refuse notAllowed))
+        ≡ next (next x (λ v. choose (leb 0 v && leb v 2) (pure v) (refuse notAllowed))) (λ v. pure (variantOf v))
     go (done v rest) = at v rest
     go (refused r) = refl
 

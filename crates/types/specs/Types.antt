@@ -9,7 +9,7 @@ use Rattle.definitions.specs.Parse.{Parsed, done, refused, Parser, _>>=_, pure,
 use Rattle.definitions.specs.Reading.{name, variant, annotation, mark}
 use Rattle.definitions.specs.Records.{Variant, domain, resource, other}
 use Rattle.definitions.specs.Records as records
-use Rattle.fields.specs.Fields.{nameOf, ofNames}
+use Rattle.fields.specs.Fields.{faultOf, nameOf, ofNames}
 use Rattle.records.specs.Annotations.{ofAnnotations}
 use Rattle.records.specs.Marks.{ofMarks}
 use Rattle.types.specs.declared.Head.{Head}
@@ -50,7 +50,7 @@ headingOf h = record { name = nameOf (h .name); variant = variantOf (h .variant)
 
 abbrev pub ofHeadRead : List Bool → HeadRead → Parsed Heading
 ofHeadRead bs (HeadRead.At h c) = done (headingOf h) (drop (c .at) bs)
-ofHeadRead bs (HeadRead.Refused r) = refused r
+ofHeadRead bs (HeadRead.Refused r) = refused (faultOf r)
 
 unfoldable pub typeInfoOf : TypeInfo → records.TypeInfo
 typeInfoOf t = record {
@@ -64,7 +64,7 @@ typeInfoOf t = record {
 }
 
 abbrev pub ofTypeInfoRead : List Bool → TypeInfoRead → Parsed records.TypeInfo
-ofTypeInfoRead bs r = cond (r .ok) (done (typeInfoOf (r .info)) (drop (r .next .at) bs)) (refused (r .refusal))
+ofTypeInfoRead bs r = cond (r .ok) (done (typeInfoOf (r .info)) (drop (r .next .at) bs)) (refused (faultOf (r .fault)))
 
 -- a type that is none yet: no parents, no annotations, no marks, and 255, which numbers no word, for its name
 abbrev pub noType : records.TypeInfo

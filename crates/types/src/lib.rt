@@ -2,6 +2,7 @@
 use bits::Cursor;
 use bits::Read;
 use fields::ByteRead;
+use fields::Fault;
 use fields::Field;
 use fields::Name;
 use fields::NameRead;
@@ -29,7 +30,7 @@ pub struct Head {
 
 pub enum HeadRead {
     At(Head, Cursor),
-    Refused(usize),
+    Refused(Fault),
 }
 
 pub struct TypeInfo {
@@ -42,10 +43,10 @@ pub struct TypeInfo {
     pub marks: Marks,
 }
 
-// ok: the type and the cursor behind it. Else a refusal.
+// ok: the type and the cursor behind it. Else a fault.
 pub struct TypeInfoRead {
     pub ok: bool,
-    pub refusal: usize,
+    pub fault: Fault,
     pub next: Cursor,
     pub info: TypeInfo,
 }
@@ -64,7 +65,7 @@ pub struct Extension {
 
 pub struct ExtensionRead {
     pub ok: bool,
-    pub refusal: usize,
+    pub fault: Fault,
     pub next: Cursor,
     pub extension: Extension,
 }
@@ -77,7 +78,7 @@ pub struct Extensions {
 
 pub struct ExtensionsRead {
     pub ok: bool,
-    pub refusal: usize,
+    pub fault: Fault,
     pub next: Cursor,
     pub extensions: Extensions,
 }
@@ -100,9 +101,9 @@ fn read_head(s: &[u8], c: Cursor, limit: usize) -> HeadRead
                         },
                         c4,
                     ),
-                    Read::Past => HeadRead::Refused(3),
+                    Read::Past => HeadRead::Refused(Fault::Past),
                 },
-                Read::Past => HeadRead::Refused(3),
+                Read::Past => HeadRead::Refused(Fault::Past),
             },
             Field::Refused(r) => HeadRead::Refused(r),
         },
@@ -131,13 +132,13 @@ pub fn no_type() -> TypeInfo
     }
 }
 
-fn type_refused(r: usize) -> TypeInfoRead
-    ensures { λ x. ⌜ (x .ok ≡ false) × (x .refusal ≡ r) ⌝ }
+fn type_refused(r: Fault) -> TypeInfoRead
+    ensures { λ x. ⌜ (x .ok ≡ false) × (x .fault ≡ r) ⌝ }
 {
     let info = no_type();
     TypeInfoRead {
         ok: false,
-        refusal: r,
+        fault: r,
         next: Cursor { at: 0 },
         info,
     }
@@ -150,19 +151,22 @@ fn read_body(s: &[u8], c: Cursor, limit: usize, h: Head) -> TypeInfoRead
 {
     let ps = fields::read_names(s, c, limit, 0, 8);
     if !ps.ok {
-        return type_refused(ps.refusal);
+        let fault = ps.fault;
+        return type_refused(fault);
     }
     let name = h.name;
     let single = name.second == 255;
     let c1 = ps.next;
     let aa = records::read_annotations(s, c1, limit, single);
     if !aa.ok {
-        return type_refused(aa.refusal);
+        let fault = aa.fault;
+        return type_refused(fault);
     }
     let c2 = aa.next;
     let ms = records::read_marks(s, c2);
     if !ms.ok {
-        return type_refused(ms.refusal);
+        let fault = ms.fault;
+        return type_refused(fault);
     }
     let parents = ps.names;
     let annotations = aa.annotations;
@@ -170,7 +174,7 @@ fn read_body(s: &[u8], c: Cursor, limit: usize, h: Head) -> TypeInfoRead
     let next = ms.next;
     TypeInfoRead {
         ok: true,
-        refusal: 0,
+        fault: Fault::Past,
         next,
         info: TypeInfo {
             name,
@@ -219,13 +223,13 @@ pub fn no_extension() -> Extension
     }
 }
 
-fn extension_refused(r: usize) -> ExtensionRead
-    ensures { λ x. ⌜ (x .ok ≡ false) × (x .refusal ≡ r) ⌝ }
+fn extension_refused(r: Fault) -> ExtensionRead
+    ensures { λ x. ⌜ (x .ok ≡ false) × (x .fault ≡ r) ⌝ }
 {
     let extension = no_extension();
     ExtensionRead {
         ok: false,
-        refusal: r,
+        fault: r,
         next: Cursor { at: 0 },
         extension,
     }
@@ -241,13 +245,14 @@ pub fn read_extension(s: &[u8], c: Cursor, limit: usize) -> ExtensionRead
             ByteRead::At(word, c2) => {
                 let ps = fields::read_names(s, c2, limit, 1, 8);
                 if !ps.ok {
-                    return extension_refused(ps.refusal);
+                    let fault = ps.fault;
+                    return extension_refused(fault);
                 }
                 let parents = ps.names;
                 let next = ps.next;
                 ExtensionRead {
                     ok: true,
-                    refusal: 0,
+                    fault: Fault::Past,
                     next,
                     extension: Extension {
                         name,
@@ -272,13 +277,13 @@ pub fn no_extensions() -> Extensions
     }
 }
 
-fn extensions_refused(r: usize) -> ExtensionsRead
-    ensures { λ x. ⌜ (x .ok ≡ false) × (x .refusal ≡ r) × (x .extensions .count ≡ 0) ⌝ }
+fn extensions_refused(r: Fault) -> ExtensionsRead
+    ensures { λ x. ⌜ (x .ok ≡ false) × (x .fault ≡ r) × (x .extensions .count ≡ 0) ⌝ }
 {
     let extensions = no_extensions();
     ExtensionsRead {
         ok: false,
-        refusal: r,
+        fault: r,
         next: Cursor { at: 0 },
         extensions,
     }
@@ -301,13 +306,14 @@ fn read_each_extension(s: &[u8], c: Cursor, limit: usize, n: usize) -> Extension
             extensions.count = i + 1;
             next = r.next;
         } else {
-            return extensions_refused(r.refusal);
+            let fault = r.fault;
+            return extensions_refused(fault);
         }
         left -= 1;
     }
     ExtensionsRead {
         ok: true,
-        refusal: 0,
+        fault: Fault::Past,
         next,
         extensions,
     }

@@ -2,6 +2,7 @@
 use bits::Cursor;
 use bits::Read;
 use fields::ByteRead;
+use fields::Fault;
 use fields::Field;
 ghost use mathlib.Core.Bool.{false, _&&_};
 ghost use mathlib.Core.List.{[], _∷_, _++_};
@@ -21,10 +22,10 @@ pub struct Word {
     pub bytes: [u8; 31],
 }
 
-// ok: the word and the cursor behind it. Else a refusal.
+// ok: the word and the cursor behind it. Else a fault.
 pub struct WordRead {
     pub ok: bool,
-    pub refusal: usize,
+    pub fault: Fault,
     pub next: Cursor,
     pub word: Word,
 }
@@ -37,7 +38,7 @@ pub struct Words {
 
 pub struct WordsRead {
     pub ok: bool,
-    pub refusal: usize,
+    pub fault: Fault,
     pub next: Cursor,
     pub words: Words,
 }
@@ -80,10 +81,10 @@ fn read_byte(s: &[u8], c: Cursor) -> ByteRead
             if is_word_byte(b) {
                 ByteRead::At(b as u8, next)
             } else {
-                ByteRead::Refused(4)
+                ByteRead::Refused(Fault::NotAllowed)
             }
         }
-        Read::Past => ByteRead::Refused(3),
+        Read::Past => ByteRead::Refused(Fault::Past),
     }
 }
 
@@ -108,13 +109,13 @@ fn with_byte(t: Word, b: u8) -> Word
     r
 }
 
-fn word_refused(r: usize) -> WordRead
-    ensures { λ x. ⌜ (x .ok ≡ false) × (x .refusal ≡ r) ⌝ }
+fn word_refused(r: Fault) -> WordRead
+    ensures { λ x. ⌜ (x .ok ≡ false) × (x .fault ≡ r) ⌝ }
 {
     let word = no_word();
     WordRead {
         ok: false,
-        refusal: r,
+        fault: r,
         next: Cursor { at: 0 },
         word,
     }
@@ -142,7 +143,7 @@ fn read_each_byte(s: &[u8], c: Cursor, n: usize) -> WordRead
     }
     WordRead {
         ok: true,
-        refusal: 0,
+        fault: Fault::Past,
         next,
         word,
     }
@@ -169,13 +170,13 @@ pub fn no_words() -> Words
     }
 }
 
-fn words_refused(r: usize) -> WordsRead
-    ensures { λ x. ⌜ (x .ok ≡ false) × (x .refusal ≡ r) × (x .words .count ≡ 0) ⌝ }
+fn words_refused(r: Fault) -> WordsRead
+    ensures { λ x. ⌜ (x .ok ≡ false) × (x .fault ≡ r) × (x .words .count ≡ 0) ⌝ }
 {
     let words = no_words();
     WordsRead {
         ok: false,
-        refusal: r,
+        fault: r,
         next: Cursor { at: 0 },
         words,
     }
@@ -198,13 +199,14 @@ fn read_each_word(s: &[u8], c: Cursor, n: usize) -> WordsRead
             words.count = i + 1;
             next = r.next;
         } else {
-            return words_refused(r.refusal);
+            let fault = r.fault;
+            return words_refused(fault);
         }
         left -= 1;
     }
     WordsRead {
         ok: true,
-        refusal: 0,
+        fault: Fault::Past,
         next,
         words,
     }

@@ -1,4 +1,4 @@
-use mathlib.Core.Path.{ap, ap₂, _∙_}
+use mathlib.Core.Path.{ap₂, _∙_}
 use borrow.Author.Needs.{needs}
 use Rattle.decoding.specs.Answers.{firstOf}
 use Rattle.decoding.specs.CodeLaws.{twice-is, answered}
@@ -23,17 +23,14 @@ refusal-of-requires c κs = search needs
 refusal-of-requires-2 : tie.Need-refusal-of-requires-2
 refusal-of-requires-2 c κs = search needs
 
-first-of-requires : tie.Need-first-of-requires
-first-of-requires c κs = search needs
-
 refusal-of-requires-3 : tie.Need-refusal-of-requires-3
 refusal-of-requires-3 c κs = search needs
 
-first-of-requires-2 : tie.Need-first-of-requires-2
-first-of-requires-2 c κs = search needs
+refusal-of-requires-4 : tie.Need-refusal-of-requires-4
+refusal-of-requires-4 c κs = search needs
 
-first-of-requires-3 : tie.Need-first-of-requires-3
-first-of-requires-3 c κs = search needs
+first-of-four-requires : tie.Need-first-of-four-requires
+first-of-four-requires c κs = search needs
 
 is-bad-fill-requires : tie.Need-is-bad-fill-requires
 is-bad-fill-requires c κs = search needs
@@ -47,20 +44,20 @@ is-something-twice-requires c κs = search needs
 refusal-behind-requires : tie.Need-refusal-behind-requires
 refusal-behind-requires c κs = search needs
 
-first-of-requires-4 : tie.Need-first-of-requires-4
-first-of-requires-4 c κs = search needs
+first-of-requires : tie.Need-first-of-requires
+first-of-requires c κs = search needs
 
 sort-by-name-requires : tie.Need-sort-by-name-requires
 sort-by-name-requires c κs = search needs
 
 returns : tie.Need-returns
 returns c =
-    let o = c .before .before .before .before .before .before .before .before .before .before .before .before .before .before .before .before .before .before .before .before .before .read-version in
-    let ws = c .before .before .before .before .before .before .before .before .before .before .before .before .before .before .before .before .before .before .before .before .read-words in
-    let ts = c .before .before .before .before .before .before .before .before .before .before .before .before .before .before .before .before .before .before .read-types in
-    let es = c .before .before .before .before .before .before .before .before .before .before .before .before .before .before .before .before .before .read-extensions in
-    let list = c .before .before .before .before .before .before .before .before .before .before .before .before .before .first-of .ensures ∙ ap₂ firstOf (c .before .before .before .before .before .before .before .before .before .before .before .before .before .before .before .refusal-of .ensures) (c .before .before .before .before .before .before .before .before .before .before .before .before .before .before .refusal-of2 .ensures) in
-    let unread = c .before .before .before .before .before .before .before .before .before .before .first-of3 .ensures ∙ ap (firstOf (o .result .refusal)) (c .before .before .before .before .before .before .before .before .before .before .before .first-of2 .ensures ∙ ap₂ firstOf (c .before .before .before .before .before .before .before .before .before .before .before .before .refusal-of3 .ensures) list) in
+    let o = c .before .before .before .before .before .before .before .before .before .before .before .before .before .before .before .before .before .before .before .before .read-version in
+    let ws = c .before .before .before .before .before .before .before .before .before .before .before .before .before .before .before .before .before .before .before .read-words in
+    let ts = c .before .before .before .before .before .before .before .before .before .before .before .before .before .before .before .before .before .read-types in
+    let es = c .before .before .before .before .before .before .before .before .before .before .before .before .before .before .before .before .read-extensions in
+    let lists = ap₂ firstOf (c .before .before .before .before .before .before .before .before .before .before .before .before .refusal-of3 .ensures) (c .before .before .before .before .before .before .before .before .before .before .before .refusal-of4 .ensures) in
+    let unread = c .before .before .before .before .before .before .before .before .before .before .first-of-four .ensures ∙ ap₂ firstOf (c .before .before .before .before .before .before .before .before .before .before .before .before .before .before .refusal-of .ensures) (ap₂ firstOf (c .before .before .before .before .before .before .before .before .before .before .before .before .before .refusal-of2 .ensures) lists) in
     let sp = c .before .before .before .before .before .before .before .before .spell in
     answered _ (o .result) (ws .result) (ts .result) (es .result) (o .ensures) (ws .ensures .0) (ts .ensures .0) (es .ensures .0)
     (c .before .before .before .before .before .before .before .before .before .is-bad-fill .result) (sp .result .bad) (c .before .before .before .before .is-something-twice .result)
@@ -68,8 +65,8 @@ returns c =
     (sp .ensures .bad)
     (c .before .before .before .before .is-something-twice .ensures ∙ twice-is _ (o .result) (ws .result) (ts .result) (es .result) (o .ensures) (ws .ensures .0) (ts .ensures .0) (es .ensures .0) (ts .ensures .1))
     (sp .result .resource) (sp .result .own) _ (sp .ensures .resource) (sp .ensures .own) (c .sort-by-name .ensures)
-    (c .before .before .first-of4 .result)
-    (c .before .before .first-of4 .ensures ∙ ap₂ firstOf unread (c .before .before .before .refusal-behind .ensures))
+    (c .before .before .first-of .result)
+    (c .before .before .first-of .ensures ∙ ap₂ firstOf unread (c .before .before .before .refusal-behind .ensures))
 
 pub decode-spec : {M : Type 1} → statement M
 decode-spec =
@@ -81,14 +78,13 @@ decode-spec =
     read-extensions-requires
     refusal-of-requires
     refusal-of-requires-2
-    first-of-requires
     refusal-of-requires-3
-    first-of-requires-2
-    first-of-requires-3
+    refusal-of-requires-4
+    first-of-four-requires
     is-bad-fill-requires
     spell-requires
     is-something-twice-requires
     refusal-behind-requires
-    first-of-requires-4
+    first-of-requires
     sort-by-name-requires
     returns)

@@ -8,7 +8,7 @@ use Rattle.definitions.specs.Bits.{bitsOf}
 use Rattle.definitions.specs.Parse.{repeatOnto, repeat}
 use Rattle.definitions.specs.Reading.{name}
 use Rattle.fields.specs.ParseLaws.{repeat-none, repeat-done, repeat-refused}
-use Rattle.fields.specs.Fields.{ofName, nameOf, ofNames}
+use Rattle.fields.specs.Fields.{faultOf, ofName, nameOf, ofNames}
 use Rattle.fields.proofs.read_each_name.Statement.{statement}
 use Rattle.fields.proofs.read_each_name.Tie as tie
 
@@ -48,7 +48,7 @@ returns c =
     let v = c .before .before .r .given in
     let bs = bitsOf (now (a .s)) in
     rw (c .names-refused .ensures .0, c .names-refused .ensures .1)
-    (sym (l .inv .1 ∙ repeat-refused (ofNames (l .names)) (name (a .limit)) (l .left) (drop (l .next .at) bs) (v .0 .0) (omega arith)
+    (sym (l .inv .1 ∙ repeat-refused (ofNames (l .names)) (name (a .limit)) (l .left) (drop (l .next .at) bs) (faultOf (v .0 .0)) (omega arith)
     (sym (c .before .before .before .before .read-name .ensures) ∙ ap (ofName bs) (v .1))))
 
 sub-left : tie.Need-sub-left Inv-loop μ-loop

@@ -10,6 +10,7 @@ use Rattle.definitions.specs.Parse.{repeatOnto, repeat}
 use Rattle.definitions.specs.Reading.{annotation}
 use Rattle.records.specs.Annotations.{annotationOf, ofAnnotations}
 use Rattle.records.specs.AnnotationLaws.{annotations-more}
+use Rattle.fields.specs.Fields.{faultOf}
 use Rattle.fields.specs.ParseLaws.{repeat-none, repeat-done, repeat-refused}
 use Rattle.records.proofs.read_each_annotation.Statement.{statement}
 use Rattle.records.proofs.read_each_annotation.Tie as tie
@@ -51,7 +52,7 @@ returns c =
     let r = c .before .before .read-annotation in
     let bs = bitsOf (now (a .s)) in
     rw (c .annotations-refused .ensures .0, c .annotations-refused .ensures .1)
-    (sym (l .inv .1 ∙ repeat-refused (ofAnnotations (l .annotations)) (annotation (a .limit) (a .single)) (l .left) (drop (l .next .at) bs) (r .result .refusal) (omega arith)
+    (sym (l .inv .1 ∙ repeat-refused (ofAnnotations (l .annotations)) (annotation (a .limit) (a .single)) (l .left) (drop (l .next .at) bs) (faultOf (r .result .fault)) (omega arith)
     (sym (r .ensures) ∙ rw (c .before .if1 .left) refl)))
 
 sub-left : tie.Need-sub-left Inv-loop μ-loop

@@ -8,6 +8,7 @@ use lib.ListN.{drop}
 use Rattle.definitions.specs.Parse.{repeatOnto, repeat}
 use Rattle.definitions.specs.Reading.{mark}
 use Rattle.records.specs.Marks.{markOf, ofMarkRead, ofMarks}
+use Rattle.fields.specs.Fields.{faultOf}
 use Rattle.fields.specs.ParseLaws.{repeat-none, repeat-done, repeat-refused}
 use Rattle.records.proofs.read_each_mark.Statement.{statement}
 use Rattle.records.proofs.read_each_mark.Tie as tie
@@ -48,7 +49,7 @@ returns c =
     let v = c .before .before .r .given in
     let bs = bitsOf (now (a .s)) in
     rw (c .marks-refused .ensures .0, c .marks-refused .ensures .1)
-    (sym (l .inv .1 ∙ repeat-refused (ofMarks (l .marks)) mark (l .left) (drop (l .next .at) bs) (v .0 .0) (omega arith)
+    (sym (l .inv .1 ∙ repeat-refused (ofMarks (l .marks)) mark (l .left) (drop (l .next .at) bs) (faultOf (v .0 .0)) (omega arith)
     (sym (c .before .before .before .before .read-mark .ensures) ∙ ap (ofMarkRead bs) (v .1))))
 
 sub-left : tie.Need-sub-left Inv-loop μ-loop

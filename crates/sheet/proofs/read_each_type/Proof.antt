@@ -12,6 +12,7 @@ use Rattle.definitions.specs.Parse.{repeatOnto, repeat}
 use Rattle.definitions.specs.Reading.{typeInfo}
 use Rattle.types.specs.Types.{typeInfoOf, ofTypes}
 use Rattle.types.specs.TypeLaws.{types-more}
+use Rattle.fields.specs.Fields.{faultOf}
 use Rattle.fields.specs.ParseLaws.{repeat-none, repeat-done, repeat-refused}
 use Rattle.sheet.specs.Sheets.{typesIn, namesIn, Noted}
 use Rattle.sheet.specs.SheetLaws.{noted-more, none-read}
@@ -42,24 +43,28 @@ loop-holds c =
     let f : length (c .no-types-read .result .first) ≡ 64 = search needs in
     let s : length (c .no-types-read .result .second) ≡ 64 = search needs in
     let w : length (c .no-types-read .result .word) ≡ 64 = search needs in
-    (e .0, omega (arith, e .2), rw (none-read (typesIn (c .no-types-read .result)) (e .2)) refl, e .3, i, f, s, w)
+    (e .0, omega (arith, e .3), rw (none-read (typesIn (c .no-types-read .result)) (e .3)) refl, e .4, i, f, s, w)
 
 read-type-requires : tie.Need-read-type-requires Inv-loop μ-loop
 read-type-requires c κs = search needs
 
+types-refused-requires : tie.Need-types-refused-requires Inv-loop μ-loop
+types-refused-requires c κs = search needs
+
 returns : tie.Need-returns Inv-loop μ-loop
 returns c =
-    let l = c .before .before .before .before .loop in
-    let e = c .before .before .before .before .before .no-types-read .ensures in
-    let a = c .before .before .before .before .before .before .before .args in
-    let r = c .before .before .read-type in
+    let l = c .before .before .before .before .before .loop in
+    let e = c .before .before .before .before .before .before .no-types-read .ensures in
+    let a = c .before .before .before .before .before .before .before .before .args in
+    let r = c .before .before .before .read-type in
     let bs = bitsOf (now (a .s)) in (
-      sym
-          (ap (λ (k : ℕ). repeat (typeInfo (a .limit)) (a .n) (drop k bs)) (sym (e .1))
+      rw (c .types-refused .ensures .0, c .types-refused .ensures .1)
+          (sym
+          (ap (λ (k : ℕ). repeat (typeInfo (a .limit)) (a .n) (drop k bs)) (sym (e .2))
           ∙ l .inv .2
-          ∙ repeat-refused (ofTypes (typesIn (l .read))) (typeInfo (a .limit)) (l .left) (drop (l .read .at) bs) (r .result .refusal) (omega arith)
-          (sym (r .ensures) ∙ rw (not-true (r .result .ok) (c .if1 .taken)) refl)),
-      l .inv .3,
+          ∙ repeat-refused (ofTypes (typesIn (l .read))) (typeInfo (a .limit)) (l .left) (drop (l .read .at) bs) (faultOf (r .result .fault)) (omega arith)
+          (sym (r .ensures) ∙ rw (not-true (r .result .ok) (c .before .if1 .taken)) refl))),
+      c .types-refused .ensures .2,
     )
 
 mul-x : tie.Need-mul-x Inv-loop μ-loop
@@ -122,7 +127,7 @@ returns-2 c =
     let bs = bitsOf (now (a .s)) in (
       rw (l .inv .0)
           (sym
-          (ap (λ (k : ℕ). repeat (typeInfo (a .limit)) (a .n) (drop k bs)) (sym (e .1))
+          (ap (λ (k : ℕ). repeat (typeInfo (a .limit)) (a .n) (drop k bs)) (sym (e .2))
           ∙ l .inv .2
           ∙ repeat-none (ofTypes (typesIn (l .read))) (typeInfo (a .limit)) (l .left) (drop (l .read .at) bs) (omega arith))),
       l .inv .3,
@@ -137,6 +142,7 @@ read-each-type-spec =
     no-types-read-requires
     loop-holds
     read-type-requires
+    types-refused-requires
     returns
     mul-x
     element-set-from-x

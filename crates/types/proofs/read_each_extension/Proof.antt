@@ -10,6 +10,7 @@ use Rattle.definitions.specs.Parse.{repeatOnto, repeat}
 use Rattle.definitions.specs.Reading.{extension}
 use Rattle.types.specs.Extensions.{extensionOf, ofExtensions}
 use Rattle.types.specs.TypeLaws.{extensions-more}
+use Rattle.fields.specs.Fields.{faultOf}
 use Rattle.fields.specs.ParseLaws.{repeat-none, repeat-done, repeat-refused}
 use Rattle.types.proofs.read_each_extension.Statement.{statement}
 use Rattle.types.proofs.read_each_extension.Tie as tie
@@ -51,7 +52,7 @@ returns c =
     let r = c .before .before .read-extension in
     let bs = bitsOf (now (a .s)) in (
       rw (c .extensions-refused .ensures .0, c .extensions-refused .ensures .1)
-          (sym (l .inv .1 ∙ repeat-refused (ofExtensions (l .extensions)) (extension (a .limit)) (l .left) (drop (l .next .at) bs) (r .result .refusal) (omega arith)
+          (sym (l .inv .1 ∙ repeat-refused (ofExtensions (l .extensions)) (extension (a .limit)) (l .left) (drop (l .next .at) bs) (faultOf (r .result .fault)) (omega arith)
           (sym (r .ensures) ∙ rw (c .before .if1 .left) refl))),
       omega (arith, c .extensions-refused .ensures .2),
     )

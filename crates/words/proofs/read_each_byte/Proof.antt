@@ -8,7 +8,7 @@ use lib.ListN.{drop}
 use Rattle.definitions.specs.Parse.{allowed, repeatOnto, repeat}
 use Rattle.definitions.specs.Reading.{isWordByte, word}
 use Rattle.words.specs.Words.{wordOf}
-use Rattle.fields.specs.Fields.{ofByte}
+use Rattle.fields.specs.Fields.{faultOf, ofByte}
 use Rattle.fields.specs.ParseLaws.{repeat-none, repeat-done, repeat-refused}
 use Rattle.words.proofs.read_each_byte.Statement.{statement}
 use Rattle.words.proofs.read_each_byte.Tie as tie
@@ -49,7 +49,7 @@ returns c =
     let v = c .before .before .r .given in
     let bs = bitsOf (now (a .s)) in
     rw (c .word-refused .ensures .0, c .word-refused .ensures .1)
-    (sym (l .inv .1 ∙ repeat-refused (wordOf (l .word)) (allowed 8 isWordByte) (l .left) (drop (l .next .at) bs) (v .0 .0) (omega arith)
+    (sym (l .inv .1 ∙ repeat-refused (wordOf (l .word)) (allowed 8 isWordByte) (l .left) (drop (l .next .at) bs) (faultOf (v .0 .0)) (omega arith)
     (sym (c .before .before .before .before .read-byte .ensures) ∙ ap (ofByte bs) (v .1))))
 
 sub-left : tie.Need-sub-left Inv-loop μ-loop

@@ -10,6 +10,7 @@ use Rattle.definitions.specs.Parse.{repeatOnto, repeat}
 use Rattle.definitions.specs.Reading.{word}
 use Rattle.words.specs.Words.{wordOf, ofWords}
 use Rattle.words.specs.WordLaws.{words-more}
+use Rattle.fields.specs.Fields.{faultOf}
 use Rattle.fields.specs.ParseLaws.{repeat-none, repeat-done, repeat-refused}
 use Rattle.words.proofs.read_each_word.Statement.{statement}
 use Rattle.words.proofs.read_each_word.Tie as tie
@@ -51,7 +52,7 @@ returns c =
     let r = c .before .before .read-word in
     let bs = bitsOf (now (a .s)) in (
       rw (c .words-refused .ensures .0, c .words-refused .ensures .1)
-          (sym (l .inv .1 ∙ repeat-refused (ofWords (l .words)) word (l .left) (drop (l .next .at) bs) (r .result .refusal) (omega arith)
+          (sym (l .inv .1 ∙ repeat-refused (ofWords (l .words)) word (l .left) (drop (l .next .at) bs) (faultOf (r .result .fault)) (omega arith)
           (sym (r .ensures) ∙ rw (c .before .if1 .left) refl))),
       omega (arith, c .words-refused .ensures .2),
     )
