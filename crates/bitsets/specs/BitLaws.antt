@@ -7,13 +7,13 @@ use Prim.Native.Nat.{ℕ, zero, suc, _+_, _-_, _/_, _%_, _^_, _≤_, _<_, min}
 use native.Mathlib.Nat.{pow-suc, eq-or-lt-of-le, le-of-suc-le-suc}
 use native.Mathlib.Omega.{arith}
 use borrow.Author.Tests.{eq-eqb, ne-eqb, eqb-true, eqb-false, ltb-true, ltb-false, lt-ltb, le-ltb}
-use lib.Bits.{bitAnd, bitXor, differ, and-step, xor-step, and-le-r}
+use lib.Bits.{bitAnd, and-step, and-le-r}
 use lib.Count.{trailingZeros, trailing-le}
 use lib.Dec.{eqb, ltb}
 use Rattle.lists.specs.Lists.{In}
 use Rattle.lists.specs.Tests.{by, never, any-in, any-of}
 use Rattle.rows.specs.Rows.{bit, hasBit}
-use Rattle.rows.specs.RowLaws.{bit-either, bit-none, bit-one}
+use Rattle.rows.specs.RowLaws.{bit-either, bit-without, bit-none, bit-one, bit-is}
 use Rattle.rows.specs.Next.{NextBit}
 use Rattle.rows.specs.NextLaws.{next-zeros}
 use Rattle.ordering.specs.Lists.{below, below-in, below-is, below-none}
@@ -22,23 +22,11 @@ use Rattle.bitsets.specs.Bitsets.{members, Lowest, Rest, more, less, fir
 -- ---- bits
 
 bit-lt : (n k : ℕ) → bit n k < 2
-bit-lt n zero = omega arith
-bit-lt n (suc k) = bit-lt (n / 2) k
+bit-lt n k = omega (arith, bit-is n k)
 
 bit-and : (a b k : ℕ) → bit (bitAnd a b) k ≡ min (bit a k) (bit b k)
 bit-and a b zero = omega (arith, and-step a b)
 bit-and a b (suc k) = let e : bitAnd a b / 2 ≡ bitAnd (a / 2) (b / 2) = omega (arith, and-step a b) in rw e (bit-and (a / 2) (b / 2) k)
-
-differ-lt : (x y : ℕ) → x < 2 → y < 2 → differ x y < 2
-differ-lt zero y p q = q
-differ-lt (suc x) zero p q = p
-differ-lt (suc x) (suc y) p q = differ-lt x y (omega arith) (omega arith)
-
-bit-xor : (a b k : ℕ) → bit (bitXor a b) k ≡ differ (bit a k) (bit b k)
-bit-xor a b zero = omega (arith, xor-step a b, differ-lt (a % 2) (b % 2) (omega arith) (omega arith))
-bit-xor a b (suc k) =
-    let e : bitXor a b / 2 ≡ bitXor (a / 2) (b / 2) = omega (arith, xor-step a b, differ-lt (a % 2) (b % 2) (omega arith) (omega arith)) in
-    rw e (bit-xor (a / 2) (b / 2) k)
 
 -- a digit is 0 or 1
 digit : {C : Type 0} (x : ℕ) → x < 2 → (x ≡ 0 → C) → (x ≡ 1 → C) → C
@@ -59,12 +47,8 @@ bit-both a b k =
 
 -- what stands in one and not in the other
 pub bit-less : (a b k : ℕ) → hasBit (less a b) k ≡ (hasBit a k && not (hasBit b k))
-unfolding hasBit less
-bit-less a b k =
-    rw (bit-xor a (bitAnd a b) k, bit-and a b k)
-    (digit (bit a k) (bit-lt a k)
-    (λ p. digit (bit b k) (bit-lt b k) (λ q. rw (p, q)) (λ q. rw (p, q)))
-    (λ p. digit (bit b k) (bit-lt b k) (λ q. rw (p, q)) (λ q. rw (p, q))))
+unfolding less
+bit-less a b k = bit-without a b k
 
 -- one more
 pub bit-more : (a j k : ℕ) → hasBit (more a j) k ≡ (hasBit a k || eqb j k)
@@ -107,12 +91,9 @@ bit-past (suc j) n (suc a) h k = bit-past j (n / 2) a (omega (arith, pow-suc 2 j
 -- ---- the lowest number
 
 -- a number with a bit is not 0
-bit-zero : (k : ℕ) → bit 0 k ≡ 0
-bit-zero zero = refl
-bit-zero (suc k) = bit-zero k
-
 above-zero : (x k : ℕ) → bit x k ≡ 1 → 0 < x
-above-zero zero k e = absurd (omega (arith, e, bit-zero k))
+unfolding hasBit
+above-zero zero k e = never (eq-eqb (bit 0 k) 1 e) (bit-none k)
 above-zero (suc x) k e = omega arith
 
 -- at the lowest bit k of x, and at every other

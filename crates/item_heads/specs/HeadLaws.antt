@@ -17,7 +17,7 @@ use Rattle.rows.specs.Rows.{hasBit}
 use Rattle.definitions.specs.Bits.{bit, odd, toBits}
 use Rattle.definitions.specs.Records.{Mark, makelistMark, deriveMark}
 use Rattle.definitions.specs.Packing as packing
-use Rattle.bits.specs.NumberLaws.{toBits-split, toBits-low}
+use Rattle.bits.specs.NumberLaws.{bit-lt, toBits-split, toBits-low}
 use Rattle.records.specs.Marks.{markAs, ofMarks}
 use Rattle.records.specs.declared.Marks.{Marks}
 use Rattle.types.specs.declared.TypeInfo.{TypeInfo}
@@ -46,17 +46,13 @@ bit-one : (b : Bool) → eqb (bit b) 1 ≡ b
 bit-one true = refl
 bit-one false = refl
 
-pub bit-small : (b : Bool) → bit b < 2
-bit-small true = omega arith
-bit-small false = omega arith
-
 pub head-is : (variant : ℕ) (virtual trait : Bool) (v t w n : ℕ) → v ≡ bit virtual → t ≡ bit trait → w ≡ variantBits variant → n ≤ 8
     → HeadIs variant virtual trait (w * 64 + v * 32 + t * 16 + n)
 unfolding isResourceHead virtualHead traitHead
 head-is variant virtual trait v t w n p q r few =
     let h = w * 64 + v * 32 + t * 16 + n in
-    let a : v < 2 = subst (λ x. x < 2) (sym p) (bit-small virtual) in
-    let b : t < 2 = subst (λ x. x < 2) (sym q) (bit-small trait) in
+    let a : v < 2 = subst (λ x. x < 2) (sym p) (bit-lt virtual) in
+    let b : t < 2 = subst (λ x. x < 2) (sym q) (bit-lt trait) in
     let c : w < 3 = subst (λ x. x < 3) (sym r) (variant-small variant) in
     let e : h / 64 ≡ w = omega arith in
     let f : h / 32 ≡ w * 2 + v = omega arith in

@@ -47,7 +47,7 @@ pub fn join(a: Field, b: Field) -> Field
     }
 }
 
-// The byte at i.
+// A byte as a number of 64 bits.
 fn wide(x: u8) -> u64
     ensures { λ r. ⌜ r ≡ x ⌝ }
 {

@@ -1,3 +1,4 @@
 pub mod Items
 pub mod WriterLaws
 pub mod SheetItems
+pub mod Instance

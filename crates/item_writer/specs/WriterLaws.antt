@@ -1,7 +1,7 @@
 -- Laws of the sets that the writer walks, and of the items that it adds one after the other.
 use mathlib.Core.Bool.{Bool, true, false, cond, _&&_, _||_, not, or-false, and-false, and-true}
-use mathlib.Core.List.{List, [], _∷_, _++_, map, append-nil, append-assoc, List·Memᴰ·head, List·Memᴰ·tail}
-use mathlib.Core.Path.{_≡_, refl, sym, ap, ap₂, _∙_, subst}
+use mathlib.Core.List.{List, [], _∷_, _++_, map, append-nil, List·Memᴰ·head, List·Memᴰ·tail}
+use mathlib.Core.Path.{_≡_, refl, sym, ap, ap₂, _∙_}
 use Prim.Native.Nat.{ℕ, zero, suc, _+_, _*_, _-_, _/_, _%_, _^_, _≤_, _<_}
 use native.Mathlib.Decide.{decLt}
 use native.Mathlib.Omega.{arith}
@@ -11,7 +11,7 @@ use lib.Dec.{eqb, ltb}
 use lib.ListN.{length, getD, drop, set, replicate, length-set}
 use lib.Seq.{getD-set-same, getD-set-other}
 use Rattle.lists.specs.Lists.{In, any, each}
-use Rattle.lists.specs.Tests.{by, never, not-so, same-test, and-left, and-right, and-both, any-in, any-of, any-none, or-elim}
+use Rattle.lists.specs.Tests.{by, never, not-so, and-left, and-right, and-both, any-in, any-of, any-none}
 use Rattle.lists.specs.Tabulating.{tabulate}
 use Rattle.lists.specs.Places.{zero-at}
 use Rattle.definitions.specs.Records.{Name}
@@ -21,21 +21,16 @@ use Rattle.rows.specs.Rows.{bit, hasBit}
 use Rattle.rows.specs.RowLaws.{bit-either, bit-without, bit-one, bit-none, bit-is, one-shifted}
 use Rattle.law_classes.specs.Numbers.{bit-both, some-bit}
 use Rattle.law_classes.specs.SetLaws.{below-of, in-below}
-use Rattle.catalogue.specs.Layout.{keyAt, headAt, parentsAt, ownAt, aboveAt, passedAt, wordAt, maskAt, extensionKeyAt, extensionCountAt}
+use Rattle.catalogue.specs.Layout.{keyAt, headAt, parentsAt, ownAt, aboveAt, passedAt, wordAt, maskAt, extensionKeyAt}
 use Rattle.catalogue.specs.Layout.{countIn, wordsIn, extensionsIn, extendedIn, resourceIn, secondAt}
 use Rattle.catalogue.specs.Catalogue.{addedIn, parentsIn}
 use Rattle.bitsets.specs.Bitsets.{Lowest, Rest}
 use Rattle.item_spread.specs.Spread.{United, WithIf}
 use Rattle.item_fields.specs.Fields.{lineBits}
-use Rattle.item_making.specs.declared.Making.{Making}
-use Rattle.item_making.specs.Making.{members, nameIn, firstIn, classesOf, Recorded, added, parentsOf, makingBits, madeBits}
+use Rattle.item_making.specs.Making.{members, nameIn, firstIn, classesOf, added, parentsOf, makingBits, madeBits}
 use Rattle.item_making.specs.Walks.{members-next, members-none, from-next, from-end}
 use Rattle.item_writer.specs.declared.Site.{Site}
-use Rattle.item_writer.specs.Items.{Sound, some, passes, passingIn, addedFor, ownBits, inheritedBits, RecordsAre, Sited, ownItems, inheritedItems, wordItems, makes, typeItems, allItems, PassingIs, WithRecord, WordsFill, Cleared, WordsAre}
-
-bit-lt : (n k : ℕ) → bit n k < 2
-bit-lt n zero = omega arith
-bit-lt n (suc k) = bit-lt (n / 2) k
+use Rattle.item_writer.specs.Items.{Sound, some, passes, passingIn, addedFor, ownBits, inheritedBits, RecordsAre, ownItems, inheritedItems, wordItems, makes, typeItems, allItems, PassingIs, WithRecord, WordsFill, Cleared, WordsAre}
 
 -- ---- sets
 
@@ -178,7 +173,7 @@ has-not x a e = ne-eqb (bit x a) 1 (λ q. absurd (omega (arith, q, e, bit-is x a
 
 pub has-so : (x a : ℕ) → (x / 2 ^ a % 2 ≡ 0 → ⊥) → hasBit x a ≡ true
 unfolding hasBit
-has-so x a n = eq-eqb (bit x a) 1 (omega (arith, bit-is x a, bit-lt x a, not-zero (x / 2 ^ a % 2) n))
+has-so x a n = eq-eqb (bit x a) 1 (omega (arith, bit-is x a, not-zero (x / 2 ^ a % 2) n))
   where
     not-zero : (y : ℕ) → (y ≡ 0 → ⊥) → 0 < y
     not-zero zero f = absurd (f refl)

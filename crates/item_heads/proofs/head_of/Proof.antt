@@ -1,7 +1,8 @@
 use mathlib.Core.Path.{sym, subst}
 use Prim.Native.Nat.{_<_}
 use native.Mathlib.Omega.{arith}
-use Rattle.item_heads.specs.HeadLaws.{variant-small, bit-small, head-is}
+use Rattle.item_heads.specs.HeadLaws.{variant-small, head-is}
+use Rattle.bits.specs.NumberLaws.{bit-lt}
 use borrow.Author.Needs.{needs}
 use Rattle.item_heads.proofs.head_of.Statement.{statement}
 use Rattle.item_heads.proofs.head_of.Tie as tie
@@ -10,8 +11,8 @@ use Rattle.item_heads.proofs.head_of.Tie as tie
 parts : (c : tie.After-variant-bits) → (c .variant-bits .result < 3) × (c .before .before .flag .result < 2) × (c .before .flag2 .result < 2)
 parts c = (
   subst (λ x. x < 3) (sym (c .variant-bits .ensures)) (variant-small (c .before .before .before .args .variant)),
-  subst (λ x. x < 2) (sym (c .before .before .flag .ensures)) (bit-small (c .before .before .before .args .is-virtual)),
-  subst (λ x. x < 2) (sym (c .before .flag2 .ensures)) (bit-small (c .before .before .before .args .is-trait)),
+  subst (λ x. x < 2) (sym (c .before .before .flag .ensures)) (bit-lt (c .before .before .before .args .is-virtual)),
+  subst (λ x. x < 2) (sym (c .before .flag2 .ensures)) (bit-lt (c .before .before .before .args .is-trait)),
 )
 
 flag-requires : tie.Need-flag-requires
