@@ -1,12 +1,10 @@
 -- What the functions that make an answer owe.
-use mathlib.Core.Bool.{Bool, false, not, _||_}
+use mathlib.Core.Bool.{Bool, false, _||_}
 use mathlib.Core.List.{List}
 use mathlib.Core.Path.{_≡_}
-use Prim.Native.Nat.{ℕ, _≤_, _<_, min}
+use Prim.Native.Nat.{ℕ, _≤_, _<_}
 use lib.Dec.{eqb}
 use lib.ListN.{length}
-use Rattle.lists.specs.Lists.{null}
-use Rattle.definitions.specs.Records.{Row}
 use Rattle.definitions.specs.Answer as rules
 use Rattle.definitions.specs.Answer.{Call, Outcome, outcome}
 use Rattle.answers.specs.declared.Answer.{Answer}
@@ -34,7 +32,3 @@ pub record Refuses (s : List ℕ) (room n : ℕ) : Type 0 where
 pub record Early (size room n : ℕ) : Type 0 where
   pub refused : 0 < n → (s : List ℕ) → length s ≡ size → Refuses s room n
   pub passed : n ≤ 0 → (size ≤ 40960) × (1536 ≤ room)
-
--- of so many rows the first 256 were counted; a type was refused exactly if there is one
-pub record RowsRefuse (count : ℕ) (r : Bool) : Type 0 where
-  pub exactly : (rows : List Row) → count ≡ min 256 (length rows) → r ≡ not (null rows)

@@ -1,5 +1,5 @@
 -- Laws of the answers and of the early tests.
-use mathlib.Core.Bool.{Bool, true, false, not, _||_, cond}
+use mathlib.Core.Bool.{Bool, true, false, _||_, cond}
 use mathlib.Core.List.{List, [], _∷_}
 use mathlib.Core.Path.{_≡_, refl, sym, ap, _∙_, subst}
 use Prim.Native.Nat.{ℕ, _≤_, _<_, min}
@@ -7,7 +7,6 @@ use native.Mathlib.Omega.{arith}
 use borrow.Author.Tests.{lt-ltb, le-ltb}
 use lib.Dec.{eqb, ltb}
 use lib.ListN.{length}
-use Rattle.lists.specs.Lists.{null}
 use Rattle.lists.specs.Tests.{by, never}
 use Rattle.definitions.specs.Records.{Row}
 use Rattle.definitions.specs.Legal.{Every}
@@ -16,7 +15,7 @@ use Rattle.definitions.specs.Answer.{Input, Outcome, Refusal, bare, short, refu
 use Rattle.laws.specs.Alike.{first-holds, first-passed}
 use Rattle.answers.specs.declared.Answer.{Answer}
 use Rattle.answers.specs.Answers.{parts, answerOf, caseOf, Answered, inputOf}
-use Rattle.answers.specs.Telling.{hasParts, Tells, Refuses, Early, RowsRefuse}
+use Rattle.answers.specs.Telling.{hasParts, Tells, Refuses, Early}
 use Rattle.answers.specs.Statements.{OneAnswer, EachHasItsCase}
 
 -- ---- cases
@@ -159,12 +158,3 @@ module _ (size room : ℕ) where
 
   pub neither : size ≤ 40960 → 1536 ≤ room → Early size room 0
   neither h g = record { refused = λ q. absurd (omega (arith, q)); passed = λ _. (h, g) }
-
--- ---- rows
-
-pub rows-refuse : (count : ℕ) → RowsRefuse count (ltb 0 count)
-rows-refuse count = record { exactly = go }
-  where
-    go : (rows : List Row) → count ≡ min 256 (length rows) → ltb 0 count ≡ not (null rows)
-    go [] e = le-ltb 0 count (omega (arith, e))
-    go (x ∷ rows) e = lt-ltb 0 count (omega (arith, e))

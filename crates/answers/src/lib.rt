@@ -2,7 +2,7 @@
 ghost use mathlib.Core.Bool.{false, cond};
 ghost use mathlib.Core.Path.{_≡_};
 ghost use Rattle.answers.specs.Answers.{parts};
-ghost use Rattle.answers.specs.Telling.{hasParts, Tells, Early, RowsRefuse};
+ghost use Rattle.answers.specs.Telling.{hasParts, Tells, Early};
 
 // The most bytes of a sheet.
 pub const SHEET: usize = 40960;
@@ -44,13 +44,6 @@ pub fn no_order(rows: usize, more: bool) -> Answer
     ensures { λ r. ⌜ Tells r (parts 8 0 rows more) ⌝ }
 {
     Answer::Diagnosed(8, rows, more)
-}
-
-// Whether a synthesis that left so many rows has refused a type.
-pub fn rows_refuse(rows: usize) -> bool
-    ensures { λ r. ⌜ RowsRefuse rows r ⌝ }
-{
-    0 < rows
 }
 
 // 9, with a report's rows and flag.

@@ -16,7 +16,7 @@ use Rattle.dedup.specs.declared.Entry.{Entry}
 use Rattle.ordering.specs.Lists.{tab-length}
 use Rattle.ordering.specs.Reading.{Parent, parentAt, howMany, listed}
 use Rattle.ordering.specs.declared.Parents.{Parents}
-use Rattle.ancestry.specs.Rows.{ParentsBelow}
+use Rattle.parent_laws.specs.Placed.{ParentsBelow}
 use Rattle.handing.specs.Handing.{FromParents}
 
 -- one number less

@@ -44,7 +44,7 @@ use Rattle.ordering.specs.Lists as lists
 use Rattle.ordering.specs.Lists.{tab, map-tab}
 use Rattle.ordering.specs.Reading.{Parent, parentAt, howMany, listed, noType, typeAt}
 use Rattle.ordering.specs.declared.Parents.{Parents}
-use Rattle.ancestry.specs.Gathering.{parent-below}
+use Rattle.parent_laws.specs.Listed.{parent-below}
 use Rattle.held_map.specs.HeldMap.{HeldMap}
 use Rattle.held_laws.specs.HeldLaws.{count-parents, type-at, type-in, parents-below, parents-are, names-ascend}
 use Rattle.held_laws.specs.Limits.{type-fits}

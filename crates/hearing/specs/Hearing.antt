@@ -8,7 +8,7 @@ use Rattle.rows.specs.Rows.{hasBit}
 use Rattle.ordering.specs.Lists.{tab}
 use Rattle.ordering.specs.Reading.{howMany}
 use Rattle.ordering.specs.declared.Parents.{Parents}
-use Rattle.ancestry.specs.Gathering.{parent}
+use Rattle.parent_laws.specs.Listed.{parent}
 use Rattle.hearing.specs.declared.Flags.{Flags}
 
 -- listing i of type t hands on

@@ -6,7 +6,7 @@ ghost use mathlib.Core.Path.{_≡_};
 ghost use Prim.Native.Nat.{_<_};
 ghost use Rattle.rows.specs.Rows.{hasBit};
 ghost use Rattle.ordering.specs.Reading.{Valid};
-ghost use Rattle.ancestry.specs.Rows.{ParentsBelow};
+ghost use Rattle.parent_laws.specs.Placed.{ParentsBelow};
 ghost use Rattle.hearing.specs.Hearing.{WithFlag, FlagsOf, WithOk};
 
 // Bit i is set if listing i hands on; `all` if each does.

@@ -28,8 +28,8 @@ use Rattle.ordering.specs.Names.{whole-order, no-self, named-yes}
 use Rattle.ordering.specs.Organized.{placesIn, Organized}
 use Rattle.ordering.specs.declared.Parents.{Parents}
 use Rattle.ordering.specs.declared.Order.{Order}
-use Rattle.ancestry.specs.Rows.{ParentsBelow, Ordered}
-use Rattle.ancestry.specs.Earlier.{all-below}
+use Rattle.parent_laws.specs.Placed.{ParentsBelow, Ordered}
+use Rattle.parent_laws.specs.Earlier.{all-below}
 use Rattle.held_map.specs.HeldMap.{HeldMap}
 
 module _ (s : Sheet) (ts : Types) (es : Extensions) (p : Parents) (h : HeldMap s ts es p) where

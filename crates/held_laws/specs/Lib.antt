@@ -1,4 +1,3 @@
 pub mod HeldLaws
 pub mod Limits
-pub mod Given
 pub mod Instance

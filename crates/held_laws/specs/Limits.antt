@@ -1,7 +1,7 @@
 -- The limits that the types and the extensions of a held map keep to, in the form in which the functions over them require them.
-use mathlib.Core.Bool.{Bool, true, false, _&&_, _||_, cond}
-use mathlib.Core.List.{List, [], _∷_, List·Memᴰ·head}
-use mathlib.Core.Logic.{_⊎_, inl, inr, ⊎-elim}
+use mathlib.Core.Bool.{Bool, false, _||_, cond}
+use mathlib.Core.List.{List, [], _∷_, map, List·Memᴰ·head}
+use mathlib.Core.Logic.{_⊎_, inl, inr}
 use mathlib.Core.Path.{_≡_, refl, sym, ap, _∙_, subst}
 use Prim.Native.Nat.{ℕ, _≤_, _<_}
 use native.Mathlib.Omega.{arith}
@@ -10,16 +10,14 @@ use lib.Dec.{eqb}
 use lib.ListN.{length, getD}
 use Rattle.lists.specs.Lists.{In, any, repeats}
 use Rattle.lists.specs.Tests.{by, or-false-left, or-false-right, any-not}
-use Rattle.lists.specs.Tabulating.{length-tabulate, length-places, places-in, tabulate-in}
-use Rattle.definitions.specs.Records.{Name, Resource, Sheet}
+use Rattle.lists.specs.Tabulating.{tabulate, map-tabulate, length-tabulate, length-places, places-in, tabulate-in}
+use Rattle.definitions.specs.Records.{Resource, Sheet}
 use Rattle.definitions.specs.Records as records
-use Rattle.definitions.specs.Comparisons.{sameName}
 use Rattle.definitions.specs.Checks.{resourcesOf, namesTwice, keysTwice, wordsTwice, annotationsTwice, somethingTwice}
 use Rattle.definitions.specs.Map.{typeMapOf}
-use Rattle.line_laws.specs.Within.{WordsWithin, NameWithin, ResourceWithin, AnnotationWithin, TypeWithin, ExtensionWithin}
-use Rattle.fields.specs.Fields.{optional, twoWords, nameOf, ofNames}
-use Rattle.fields.specs.declared.Name as fields
-use Rattle.records.specs.Annotations.{annotationOf, zeroAnnotation, ofAnnotations}
+use Rattle.line_laws.specs.Within.{WordsWithin, ResourceWithin, AnnotationWithin, TypeWithin, ExtensionWithin}
+use Rattle.fields.specs.Fields.{optional, twoWords, ofNames}
+use Rattle.records.specs.Annotations.{resourceOf, annotationAs, annotationOf, zeroAnnotation, ofAnnotations}
 use Rattle.records.specs.Marks.{markAs, ofMarks}
 use Rattle.records.specs.declared.Annotation.{Annotation}
 use Rattle.types.specs.Types.{typeInfoOf, zeroType}
@@ -30,8 +28,6 @@ use Rattle.types.specs.declared.Extension.{Extension}
 use Rattle.types.specs.declared.Extensions.{Extensions}
 use Rattle.ordering.specs.Reading.{typeAt}
 use Rattle.ordering.specs.declared.Parents.{Parents}
-use Rattle.giving.specs.Giving.{counted, listedAt}
-use Rattle.giving.specs.GivingLaws.{counts-yes, few, annotations-few}
 use Rattle.own_associates.specs.Associates.{DomFits, AssociateRead}
 use Rattle.own_associates.specs.Owning.{IsOne, AllFit}
 use Rattle.held_map.specs.HeldMap.{HeldMap}
@@ -73,21 +69,22 @@ optional-fits d a b w =
           (λ e. inr (w .below d (subst (λ (c : Bool). In d (cond c [] (d ∷ []))) (sym e) (List·Memᴰ·head refl))));
     }
 
--- the words of a name
-pub record NameFits (n : fields.Name) : Type 0 where
-  pub first : n .first < 200
-  pub second : DomFits (n .second)
+-- ---- an annotation in the code
 
-pub name-fits : (n : fields.Name) → NameWithin 200 (nameOf n) → NameFits n
-name-fits n w =
-    record {
-      first = w .below (n .first) (List·Memᴰ·head refl);
-      second = optional-fits (n .second) 0 1 (record {
-        least = omega arith;
-        most = omega (arith, w .most);
-        below = λ x i. w .below x (mathlib.Core.List.List·Memᴰ·tail i);
-      });
-    }
+-- the resource that an annotation lists at i
+abbrev listedAt : Annotation → ℕ → Resource
+listedAt a i = record { word = getD (a .words) i 0; dom = optional (getD (a .doms) i 0) }
+
+kind-lists : (kind : ℕ) (rows : List (List ℕ)) → (kind ≡ 1) ⊎ (kind ≡ 2) → resourcesOf (annotationAs kind rows) ≡ map resourceOf rows
+unfolding annotationAs
+kind-lists kind rows (inl e) = rw e refl
+kind-lists kind rows (inr e) = rw e refl
+
+associate-lists : (a : Annotation) → IsOne a → resourcesOf (annotationOf a) ≡ tabulate (listedAt a) (a .count)
+unfolding annotationOf ofNames
+associate-lists a k =
+    kind-lists (a .kind) (ofNames (record { count = a .count; first = a .words; second = a .doms })) k
+    ∙ map-tabulate resourceOf (λ i. twoWords (getD (a .words) i 0) (getD (a .doms) i 0)) (a .count)
 
 -- ---- a type in the code
 
@@ -100,9 +97,9 @@ module _ (x : TypeInfo) (w : TypeWithin 200 (typeInfoOf x)) where
   unfolding typeInfoOf ofMarks
   marks-few = omega (arith, w .marks, length-tabulate (λ i. markAs (getD (x .marks .derives) i 0) (getD (x .marks .tags) i 0)) (x .marks .count))
 
-  pub name-of-type : NameFits (x .name)
-  unfolding typeInfoOf
-  name-of-type = name-fits (x .name) (w .name)
+  pub annotations-few : x .annotations .count ≤ 12
+  unfolding typeInfoOf ofAnnotations
+  annotations-few = omega (arith, w .annotations, length-places annotationOf zeroAnnotation (x .annotations .items) (x .annotations .count))
 
   pub annotation-in : (i : ℕ) → i < x .annotations .count → In (annotationOf (getD (x .annotations .items) i zeroAnnotation)) (typeInfoOf x .annotations)
   unfolding typeInfoOf ofAnnotations
@@ -112,7 +109,7 @@ module _ (x : TypeInfo) (w : TypeWithin 200 (typeInfoOf x)) where
   pub all-fit : any (λ (a : records.Annotation). repeats (λ (u v : Resource). eqb (u .word) (v .word)) (resourcesOf a)) (typeInfoOf x .annotations) ≡ false → AllFit x
   all-fit once =
       record {
-        few = annotations-few x w;
+        few = annotations-few;
         each = λ i l.
             let a = getD (x .annotations .items) i zeroAnnotation in
             let j = annotation-in i l in
@@ -122,17 +119,13 @@ module _ (x : TypeInfo) (w : TypeWithin 200 (typeInfoOf x)) where
             };
       }
     where
-      counted-one : (a : Annotation) → IsOne a → counted true (a .kind) ≡ true
-      counted-one a k = ⊎-elim (λ e. rw e) (λ e. rw e) k
-
       associate-read : (a : Annotation) → IsOne a → AnnotationWithin 200 (annotationOf a) → AssociateRead a
       associate-read a k v =
-          let c = counted-one a k in
           let q : (i : ℕ) → i < a .count → ResourceWithin 200 (listedAt a i) =
-          λ i l. v .resource (listedAt a i) (subst (In (listedAt a i)) (sym (counts-yes a true c)) (tabulate-in (listedAt a) (a .count) i l)) in
+          λ i l. v .resource (listedAt a i) (subst (In (listedAt a i)) (sym (associate-lists a k)) (tabulate-in (listedAt a) (a .count) i l)) in
           record {
             kind = k;
-            few = few a true c v;
+            few = omega (arith, v .resources, ap length (associate-lists a k), length-tabulate (listedAt a) (a .count));
             words = λ i l. q i l .word;
             doms = λ i l. optional-fits (getD (a .doms) i 0) 0 1 (q i l .dom);
           }
@@ -145,10 +138,6 @@ module _ (s : Sheet) (ts : Types) (es : Extensions) (p : Parents) (h : HeldMap s
 
   pub type-within : (i : ℕ) → i < ts .count → TypeWithin 200 (typeInfoOf (getD (ts .items) i zeroType))
   type-within i l = subst (TypeWithin 200) (sym (type-at s ts es p h i l)) (within-at i l)
-
-  -- a name has one word or two (FORMAT 1.3)
-  pub name-within : (i : ℕ) → i < ts .count → NameWithin 200 (typeAt (typeMapOf s) i .name)
-  name-within i l = within-at i l .name
 
   words-once : wordsTwice s ≡ false
   unfolding somethingTwice
@@ -165,9 +154,6 @@ module _ (s : Sheet) (ts : Types) (es : Extensions) (p : Parents) (h : HeldMap s
 
   pub parents-most : (i : ℕ) → i < ts .count → getD (ts .items) i zeroType .parents .count ≤ 8
   parents-most i l = parents-few (getD (ts .items) i zeroType) (type-within i l)
-
-  pub annotations-most : (i : ℕ) → i < ts .count → getD (ts .items) i zeroType .annotations .count ≤ 12
-  annotations-most i l = annotations-few (getD (ts .items) i zeroType) (type-within i l)
 
   pub marks-most : (i : ℕ) → i < ts .count → getD (ts .items) i zeroType .marks .count ≤ 7
   marks-most i l = marks-few (getD (ts .items) i zeroType) (type-within i l)
@@ -194,17 +180,3 @@ module _ (s : Sheet) (ts : Types) (es : Extensions) (p : Parents) (h : HeldMap s
   extension-parents-most i l =
       let e = getD (es .items) i zeroExtension in
       omega (arith, extension-within i l .parents, length-tabulate (λ j. twoWords (getD (e .parents .first) j 0) (getD (e .parents .second) j 0)) (e .parents .count))
-
-  pub extensions-are : typeMapOf s .extensions ≡ s .extensions
-  unfolding typeMapOf
-  extensions-are = refl
-
-  pub held-extensions : ofExtensions es ≡ typeMapOf s .extensions
-  held-extensions = h .extensions ∙ sym extensions-are
-
-  -- no two extensions have one key (FORMAT 2.12)
-  pub keys-once : repeats (λ (e f : records.Extension). sameName (e .name) (f .name) && eqb (e .word) (f .word)) (typeMapOf s .extensions) ≡ false
-  unfolding typeMapOf somethingTwice keysTwice
-  keys-once =
-      or-false-left (keysTwice s) (wordsTwice s || annotationsTwice s)
-      (or-false-right (namesTwice s) (keysTwice s || (wordsTwice s || annotationsTwice s)) (h .readable .once))

@@ -37,9 +37,9 @@ use Rattle.ordering.specs.Names.{place-same}
 use Rattle.ordering.specs.Organized.{Organized}
 use Rattle.ordering.specs.declared.Parents.{Parents}
 use Rattle.ordering.specs.declared.Order.{Order}
-use Rattle.ancestry.specs.Earlier.{parent-earlier, at-below}
-use Rattle.ancestry.specs.Gathering.{listed-room}
-use Rattle.ancestry.specs.Rows as ancestry
+use Rattle.parent_laws.specs.Earlier.{parent-earlier, at-below}
+use Rattle.parent_laws.specs.Listed.{listed-room}
+use Rattle.parent_laws.specs.Placed as placed
 use Rattle.held_map.specs.HeldMap.{HeldMap}
 use Rattle.held_laws.specs.HeldLaws.{count-types, count-most, count-parents, type-at, type-in, parents-below, ordered, names-apart-at}
 use Rattle.held_laws.specs.Limits.{type-within}
@@ -170,7 +170,7 @@ module _ (s : Sheet) (ts : Types) (es : Extensions) (p : Parents) (h : HeldMap s
   -- ---- the order
 
   module _ (o : Order) (g : Organized p o) (found : o .found ≡ true) where
-    ord : ancestry.Ordered p o
+    ord : placed.Ordered p o
     ord = ordered s ts es p h o g found
 
     pub order-count : o .count ≡ ts .count

@@ -8,7 +8,7 @@ use Rattle.lists.specs.Lists.{any}
 use Rattle.lists.specs.Tabulating.{tabulate}
 use Rattle.rows.specs.Rows.{hasBit}
 use Rattle.ordering.specs.Lists.{tab}
-use Rattle.ancestry.specs.Rows.{ListedRoom}
+use Rattle.parent_laws.specs.Placed.{ListedRoom}
 use Rattle.item_spread.specs.Spread.{Spread}
 use Rattle.catalogue.specs.Layout.{parentsAt, aboveAt, passedAt}
 use Rattle.catalogue.specs.Kept.{KeptOutside}

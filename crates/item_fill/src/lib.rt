@@ -9,7 +9,7 @@ ghost use mathlib.Core.Path.{_≡_};
 ghost use Prim.Native.Nat.{_<_};
 ghost use lib.ListN.{length};
 ghost use Rattle.rows.specs.Rows.{hasBit};
-ghost use Rattle.ancestry.specs.Rows.{ListedRoom};
+ghost use Rattle.parent_laws.specs.Placed.{ListedRoom};
 ghost use Rattle.ordering.specs.Organized.{Organized};
 ghost use Rattle.item_spread.specs.Spread.{United, Ordered};
 ghost use Rattle.item_fill.specs.Sets.{ParentsOf, RoomForParents, ParentsPut, passedSets, parentSets, SpreadPut};

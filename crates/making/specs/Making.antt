@@ -5,7 +5,7 @@ use Prim.Native.Nat.{ℕ}
 use lib.Dec.{eqb}
 use lib.ListN.{getD}
 use Rattle.lists.specs.Tabulating.{tabulate}
-use Rattle.definitions.specs.Records.{makelistMark, deriveMark, Item, synthesized, extension}
+use Rattle.definitions.specs.Records.{makelistMark, deriveMark, Item, synthesized}
 use Rattle.definitions.specs.Records as records
 use Rattle.fields.specs.Fields.{optional, nameOf}
 use Rattle.making.specs.declared.Parent.{Parent}
@@ -13,7 +13,6 @@ use Rattle.making.specs.declared.Parents.{Parents}
 use Rattle.making.specs.declared.Mark.{Mark}
 use Rattle.making.specs.declared.Marks.{Marks}
 use Rattle.making.specs.declared.Making.{Making}
-use Rattle.making.specs.declared.Line.{Line}
 
 -- one to three words; 255 where there is no second or no third
 abbrev pub threeWords : ℕ → ℕ → ℕ → List ℕ
@@ -43,6 +42,3 @@ marksOf t = tabulate (markAt t) (t .count)
 
 abbrev pub itemOf : Making → Item
 itemOf m = synthesized (nameOf (m .name)) (m .word) (m .«is_virtual») (parentsOf (m .parents)) (marksOf (m .marks))
-
-abbrev pub lineOf : Line → Item
-lineOf l = extension (nameOf (l .name)) (l .«is_virtual») (l .«is_trait») (l .word)

@@ -44,14 +44,6 @@ pub struct Making {
     pub marks: Marks,
 }
 
-// An extension line, its fields likewise (FORMAT 6.3).
-pub struct Line {
-    pub name: Name,
-    pub is_virtual: bool,
-    pub is_trait: bool,
-    pub word: u8,
-}
-
 // A name as a parent: a class, `resource`, or a parent of an extension.
 pub fn named(n: Name) -> Parent
     ensures { λ r. ⌜ parentOf r ≡ nameOf n ⌝ }

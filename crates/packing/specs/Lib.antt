@@ -1,4 +1,3 @@
 pub mod Room
-pub mod Head
 pub mod Order
 pub mod PackingLaws

@@ -1,5 +1,5 @@
--- Laws of the schedule's bits, as the code writes them.
-use mathlib.Core.Bool.{Bool, true, false}
+-- Laws of the order's bits, as the code writes them.
+use mathlib.Core.Bool.{Bool}
 use mathlib.Core.List.{List, [], _∷_, _++_, append-assoc, append-nil, map-append}
 use mathlib.Core.Path.{_≡_, refl, sym, ap, _∙_}
 use Prim.Native.Nat.{ℕ, zero, suc, _+_, _*_, _/_, _^_, _≤_, _<_}
@@ -12,30 +12,14 @@ use Rattle.lists.specs.Lists.{each}
 use Rattle.lists.specs.Appending.{each-append}
 use Rattle.lists.specs.Tabulating.{each-next, tabulate, length-tabulate}
 use Rattle.definitions.specs.Answer.{overwrite}
-use Rattle.definitions.specs.Bits.{toBits, odd, bit, size, pack}
-use Rattle.definitions.specs.Records.{Name, Mark, synthesized}
-use Rattle.definitions.specs.Packing.{countedBits, nameBits, parentBits, markBits, itemBits, orderBits}
+use Rattle.definitions.specs.Bits.{toBits, odd, size, pack}
+use Rattle.definitions.specs.Packing.{nameBits, orderBits}
 use Rattle.bits.specs.NumberLaws.{length-toBits, length-packTo, toBits-split, toBits-low}
 use Rattle.bits.specs.Writing.{Wrote}
 use Rattle.bits.specs.WriteLaws.{length-put, put-pack}
-use Rattle.fields.specs.Fields.{optional, twoWords, nameOf}
-use Rattle.making.specs.Making.{threeWords, parentAt, parentsOf, markAs, lineOf}
-use Rattle.making.specs.MakingLaws.{length-parentsOf}
-use Rattle.making.specs.declared.Parents.{Parents}
-use Rattle.making.specs.declared.Line.{Line}
-use Rattle.line_laws.specs.Size.{mark-short}
-use Rattle.packing.specs.Head.{headBits}
+use Rattle.fields.specs.Fields.{twoWords}
 use Rattle.packing.specs.Order.{nameAt, nameIn, orderNames}
 use Rattle.packing.specs.Room.{Room}
-
--- ---- one bit
-pub flag-bits : (v : Bool) → toBits 1 (bit v) ≡ v ∷ []
-unfolding toBits odd
-flag-bits true = refl
-flag-bits false = refl
-
-pub wrote-flag : (v : Bool) {a b : List ℕ} {p q : ℕ} → Wrote a b p q (toBits 1 (bit v)) → Wrote a b p q (v ∷ [])
-wrote-flag v w = rw (flag-bits v) at w
 
 -- a write leaves as many bytes
 pub wrote-long : {a b : List ℕ} {p q : ℕ} {bs : List Bool} → Wrote a b p q bs → length b ≡ length a
@@ -44,32 +28,25 @@ wrote-long {a} {b} {p} {q} {bs} w = ap length (w .holds) ∙ length-put a p bs
 -- ---- two fields as one
 
 -- a field of 8 bits and a flag that is 0
-pub unflagged : (a : ℕ) → toBits 9 (2 * a) ≡ toBits 8 a ++ toBits 1 0
+unflagged : (a : ℕ) → toBits 9 (2 * a) ≡ toBits 8 a ++ toBits 1 0
 unflagged a =
     let h : 2 * a / 2 ^ 1 ≡ a = omega arith in
     let l : 2 * a ≡ a * 2 ^ 1 + 0 = omega arith in
     toBits-split 8 1 (2 * a) ∙ ap (λ (x : ℕ). toBits 8 x ++ toBits 1 (2 * a)) h ∙ ap (λ b. toBits 8 a ++ b) (ap (toBits 1) l ∙ toBits-low 1 a 0 (omega arith))
 
 -- and one that is 1
-pub flagged : (a : ℕ) → toBits 9 (2 * a + 1) ≡ toBits 8 a ++ toBits 1 1
+flagged : (a : ℕ) → toBits 9 (2 * a + 1) ≡ toBits 8 a ++ toBits 1 1
 flagged a =
     let h : (2 * a + 1) / 2 ^ 1 ≡ a = omega arith in
     let l : 2 * a + 1 ≡ a * 2 ^ 1 + 1 = omega arith in
     toBits-split 8 1 (2 * a + 1) ∙ ap (λ (x : ℕ). toBits 8 x ++ toBits 1 (2 * a + 1)) h ∙ ap (λ b. toBits 8 a ++ b) (ap (toBits 1) l ∙ toBits-low 1 a 1 (omega arith))
 
--- a field of 2 bits and one of 8
-pub counted-first : (k a : ℕ) → a < 256 → toBits 10 (256 * k + a) ≡ toBits 2 k ++ toBits 8 a
-counted-first k a b =
-    let h : (256 * k + a) / 2 ^ 8 ≡ k = omega arith in
-    let l : 256 * k + a ≡ k * 2 ^ 8 + a = omega arith in
-    toBits-split 2 8 (256 * k + a) ∙ ap (λ (x : ℕ). toBits 2 x ++ toBits 8 (256 * k + a)) h ∙ ap (λ b. toBits 2 k ++ b) (ap (toBits 8) l ∙ toBits-low 8 k a b)
-
 -- ---- names
-pub name-one : (a b : ℕ) → b ≡ 255 → nameBits (twoWords a b) ≡ toBits 8 a ++ toBits 1 0
+name-one : (a b : ℕ) → b ≡ 255 → nameBits (twoWords a b) ≡ toBits 8 a ++ toBits 1 0
 unfolding nameBits toBits odd
 name-one a b e = rw (eq-eqb b 255 e)
 
-pub name-two : (a b : ℕ) → (b ≡ 255 → ⊥) → nameBits (twoWords a b) ≡ toBits 8 a ++ (toBits 1 1 ++ toBits 8 b)
+name-two : (a b : ℕ) → (b ≡ 255 → ⊥) → nameBits (twoWords a b) ≡ toBits 8 a ++ (toBits 1 1 ++ toBits 8 b)
 unfolding nameBits toBits odd
 name-two a b e = rw (ne-eqb b 255 e)
 
@@ -86,21 +63,9 @@ name-one-long a b e = rw (name-one a b e) (simp (length-append, length-toBits))
 pub name-two-long : (a b : ℕ) → (b ≡ 255 → ⊥) → length (nameBits (twoWords a b)) ≡ 17
 name-two-long a b e = rw (name-two a b e) (simp (length-append, length-toBits))
 
--- ---- a word or none
-pub none-bits : (w : ℕ) → w ≡ 255 → each (toBits 8) (optional w) ≡ []
-none-bits w e = rw (eq-eqb w 255 e)
-
-pub some-bits : (w : ℕ) → (w ≡ 255 → ⊥) → each (toBits 8) (optional w) ≡ toBits 8 w
-some-bits w e = rw (ne-eqb w 255 e) (append-nil (toBits 8 w))
-
--- each word has 8 bits
-pub words-long : (ws : List ℕ) → length (each (toBits 8) ws) ≡ 8 * length ws
-words-long [] = refl
-words-long (w ∷ ws) = rw (length-append, length-toBits, words-long ws) (omega arith)
-
 -- ---- one after the other
 -- the first i have no more bits than all n
-pub each-room : {A : Type 0} (g : A → List Bool) (f : ℕ → A) (i n : ℕ) → i < n →
+each-room : {A : Type 0} (g : A → List Bool) (f : ℕ → A) (i n : ℕ) → i < n →
     length (each g (tabulate f i)) + length (g (f i)) ≤ length (each g (tabulate f n))
 unfolding tabulate
 each-room g f i zero h = absurd (omega arith)
@@ -149,106 +114,11 @@ room-field n v h r =
     let l = length-toBits n v in
     (h, omega (arith, r .fits), omega (arith, r .small))
 
--- ---- parents
-pub parent-is : (a b c : ℕ) → parentBits (threeWords a b c)
-    ≡ toBits 2 (1 + length (optional b) + length (optional c)) ++ (toBits 8 a ++ (each (toBits 8) (optional b) ++ each (toBits 8) (optional c)))
-unfolding parentBits
-parent-is a b c =
-    let e : length (threeWords a b c) ≡ 1 + length (optional b) + length (optional c) = rw length-append (omega arith) in
-    rw (e, each-append (toBits 8) (optional b) (optional c))
-
--- as it is written
-pub parent-as : (a b c : ℕ) → a < 256 → parentBits (threeWords a b c)
-    ≡ toBits 10 (256 * (1 + length (optional b) + length (optional c)) + a) ++ (each (toBits 8) (optional b) ++ each (toBits 8) (optional c))
-parent-as a b c l =
-    let k = 1 + length (optional b) + length (optional c) in
-    let r = each (toBits 8) (optional b) ++ each (toBits 8) (optional c) in
-    parent-is a b c ∙ sym (append-assoc (toBits 2 k) (toBits 8 a) r) ∙ ap (λ x. x ++ r) (sym (counted-first k a l))
-
-pub parent-long : (a b c : ℕ) → length (parentBits (threeWords a b c))
-    ≡ 10 + length (each (toBits 8) (optional b)) + length (each (toBits 8) (optional c))
-parent-long a b c = rw (parent-is a b c) (simp (length-append, length-toBits) (omega arith))
-
-pub parents-all : (t : Parents) (i : ℕ) → i ≡ t .count → each parentBits (tabulate (parentAt t) i) ≡ each parentBits (parentsOf t)
-unfolding parentsOf
-parents-all t i e = rw e
-
-pub parents-are : (t : Parents) → countedBits 5 parentBits (parentsOf t) ≡ toBits 5 (t .count) ++ each parentBits (parentsOf t)
-parents-are t = rw (length-parentsOf t)
-
-pub parents-long : (t : Parents) → length (countedBits 5 parentBits (parentsOf t)) ≡ 5 + length (each parentBits (parentsOf t))
-parents-long t = rw (length-append, length-toBits)
-
--- ---- marks
-pub derive-is : (d t : ℕ) → d ≡ 1 → markBits (markAs d t) ≡ toBits 1 1 ++ toBits 8 t
-unfolding markBits toBits odd
-derive-is d t e = rw (eq-eqb d 1 e)
-
-pub makelist-is : (d t : ℕ) → (d ≡ 1 → ⊥) → markBits (markAs d t) ≡ toBits 1 0
-unfolding markBits toBits odd
-makelist-is d t e = rw (ne-eqb d 1 e)
-
-pub derive-long : (d t : ℕ) → d ≡ 1 → length (markBits (markAs d t)) ≡ 9
-derive-long d t e = rw (derive-is d t e) (simp (length-append, length-toBits))
-
-pub makelist-long : (d t : ℕ) → (d ≡ 1 → ⊥) → length (markBits (markAs d t)) ≡ 1
-makelist-long d t e = rw (makelist-is d t e) (simp length-toBits)
-
--- ---- lines: what follows each field
-abbrev pub behindWord : Bool → List Name → List Bool
-behindWord v ps = (v ∷ []) ++ countedBits 5 parentBits ps
-
-abbrev pub behindName : ℕ → Bool → List Name → List Bool
-behindName r v ps = toBits 8 r ++ behindWord v ps
-
-abbrev pub behindLead : Name → ℕ → Bool → List Name → List Bool
-behindLead n r v ps = nameBits n ++ behindName r v ps
-
-pub head-is : (n : Name) (r : ℕ) (v : Bool) (ps : List Name) → headBits n r v ps ≡ toBits 1 0 ++ behindLead n r v ps
-unfolding headBits toBits odd
-head-is n r v ps = refl
-
-pub head-long : (n : Name) (r : ℕ) (v : Bool) (ps : List Name) →
-    length (headBits n r v ps) ≡ 10 + length (nameBits n) + length (countedBits 5 parentBits ps)
-head-long n r v ps = rw (head-is n r v ps) (simp (length-append, length-toBits) (omega arith))
-
--- the marks follow
-pub making-is : (n : Name) (r : ℕ) (v : Bool) (ps : List Name) (ms : List Mark) →
-    itemBits (synthesized n r v ps ms) ≡ headBits n r v ps ++ (toBits 9 (length ms) ++ each markBits ms)
-unfolding itemBits headBits
-making-is n r v ps ms =
-    rw (append-assoc (nameBits n) (toBits 8 r ++ (v ∷ countedBits 5 parentBits ps)) (countedBits 9 markBits ms), append-assoc (toBits 8 r) (v ∷ countedBits 5 parentBits ps) (countedBits 9 markBits ms))
-
-pub making-long : (n : Name) (r : ℕ) (v : Bool) (ps : List Name) (ms : List Mark) →
-    length (itemBits (synthesized n r v ps ms)) ≡ 19 + length (nameBits n) + length (countedBits 5 parentBits ps) + length (each markBits ms)
-making-long n r v ps ms =
-    omega (arith, head-long n r v ps, simp (length-append, length-toBits) at (ap length (making-is n r v ps ms)))
-
-pub marks-most : (ms : List Mark) → length (each markBits ms) ≤ 9 * length ms
-marks-most [] = omega arith
-marks-most (m ∷ ms) = rw length-append (omega (arith, mark-short m, marks-most ms))
-
-abbrev pub lineBehindVirtual : Line → List Bool
-lineBehindVirtual l = (l .«is_trait» ∷ []) ++ toBits 8 (l .word)
-
-abbrev pub lineBehindName : Line → List Bool
-lineBehindName l = (l .«is_virtual» ∷ []) ++ lineBehindVirtual l
-
-abbrev pub lineBehindLead : Line → List Bool
-lineBehindLead l = nameBits (nameOf (l .name)) ++ lineBehindName l
-
-pub line-is : (l : Line) → itemBits (lineOf l) ≡ toBits 1 1 ++ lineBehindLead l
-unfolding itemBits toBits odd
-line-is l = refl
-
-pub line-long : (l : Line) → length (itemBits (lineOf l)) ≡ 11 + length (nameBits (nameOf (l .name)))
-line-long l = rw (line-is l) (simp (length-append, length-toBits) (omega arith))
-
 -- ---- the order
 pub name-past : (firsts seconds : List ℕ) (t : ℕ) → length firsts ≤ t → length seconds ≤ t → twoWords 0 0 ≡ nameAt firsts seconds t
 name-past firsts seconds t h k = rw (List·getD-eq-default firsts 0 h, List·getD-eq-default seconds 0 k)
 
-pub names-tabulate : (firsts seconds items : List ℕ) (n : ℕ) → n ≤ length items →
+names-tabulate : (firsts seconds items : List ℕ) (n : ℕ) → n ≤ length items →
     orderNames firsts seconds items n ≡ tabulate (nameIn firsts seconds items) n
 unfolding orderNames tabulate
 names-tabulate firsts seconds items zero h = refl

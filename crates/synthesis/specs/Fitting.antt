@@ -13,7 +13,8 @@ use Rattle.lists.specs.Sorting.{sort-is}
 use Rattle.lists.specs.Tests.{by, any-of, filter-of}
 use Rattle.lists.specs.Places.{getD-in}
 use Rattle.rows.specs.declared.Row.{Row}
-use Rattle.rows.specs.Rows.{has, empty}
+use Rattle.rows.specs.Rows.{has, empty, none}
+use Rattle.rows.specs.RowLaws.{has-none}
 use Rattle.rows.specs.Lists.{between-none}
 use Rattle.definitions.specs.Records.{Resource, AssociatedResource, makeList, associate, nestAssociate, alias, inherit, derive, noDerive, TypeInfo}
 use Rattle.definitions.specs.Records as records
@@ -37,12 +38,11 @@ use Rattle.ordering.specs.Reading.{Parent, howMany}
 use Rattle.ordering.specs.Reading as reading
 use Rattle.ordering.specs.declared.Parents.{Parents}
 use Rattle.ordering.specs.Lists.{tab-length}
-use Rattle.ancestry.specs.Rows.{ParentsBelow}
-use Rattle.ancestry.specs.Gathering.{parent}
+use Rattle.parent_laws.specs.Placed.{ParentsBelow}
+use Rattle.parent_laws.specs.Listed.{parent}
 use Rattle.table.specs.declared.Table.{Table}
 use Rattle.synthetic.specs.Made.{classesOf, firstsOf, Fits}
 use Rattle.synthetic.specs.MadeLaws.{names-none}
-use Rattle.above.specs.Steps.{has-empty}
 use Rattle.lookups.specs.TableOf.{TableOf}
 use Rattle.lookups.specs.Fitting.{fits}
 use Rattle.lookups.specs.Parents.{few-firsts}
@@ -89,8 +89,8 @@ empty-past (d ∷ ds) zero h = absurd (omega arith)
 empty-past (d ∷ ds) (suc j) h = empty-past ds j (omega arith)
 
 none-past : (ds : List Row) (j : ℕ) → length ds ≤ j → length (domsOf (getD ds j empty)) ≤ 1
-unfolding domsOf
-none-past ds j h = rw (empty-past ds j h, between-none (has empty) 0 201 has-empty) (omega arith)
+unfolding domsOf none
+none-past ds j h = rw (empty-past ds j h, between-none (has empty) 0 201 (λ k. has-none empty k refl)) (omega arith)
 
 few-doms : (T : TypeInfo) (a : AnnotationInfo) → a .kind ≡ 1 → In (infoOf a) (ownAssociates T) → (j : ℕ) → j < a .count → a .count ≤ length (a .words)
     → length (domsOf (getD (a .doms) j empty)) ≤ 1

@@ -21,8 +21,8 @@ use Rattle.ordering.specs.Lists.{tab, tab-length, map-tab, tab-same}
 use Rattle.ordering.specs.Reading.{Parent, howMany, listed, typeAt, placeIn, Reads}
 use Rattle.ordering.specs.Names.{place-same}
 use Rattle.ordering.specs.declared.Parents.{Parents}
-use Rattle.ancestry.specs.Rows.{ParentsBelow}
-use Rattle.ancestry.specs.Gathering.{parent, parent-below}
+use Rattle.parent_laws.specs.Placed.{ParentsBelow}
+use Rattle.parent_laws.specs.Listed.{parent, parent-below}
 use Rattle.interpretation.specs.Emit.{emit}
 use Rattle.visit_laws.specs.Trail.{Reached, seenIn, Told, Played, succeeded, passes, flagsOf, gotFrom, allOf, play, playAll, nothingPlayed}
 use Rattle.hearing.specs.Hearing.{handsAt, FlagsOf, WithOk}

@@ -40,7 +40,7 @@ use Rattle.handing.specs.Keeping.{eight, got-all}
 use Rattle.held_laws.specs.HeldLaws.{count-parents, type-at, parents-below, parents-are}
 use Rattle.held_laws.specs.Limits.{type-fits}
 use Rattle.held_map.specs.HeldMap.{HeldMap}
-use Rattle.ancestry.specs.Rows.{ParentsBelow}
+use Rattle.parent_laws.specs.Placed.{ParentsBelow}
 use Rattle.hearing.specs.Hearing.{FlagsOf, WithOk}
 use Rattle.hearing.specs.declared.Flags.{Flags}
 use Rattle.synthesis.specs.Playing.{Flagged, Receives, Turn, Plays}

@@ -21,7 +21,7 @@ use Rattle.ordering.specs.Lists.{map-below, tab, elem, elem-cases}
 use Rattle.ordering.specs.Reading.{Parent, listed, typeAt, placeIn, parentIn, Reads}
 use Rattle.ordering.specs.Names.{place-same, types-are, named-yes}
 use Rattle.ordering.specs.declared.Parents.{Parents}
-use Rattle.ancestry.specs.Rows.{ParentsBelow}
+use Rattle.parent_laws.specs.Placed.{ParentsBelow}
 use Rattle.visiting.specs.Walk.{Stop, spots, walkAll, walk, walkEach}
 use Rattle.visiting.specs.Good.{walk-seen, walk-new, spots-more}
 

@@ -17,7 +17,7 @@ use Rattle.rows.specs.RowLaws.{bit-none}
 use Rattle.ordering.specs.Lists.{tab, tab-step, tab-split, elem, tab-same, map-tab}
 use Rattle.ordering.specs.Reading.{Parent, parentAt, howMany, listed}
 use Rattle.ordering.specs.declared.Parents.{Parents}
-use Rattle.ancestry.specs.Earlier.{all-below}
+use Rattle.parent_laws.specs.Earlier.{all-below}
 use Rattle.visiting.specs.Walk.{Stop, spots, walkAll, walk, walkEach}
 use Rattle.visiting.specs.Trails.{Orderly, itemAt, TrailOf}
 use Rattle.visiting.specs.Ranks.{rankOf, rank-below, rank-parent}

@@ -3,7 +3,7 @@ use Prim.Native.Nat.{ℕ, _≤_, _<_, _-_, _+_, _*_}
 use native.Mathlib.Omega.{arith}
 use borrow.Author.Needs.{needs}
 use lib.ListN.{getD}
-use Rattle.ancestry.specs.Gathering.{parent-below}
+use Rattle.parent_laws.specs.Listed.{parent-below}
 use Rattle.hearing.specs.Hearing.{FlagsTo}
 use Rattle.hearing.specs.HearingLaws.{flags-none, flags-more}
 use Rattle.hearing.proofs.flags_of.Statement.{statement}

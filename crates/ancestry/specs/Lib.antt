@@ -1,6 +1,0 @@
-pub mod Rows
-pub mod Gathering
-pub mod Unroll
-pub mod Places
-pub mod Earlier
-pub mod Instance

@@ -1,3 +1,0 @@
-pub mod Associations
-pub mod AssociationLaws
-pub mod Instance

@@ -1,4 +1,0 @@
-pub mod Giving
-pub mod GivingLaws
-pub mod Tables
-pub mod Instance

@@ -1,3 +1,0 @@
-pub mod Counts
-pub mod ItemBitsLaws
-pub mod Instance

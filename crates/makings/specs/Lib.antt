@@ -1,3 +1,0 @@
-pub mod Makings
-pub mod Created
-pub mod MakingLaws

@@ -1,3 +1,0 @@
-pub mod OwnClasses
-pub mod OwnLaws
-pub mod Instance

@@ -1,2 +1,0 @@
-pub mod OwnTable
-pub mod OwnTableLaws

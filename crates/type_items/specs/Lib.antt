@@ -1,4 +1,0 @@
-pub mod Scenes
-pub mod ItemLaws
-pub mod WordLaws
-pub mod Sites
