@@ -1,0 +1,2 @@
+pub mod Draft
+pub mod Drafted
