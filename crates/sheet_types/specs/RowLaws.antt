@@ -4,9 +4,11 @@ use mathlib.Core.List.{List, [], _∷_, _++_}
 use mathlib.Core.Path.{_≡_, refl, sym, ap, _∙_}
 use Prim.Native.Nat.{ℕ, _+_, _-_, _*_, _/_, _%_, _≤_, _<_}
 use native.Mathlib.Omega.{arith}
+use borrow.Author.Tests.{eqb-true, eqb-false}
 use lib.Dec.{eqb}
 use lib.ListN.{length, drop, getD, set, length-set}
 use lib.Seq
+use Rattle.lists.specs.Tests.{by}
 use Rattle.lists.specs.Tabulating.{tabulate, tabulate-set, tabulate-same, length-tabulate}
 use Rattle.definitions.specs.Parse.{Parsed, done, refused, next, pure, repeat}
 use Rattle.definitions.specs.Reading.{name, typeInfo}
@@ -16,7 +18,7 @@ use Rattle.sheet_keys.specs.Keys.{nameOfKey, namesFrom, Kept}
 use Rattle.sheet_notes.specs.declared.Skip.{Skip}
 use Rattle.sheet_notes.specs.Notes.{Notes, notes, forget, ofSkip}
 use Rattle.sheet_draft.specs.Draft.{keyAt, headAt, placeAt, notesOf, notesAt, typeIn, typesIn}
-use Rattle.sheet_types.specs.Rows.{Top, top, topOf, typeOf, rowSet, ofTypeRead, KeptRows}
+use Rattle.sheet_types.specs.Rows.{Top, top, topOf, typeOf, rowSet, isDone, NotesDone, DoneHere, NotesRead, ofTypeRead, KeptRows}
 use Rattle.sheet_types.specs.TopLaws.{type-parts}
 
 -- ---- one type
@@ -125,6 +127,29 @@ module _ (W : ℕ) (bs : List Bool) (p : ℕ) where
       row-read d i count at r few l g k =
           row-is (rowSet d i key h at) i count at r (row-key d i key h at few l) (row-head d i key h at few l) (row-place d i key h at few l)
           (ap (λ (ns : List (List ℕ)). done ns (drop at bs)) (row-parents d i key h at few l count) ∙ g) k
+
+-- what was stepped over is there
+stepped : (bs : List Bool) (x : Parsed Notes) (r : Skip) (W : ℕ) (d : List ℕ) (i : ℕ) → x ≡ notes W (eqb (keyAt d i % 256) 0) (drop (placeAt d i) bs) →
+    ofSkip bs r ≡ forget x → DoneHere W bs d i r
+stepped bs (done v rest) (Skip.At c) W d i q e = rw (← q)
+stepped bs (refused n) (Skip.At c) W d i q e = let z : _≡_ {A = ℕ} 0 1 = cc in absurd (omega arith)
+stepped bs x (Skip.Refused n) W d i q e = tt
+
+pub done-here : (W : ℕ) (bs : List Bool) (d : List ℕ) (i key h at : ℕ) (r : Skip) → i < 64 → length d ≡ 704 →
+    ofSkip bs r ≡ forget (notes W (eqb (key % 256) 0) (drop at bs)) → DoneHere W bs (rowSet d i key h at) i r
+done-here W bs d i key h at r few l e =
+    stepped bs (notes W (eqb (key % 256) 0) (drop at bs)) r W (rowSet d i key h at) i (rw (row-key d i key h at few l, row-place d i key h at few l)) e
+
+pub read-none : (W : ℕ) (bs : List Bool) (d : List ℕ) → NotesRead W bs d 0
+read-none W bs d = record { read = λ i h. absurd (omega arith) }
+
+pub read-more : (W : ℕ) (bs : List Bool) (i : ℕ) (t u : List ℕ) → KeptRows i t u → NotesDone W bs u i → NotesRead W bs t i → NotesRead W bs u (i + 1)
+read-more W bs i t u k e h = record {
+  read = λ j b.
+      by (eqb j i)
+      (λ q. let z = eqb-true j i q in rw z e)
+      (λ q. let z : j < i = omega (arith, eqb-false j i q) in rw (k .keys j z, k .places j z) (h .read j z));
+}
 
 -- ---- the rows
 

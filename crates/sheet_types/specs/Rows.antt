@@ -1,5 +1,5 @@
 -- What the code reads of a type, and what stands in the draft afterwards.
-use mathlib.Core.Bool.{Bool, cond}
+use mathlib.Core.Bool.{Bool, true, false, cond}
 use mathlib.Core.List.{List}
 use mathlib.Core.Path.{_≡_}
 use Prim.Native.Nat.{ℕ, _+_, _*_, _/_, _%_, _≤_, _<_}
@@ -12,7 +12,7 @@ use Rattle.definitions.specs.Records as records
 use Rattle.fields.specs.declared.Field.{Field}
 use Rattle.types.specs.Types.{variantOf}
 use Rattle.sheet_notes.specs.declared.Skip.{Skip}
-use Rattle.sheet_notes.specs.Notes.{Notes, ofSkip}
+use Rattle.sheet_notes.specs.Notes.{Notes, notes, ofSkip}
 use Rattle.sheet_draft.specs.Draft.{keyAt, headAt, placeAt, typeIn, typesIn}
 use Rattle.sheet_types.specs.declared.TypesRead.{TypesRead}
 
@@ -61,6 +61,24 @@ pub record KeptRows (i : ℕ) (old new : List ℕ) : Type 0 where
   pub heads : (j : ℕ) → j < i → headAt new j ≡ headAt old j
   pub places : (j : ℕ) → j < i → placeAt new j ≡ placeAt old j
   pub parents : (j : ℕ) → j < 8 * i → getD new (192 + j) 0 ≡ getD old (192 + j) 0
+
+-- Whether a parser gave a value.
+abbrev pub isDone : {A : Type 0} → Parsed A → Bool
+isDone (done a rest) = true
+isDone (refused r) = false
+
+-- Annotations and marks can be read at the place that row i has for them.
+abbrev pub NotesDone : ℕ → List Bool → List ℕ → ℕ → Type 0
+NotesDone W bs d i = isDone (notes W (eqb (keyAt d i % 256) 0) (drop (placeAt d i) bs)) ≡ true
+
+-- So they can of a row that was read.
+abbrev pub DoneHere : ℕ → List Bool → List ℕ → ℕ → Skip → Type 0
+DoneHere W bs d i (Skip.At c) = NotesDone W bs d i
+DoneHere W bs d i (Skip.Refused r) = Unit {0}
+
+-- So they can of the first n rows.
+pub record NotesRead (W : ℕ) (bs : List Bool) (d : List ℕ) (n : ℕ) : Type 0 where
+  pub read : (i : ℕ) → i < n → NotesDone W bs d i
 
 -- An answer as a parser's: the type is that of row i.
 abbrev pub ofTypeRead : ℕ → List Bool → List ℕ → ℕ → Skip → Parsed records.TypeInfo

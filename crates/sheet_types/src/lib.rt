@@ -10,7 +10,7 @@ ghost use lib.ListN.{length, drop, set};
 ghost use Rattle.definitions.specs.Bits.{bitsOf};
 ghost use Rattle.definitions.specs.Parse.{repeat, counted};
 ghost use Rattle.definitions.specs.Reading.{typeInfo};
-ghost use Rattle.sheet_types.specs.Rows.{top, ofTop, Small, rowSet, ofTypeRead, ofTypesRead, KeptRows};
+ghost use Rattle.sheet_types.specs.Rows.{top, ofTop, Small, rowSet, ofTypeRead, ofTypesRead, KeptRows, DoneHere, NotesRead};
 
 // ok: count types stand in the draft, and `at` is the place behind them in the sheet. Else a refusal.
 pub struct TypesRead {
@@ -87,7 +87,7 @@ fn put_row(d: &mut [u64; 704], i: usize, key: u64, head: usize, at: usize)
 // The type at the cursor, as row i of the draft.
 fn read_type(s: &[u8], c: Cursor, limit: usize, i: usize, d: &mut [u64; 704]) -> Skip
     requires { ⌜ (length (now s) ≤ 40960) × (limit ≤ 255) × (i < 64) × (length (now d) ≡ 704) ⌝ }
-    ensures { λ r. ⌜ (ofTypeRead limit (bitsOf (now (s .entry))) (now (d .exit)) i r ≡ typeInfo limit (drop (c .at) (bitsOf (now (s .entry))))) × KeptRows i (now (d .entry)) (now (d .exit)) ⌝ }
+    ensures { λ r. ⌜ (ofTypeRead limit (bitsOf (now (s .entry))) (now (d .exit)) i r ≡ typeInfo limit (drop (c .at) (bitsOf (now (s .entry))))) × KeptRows i (now (d .entry)) (now (d .exit)) × DoneHere limit (bitsOf (now (s .entry))) (now (d .exit)) i r ⌝ }
 {
     match sheet_keys::read_key(s, c, limit) {
         KeyRead::At(key, c1) => match read_top(s, c1) {
@@ -110,7 +110,7 @@ fn read_type(s: &[u8], c: Cursor, limit: usize, i: usize, d: &mut [u64; 704]) ->
 // n types.
 fn read_each_type(s: &[u8], c: Cursor, limit: usize, n: usize, d: &mut [u64; 704]) -> TypesRead
     requires { ⌜ (length (now s) ≤ 40960) × (limit ≤ 255) × (n ≤ 64) × (length (now d) ≡ 704) ⌝ }
-    ensures { λ r. ⌜ (ofTypesRead limit (bitsOf (now (s .entry))) (now (d .exit)) r ≡ repeat (typeInfo limit) n (drop (c .at) (bitsOf (now (s .entry))))) × (length (now (d .exit)) ≡ 704) × (r .count ≤ 64) ⌝ }
+    ensures { λ r. ⌜ (ofTypesRead limit (bitsOf (now (s .entry))) (now (d .exit)) r ≡ repeat (typeInfo limit) n (drop (c .at) (bitsOf (now (s .entry))))) × (length (now (d .exit)) ≡ 704) × (r .count ≤ 64) × NotesRead limit (bitsOf (now (s .entry))) (now (d .exit)) (r .count) ⌝ }
 {
     let mut next = c;
     let mut i: usize = 0;
@@ -143,7 +143,7 @@ fn read_each_type(s: &[u8], c: Cursor, limit: usize, n: usize, d: &mut [u64; 704
 // The types of a sheet, at most 64 (FORMAT 2.2).
 pub fn read_types(s: &[u8], c: Cursor, limit: usize, d: &mut [u64; 704]) -> TypesRead
     requires { ⌜ (length (now s) ≤ 40960) × (limit ≤ 255) × (length (now d) ≡ 704) ⌝ }
-    ensures { λ r. ⌜ (ofTypesRead limit (bitsOf (now (s .entry))) (now (d .exit)) r ≡ counted 7 0 64 (typeInfo limit) (drop (c .at) (bitsOf (now (s .entry))))) × (length (now (d .exit)) ≡ 704) × (r .count ≤ 64) ⌝ }
+    ensures { λ r. ⌜ (ofTypesRead limit (bitsOf (now (s .entry))) (now (d .exit)) r ≡ counted 7 0 64 (typeInfo limit) (drop (c .at) (bitsOf (now (s .entry))))) × (length (now (d .exit)) ≡ 704) × (r .count ≤ 64) × NotesRead limit (bitsOf (now (s .entry))) (now (d .exit)) (r .count) ⌝ }
 {
     match fields::read_between(s, c, 7, 0, 64) {
         Field::At(n, next) => read_each_type(s, next, limit, n, d),

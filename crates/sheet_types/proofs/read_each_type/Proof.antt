@@ -1,4 +1,5 @@
-use Rattle.sheet_types.specs.RowLaws.{types-none, types-more}
+use Rattle.sheet_types.specs.Rows.{NotesRead}
+use Rattle.sheet_types.specs.RowLaws.{types-none, types-more, read-none, read-more}
 use Rattle.sheet_draft.specs.Draft.{typeIn, typesIn}
 use Rattle.fields.specs.ParseLaws.{repeat-none, repeat-done, repeat-refused}
 use Rattle.definitions.specs.Reading.{typeInfo}
@@ -7,7 +8,7 @@ use Rattle.definitions.specs.Bits.{bitsOf}
 use denote.Ref.{now}
 use lib.ListN.{length, drop}
 use Prim.Native.Nat.{ℕ, _+_}
-use mathlib.Core.Path.{_≡_, refl, sym, ap, _∙_}
+use mathlib.Core.Path.{_≡_, refl, sym, ap, _∙_, subst}
 use native.Mathlib.Omega.{arith}
 use borrow.Author.Needs.{needs}
 use Rattle.sheet_types.proofs.read_each_type.Statement.{statement}
@@ -20,6 +21,7 @@ abbrev Inv-loop : tie.InvT-loop
 Inv-loop s limit n d₀ next₀ i₀ left₀ d next i left =
     (i + left ≡ n)
     × (length d ≡ 704)
+    × NotesRead limit (bitsOf s) d i
     × (repeat (typeInfo limit) n (drop (next₀ .at) (bitsOf s)) ≡ repeatOnto (typesIn limit (bitsOf s) d i) (typeInfo limit) left (drop (next .at) (bitsOf s)))
 
 abbrev μ-loop : tie.MeasureT-loop
@@ -29,7 +31,7 @@ abbrev μ-loop : tie.MeasureT-loop
 loop-holds : tie.Need-loop-holds Inv-loop μ-loop
 loop-holds c =
     let a = c .before .args in
-    (omega arith, c .before .pre .3, rw (types-none (a .limit) (bitsOf (now (a .s))) (now (a .d))) refl)
+    (omega arith, c .before .pre .3, read-none _ _ _, rw (types-none (a .limit) (bitsOf (now (a .s))) (now (a .d))) refl)
 
 -- src/lib.rt:119:15
 read-type-requires : tie.Need-read-type-requires Inv-loop μ-loop
@@ -55,10 +57,11 @@ returns c =
     let e = c .before .before .before .read-type .ensures in
     let bs = bitsOf (now (a .s)) in
     let v = c .before .r .given in (
-      sym (l .inv .2 ∙ repeat-refused (typesIn (a .limit) bs (l .d) (l .i)) (typeInfo (a .limit)) (l .left) (drop (l .next .at) bs) (v .0 .0) (omega arith)
+      sym (l .inv .3 ∙ repeat-refused (typesIn (a .limit) bs (l .d) (l .i)) (typeInfo (a .limit)) (l .left) (drop (l .next .at) bs) (v .0 .0) (omega arith)
           (sym (e .0) ∙ rw (v .1) refl)),
       e .1 .size ∙ l .inv .1,
       omega arith,
+      read-none _ _ _,
     )
 
 -- src/lib.rt:132:9
@@ -85,7 +88,8 @@ loop-again c =
     let u = c .before .before .before .read-type .last .1 .1 .1 .1 .0 in (
       omega arith,
       e .1 .size ∙ l .inv .1,
-      l .inv .2
+      read-more (a .limit) bs (l .i) (l .d) u (e .1) (rw (v .1) at (e .2)) (l .inv .2),
+      l .inv .3
           ∙ repeat-done (typesIn (a .limit) bs (l .d) (l .i)) (typeInfo (a .limit)) (l .left) (drop (l .next .at) bs) (typeIn (a .limit) bs u (l .i)) (drop (v .0 .0 .at) bs) (omega arith)
           (sym (e .0) ∙ rw (v .1) refl)
           ∙ rw (types-more (a .limit) bs (l .i) (l .d) u (e .1)) refl,
@@ -99,9 +103,10 @@ returns-2 c =
     let bs = bitsOf (now (a .s)) in
     let q : l .i ≡ a .n = omega arith in (
       ap (λ (k : ℕ). done (typesIn (a .limit) bs (l .d) k) (drop (l .next .at) bs)) (sym q)
-          ∙ sym (l .inv .2 ∙ repeat-none (typesIn (a .limit) bs (l .d) (l .i)) (typeInfo (a .limit)) (l .left) (drop (l .next .at) bs) (omega arith)),
+          ∙ sym (l .inv .3 ∙ repeat-none (typesIn (a .limit) bs (l .d) (l .i)) (typeInfo (a .limit)) (l .left) (drop (l .next .at) bs) (omega arith)),
       l .inv .1,
       omega (arith, c .before .before .before .pre .2),
+      subst (NotesRead (a .limit) bs (l .d)) q (l .inv .2),
     )
 
 pub read-each-type-spec : {M : Type 1} → statement M

@@ -1,4 +1,4 @@
-use Rattle.sheet_types.specs.RowLaws.{no-name, no-top, no-parents, row-read, kept-same, kept-row, kept-below}
+use Rattle.sheet_types.specs.RowLaws.{no-name, no-top, no-parents, row-read, kept-same, kept-row, kept-below, done-here}
 use Rattle.sheet_types.specs.Rows.{ofTop, KeptRows, ofTypeRead}
 use Rattle.sheet_keys.specs.Keys.{ofKeyRead, Kept, ofSpan}
 use Rattle.definitions.specs.Bits.{bitsOf}
@@ -61,7 +61,7 @@ returns c =
     let e = sym (ap (ofKeyRead bs) (k .key .given .1)) ∙ k .before .before .read-key .ensures in
     let f = sym (ap (ofTop bs) (b .h .given .1)) ∙ b .before .before .read-top .ensures .0 in
     let p = c .before .before .before .before .parents-base .ensures .0 in
-    (no-parents (a .limit) bs (a .c .at) _ (k .key .given .0 .1 .0 .at) e _ (b .h .given .0 .1 .0 .at) f (s .1) _ (rw (not-true (r .result .ok) (c .if1 .taken)) at (r .ensures .0)), kept-below (a .i) _ _ (m .2) (rw p at (r .ensures .1)))
+    (no-parents (a .limit) bs (a .c .at) _ (k .key .given .0 .1 .0 .at) e _ (b .h .given .0 .1 .0 .at) f (s .1) _ (rw (not-true (r .result .ok) (c .if1 .taken)) at (r .ensures .0)), kept-below (a .i) _ _ (m .2) (rw p at (r .ensures .1)), tt)
 
 -- src/lib.rt:101:17
 put-row-requires : tie.Need-put-row-requires
@@ -99,6 +99,7 @@ returns-2 c =
     rw q (
       row-read (a .limit) bs (a .c .at) _ (k .key .given .0 .1 .0 .at) e _ (b .h .given .0 .1 .0 .at) f (s .1) d (a .i) (r .result .count) (r .result .at) (c .skip-notes .result) (m .2) l g (c .skip-notes .ensures),
       kept-row d (a .i) _ _ _ (m .2) l _ (rw p at (r .ensures .1)),
+      done-here (a .limit) bs d (a .i) _ _ _ (c .skip-notes .result) (m .2) l (c .skip-notes .ensures),
     )
 
 -- src/lib.rt:88:1
@@ -110,7 +111,7 @@ returns-3 c =
     let bs = bitsOf (now (a .s)) in
     let e = sym (ap (ofKeyRead bs) (k .key .given .1)) ∙ k .before .before .read-key .ensures in
     let f = sym (ap (ofTop bs) (b .r .given .1)) ∙ b .before .before .read-top .ensures .0 in
-    (no-top (a .limit) bs (a .c .at) _ (k .key .given .0 .1 .0 .at) e _ f, kept-same (a .i) _)
+    (no-top (a .limit) bs (a .c .at) _ (k .key .given .0 .1 .0 .at) e _ f, kept-same (a .i) _, tt)
 
 -- src/lib.rt:88:1
 returns-4 : tie.Need-returns-4
@@ -119,7 +120,7 @@ returns-4 c =
     let a = k .before .before .before .before .args in
     let bs = bitsOf (now (a .s)) in
     let e = sym (ap (ofKeyRead bs) (k .r2 .given .1)) ∙ k .before .before .read-key .ensures in
-    (no-name (a .limit) bs (a .c .at) _ e, kept-same (a .i) _)
+    (no-name (a .limit) bs (a .c .at) _ e, kept-same (a .i) _, tt)
 
 pub read-type-spec : {M : Type 1} → statement M
 read-type-spec =

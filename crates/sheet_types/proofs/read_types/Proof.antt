@@ -1,3 +1,4 @@
+use Rattle.sheet_types.specs.RowLaws.{read-none}
 use mathlib.Core.Path.{sym, ap, _∙_}
 use native.Mathlib.Omega.{arith}
 use lib.ListN.{drop}
@@ -37,13 +38,13 @@ unfolding counted
 returns c =
     let b = c .before .before .before in
     let e = c .read-each-type .ensures in
-    (rw (← b .before .before .read-between .ensures, b .n .given .1) (e .0), e .1, e .2)
+    (rw (← b .before .before .read-between .ensures, b .n .given .1) (e .0), e .1, e .2, e .3)
 
 returns-2 : tie.Need-returns-2
 unfolding counted
 returns-2 c =
     let b = c .before in
-    (rw (← b .before .before .read-between .ensures, b .r .given .1), b .before .before .before .before .pre .2, omega arith)
+    (rw (← b .before .before .read-between .ensures, b .r .given .1), b .before .before .before .before .pre .2, omega arith, read-none _ _ _)
 
 pub read-types-spec : {M : Type 1} → statement M
 read-types-spec =
