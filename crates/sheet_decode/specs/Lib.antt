@@ -1,0 +1,4 @@
+pub mod Lists
+pub mod Decodes
+pub mod ListLaws
+pub mod DecodeLaws

@@ -1,0 +1,179 @@
+// The decoder: tests 3 to 7 of a sheet, its types put into a draft and its extension records into the catalogue.
+use bits::Cursor;
+use sheet_repeats::Sizes;
+ghost use mathlib.Core.Bool.{false};
+ghost use mathlib.Core.Path.{_≡_};
+ghost use Prim.Native.Nat.{_≤_};
+ghost use lib.ListN.{length, drop};
+ghost use Rattle.definitions.specs.Bits.{bitsOf};
+ghost use Rattle.definitions.specs.Parse.{counted};
+ghost use Rattle.definitions.specs.Reading.{word, sheet};
+ghost use Rattle.sheet_decode.specs.Lists.{Tables, told, ofWordsTold, tellingIn, records, seen, ofLists, Kept};
+ghost use Rattle.sheet_decode.specs.Decodes.{Decodes};
+
+// ok: count words, the place behind them, whether they are refused with 5, and the numbers of `resource` and `self`. Else a refusal.
+pub struct WordsTold {
+    pub ok: bool,
+    pub refusal: usize,
+    pub count: usize,
+    pub at: usize,
+    pub bad: bool,
+    pub resource: u8,
+    pub own: u8,
+}
+
+// ok: how many words, types and extension records there are, the place behind the last field, and what the words tell. Else a refusal.
+pub struct Lists {
+    pub ok: bool,
+    pub refusal: usize,
+    pub at: usize,
+    pub width: usize,
+    pub count: usize,
+    pub extensions: usize,
+    pub bad: bool,
+    pub resource: u8,
+    pub own: u8,
+}
+
+// ok: how many words, types and extension records there are, and the numbers of `resource` and `self`. Else a refusal.
+pub struct Decoding {
+    pub ok: bool,
+    pub refusal: usize,
+    pub width: usize,
+    pub count: usize,
+    pub extensions: usize,
+    pub resource: u8,
+    pub own: u8,
+}
+
+// The words, and what their spelling tells (FORMAT 1.2).
+fn read_words(s: &[u8], c: Cursor) -> WordsTold
+    requires { ⌜ length (now s) ≤ 40960 ⌝ }
+    ensures { λ r. ⌜ (ofWordsTold (bitsOf (now (s .entry))) r ≡ told (counted 8 2 200 word (drop (c .at) (bitsOf (now (s .entry)))))) × (r .count ≤ 200) ⌝ }
+{
+    let r = words::read_words(s, c);
+    let words = r.words;
+    let next = r.next;
+    let spelled = spelling::spell(words);
+    WordsTold {
+        ok: r.ok,
+        refusal: r.refusal,
+        count: words.count,
+        at: next.at,
+        bad: spelled.bad,
+        resource: spelled.resource,
+        own: spelled.own,
+    }
+}
+
+fn unread(number: usize) -> Lists
+    ensures { λ r. ⌜ (r .ok ≡ false) × (r .refusal ≡ number) × (r .width ≡ 0) × (r .count ≡ 0) × (r .extensions ≡ 0) ⌝ }
+{
+    Lists {
+        ok: false,
+        refusal: number,
+        at: 0,
+        width: 0,
+        count: 0,
+        extensions: 0,
+        bad: false,
+        resource: 0,
+        own: 0,
+    }
+}
+
+// The types and the extension records behind the words.
+fn read_records(s: &[u8], w: WordsTold, d: &mut [u64; 704], t: &mut [u64; 1544]) -> Lists
+    requires { ⌜ (length (now s) ≤ 40960) × (w .count ≤ 200) × Tables (now d) (now t) ⌝ }
+    ensures { λ r. ⌜ (ofLists (bitsOf (now (s .entry))) (now (d .exit)) (now (t .exit)) r ≡ records (tellingIn w) (drop (w .at) (bitsOf (now (s .entry))))) × Kept (bitsOf (now (s .entry))) (now (d .exit)) (now (t .exit)) r ⌝ }
+{
+    let ts = sheet_types::read_types(s, Cursor { at: w.at }, w.count, d);
+    if !ts.ok {
+        return unread(ts.refusal);
+    }
+    let es = sheet_extensions::read_extensions(s, Cursor { at: ts.at }, w.count, t);
+    if !es.ok {
+        return unread(es.refusal);
+    }
+    Lists {
+        ok: true,
+        refusal: 0,
+        at: es.at,
+        width: w.count,
+        count: ts.count,
+        extensions: es.count,
+        bad: w.bad,
+        resource: w.resource,
+        own: w.own,
+    }
+}
+
+// All fields of the sheet: refusals 3 and 4 (FORMAT 2.1).
+fn read_lists(s: &[u8], d: &mut [u64; 704], t: &mut [u64; 1544]) -> Lists
+    requires { ⌜ (length (now s) ≤ 40960) × Tables (now d) (now t) ⌝ }
+    ensures { λ r. ⌜ (ofLists (bitsOf (now (s .entry))) (now (d .exit)) (now (t .exit)) r ≡ seen (sheet (bitsOf (now (s .entry))))) × Kept (bitsOf (now (s .entry))) (now (d .exit)) (now (t .exit)) r ⌝ }
+{
+    let o = sheet::read_version(s, Cursor { at: 0 });
+    if o.refusal != 0 {
+        return unread(o.refusal);
+    }
+    let w = read_words(s, o.next);
+    if !w.ok {
+        return unread(w.refusal);
+    }
+    read_records(s, w, d, t)
+}
+
+fn turned_back(number: usize) -> Decoding
+    ensures { λ r. ⌜ (r .ok ≡ false) × (r .refusal ≡ number) ⌝ }
+{
+    Decoding {
+        ok: false,
+        refusal: number,
+        width: 0,
+        count: 0,
+        extensions: 0,
+        resource: 0,
+        own: 0,
+    }
+}
+
+// The whole sheet, or the number of the first of the tests 3, 4, 7, 5 and 6 that holds (FORMAT 7.3).
+pub fn decode(
+    s: &[u8],
+    d: &mut [u64; 704],
+    entries: &mut [u64; 64],
+    t: &mut [u64; 1544],
+) -> Decoding
+    requires { ⌜ (length (now s) ≤ 40960) × Tables (now d) (now t) × (length (now entries) ≡ 64) ⌝ }
+    ensures { λ r. ⌜ Decodes (now (s .entry)) (now (d .exit)) (now (entries .exit)) (now (t .exit)) r ⌝ }
+{
+    let l = read_lists(s, d, t);
+    if !l.ok {
+        return turned_back(l.refusal);
+    }
+    if sheet::is_bad_fill(s, Cursor { at: l.at }) {
+        return turned_back(7);
+    }
+    if l.bad {
+        return turned_back(5);
+    }
+    sheet_order::order_by_key(d, l.count, entries);
+    let n = Sizes {
+        words: l.width,
+        types: l.count,
+        extensions: l.extensions,
+    };
+    if sheet_repeats::is_something_twice(s, n, d, entries, t) {
+        return turned_back(6);
+    }
+    Decoding {
+        ok: true,
+        refusal: 0,
+        width: l.width,
+        count: l.count,
+        extensions: l.extensions,
+        resource: l.resource,
+        own: l.own,
+    }
+}
