@@ -1,0 +1,80 @@
+use Rattle.bits.specs.NumberLaws.{length-bitsOf, num-lt}
+use mathlib.Core.Path.{sym, _∙_}
+use native.Mathlib.Omega.{arith}
+use Prim.Native.Nat.{_+_, _*_}
+use denote.Ref.{now}
+use lib.ListN.{drop}
+use Rattle.definitions.specs.Bits.{bitsOf}
+use Rattle.sheet_words.specs.ByteLaws.{word-some}
+use Rattle.sheet_words.specs.WordLaws.{short-value, head-shift, text-last, text-good, text-bad, tells-as, refused-tells}
+use borrow.Author.Needs.{needs}
+use Rattle.sheet_words.proofs.short_word.Statement.{statement}
+use Rattle.sheet_words.proofs.short_word.Tie as tie
+use Rattle.sheet_words.proofs.short_word.Reads as reads
+use Rattle.sheet_words.proofs.short_word.Lts as lts
+use Rattle.sheet_words.proofs.is_spelt.Reads as is-spelt-reads
+use Rattle.sheet_words.proofs.word_refused.Reads as word-refused-reads
+
+mul-k : tie.Need-mul-k
+mul-k c = search needs
+
+sub-k : tie.Need-sub-k
+sub-k c = search needs
+
+shr-v : tie.Need-shr-v
+shr-v c = search needs
+
+is-spelt-requires : tie.Need-is-spelt-requires
+is-spelt-requires c κs =
+    let a = c .before .args in
+    let h = c .before .pre .1 in
+    let B = drop (a .at + 5) (bitsOf (now (a .s))) in
+    (h .few, rw (short-value (a .n) (a .x) B (h .few) (h .bits)) (num-lt (8 * a .n) B))
+
+add-t10 : tie.Need-add-t10
+add-t10 c =
+    let b = c .before .before .before in
+    record { fits = omega (arith, b .pre .0, b .pre .1 .there, length-bitsOf (now (b .args .s))) }
+
+shl-t12 : tie.Need-shl-t12
+shl-t12 c = search needs
+
+returns : tie.Need-returns
+returns c =
+    let a = c .before .before .before .args in
+    let h = c .before .before .before .pre .1 in
+    let bs = bitsOf (now (a .s)) in
+    let q = a .at + 5 in
+    let e = short-value (a .n) (a .x) (drop q bs) (h .few) (h .bits) in
+    tells-as bs _ _ _ (word-some bs (a .at) (a .n) (omega (arith, h .there)) (h .length-is) (h .some))
+    (text-good bs q (a .n) (omega (arith, h .there, h .few)) _ (omega (arith, h .few)) (head-shift (a .n) _ (drop q bs) (h .few) e)
+    (sym (text-last bs q (a .n) _ e) ∙ sym (c .before .is-spelt .ensures) ∙ c .if1 .taken))
+
+word-refused-requires : tie.Need-word-refused-requires
+word-refused-requires c κs = search needs
+
+returns-2 : tie.Need-returns-2
+returns-2 c =
+    let a = c .before .before .before .before .args in
+    let h = c .before .before .before .before .pre .1 in
+    let bs = bitsOf (now (a .s)) in
+    let q = a .at + 5 in
+    let e = short-value (a .n) (a .x) (drop q bs) (h .few) (h .bits) in
+    rw (c .word-refused .ensures)
+    (refused-tells bs 4 _
+    (text-bad bs q (a .n) (omega (arith, h .there, h .few)) (sym (text-last bs q (a .n) _ e) ∙ sym (c .before .before .is-spelt .ensures) ∙ c .before .if1 .left)
+    ∙ word-some bs (a .at) (a .n) (omega (arith, h .there)) (h .length-is) (h .some)))
+
+pub short-word-spec : {M : Type 1} → statement M
+short-word-spec =
+    tie.close
+    (tie.spec
+    mul-k
+    sub-k
+    shr-v
+    is-spelt-requires
+    add-t10
+    shl-t12
+    returns
+    word-refused-requires
+    returns-2)
