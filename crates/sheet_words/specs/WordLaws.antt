@@ -20,10 +20,11 @@ use Rattle.definitions.specs.Reading.{isWordByte, word}
 use Rattle.bits.specs.NumberLaws.{num-lt, num-split, length-packTo}
 use Rattle.sheet_window.specs.WindowLaws.{split}
 use Rattle.fields.specs.FieldLaws.{counted-in}
-use Rattle.sheet_words.specs.Words.{spelt, headOf, bytesOf, Held, Tells, Spelled, Short, refusedWord}
+use Rattle.sheet_words.specs.Words.{spelt, headOf, bytesOf, Held, Tells, Spelled, Short, Named, refusedWord}
 use Rattle.sheet_words.specs.ByteLaws.{bytes-split, bytes-drop, byte-is, bytes-num, bytes-in, bytes-past, word-some}
 use Rattle.sheet_words.specs.HeadLaws.{good-drop, head-less, head-more, head-same, same-split, same-short, head-none, head-few}
 use Rattle.sheet_words.specs.declared.Spelt.{Spelt}
+use Rattle.sheet_words.specs.declared.Found.{Found}
 
 -- ---- bytes tested six at a time
 
@@ -225,3 +226,10 @@ module _ (bs : List Bool) (w : Spelt) (h : Held bs w) where
 
   pub self-test : eqb (w .head) 126879447515136 ≡ sameList eqb selfBytes (bytesOf bs w)
   self-test = ap₂ eqb (h .first) (sym self-head) ∙ same-short 6 selfBytes (bytesOf bs w) (omega arith) self-good (h .good)
+
+  -- a word that begins with another letter is neither
+  pub neither-is : (w .head / 2199023255552 ≡ 57 → ⊥) → (t : Found) (u : Bool) (i n : ℕ) → Named bs t u w i n (record { up = u; resource = t .resource; own = t .own })
+  neither-is m t u i n =
+      let a : sameList eqb resourceBytes (bytesOf bs w) ≡ false = sym (class-no (λ e. m (omega (arith, e)))) in
+      let b : sameList eqb selfBytes (bytesOf bs w) ≡ false = sym self-test ∙ ne-eqb (w .head) 126879447515136 (λ e. m (omega (arith, e))) in
+      record { rising = refl; class = rw a refl; self = rw b refl }

@@ -82,11 +82,15 @@ pub record Short (bs : List Bool) (p n x : ℕ) : Type 0 where
 
 -- ---- the words
 
--- What is found with the i-th of n words (FORMAT 1.2).
-pub record With (bs : List Bool) (t : Found) (v w : Spelt) (i n : ℕ) (r : Found) : Type 0 where
-  pub rising : r .up ≡ (t .up && bytesBefore (bytesOf bs v) (bytesOf bs w))
+-- The places with the i-th of n words (FORMAT 1.2).
+pub record Named (bs : List Bool) (t : Found) (u : Bool) (w : Spelt) (i n : ℕ) (r : Found) : Type 0 where
+  pub rising : r .up ≡ u
   pub class : r .resource ≡ cond (sameList eqb resourceBytes (bytesOf bs w) && eqb (t .resource) n) i (t .resource)
   pub self : r .own ≡ cond (sameList eqb selfBytes (bytesOf bs w) && eqb (t .own) n) i (t .own)
+
+-- What is found with it, where v is the word before (FORMAT 1.2).
+abbrev pub With : List Bool → Found → Spelt → Spelt → ℕ → ℕ → Found → Type 0
+With bs t v w i n r = Named bs t (t .up && bytesBefore (bytesOf bs v) (bytesOf bs w)) w i n r
 
 -- What a list of words tells: its length, refusal 5, the numbers of `resource` and `self` (FORMAT 1.2).
 pub record Telling : Type 0 where

@@ -12,7 +12,7 @@ ghost use Rattle.definitions.specs.Checks.{resourceBytes, selfBytes};
 ghost use Rattle.definitions.specs.Comparisons.{bytesBefore};
 ghost use Rattle.definitions.specs.Parse.{allowed, repeat, counted};
 ghost use Rattle.definitions.specs.Reading.{isWordByte, word};
-ghost use Rattle.sheet_words.specs.Words.{bytesOf, headOf, spelt, marks, refusedWord, Held, Tells, Spelled, Short, With, told, ofWordsRead, refusedWords};
+ghost use Rattle.sheet_words.specs.Words.{bytesOf, headOf, spelt, marks, refusedWord, Held, Tells, Spelled, Short, Named, With, told, ofWordsRead, refusedWords};
 
 // ok: a word of count bytes that stand from bit `at` on; `head` is the first six of them as one number. Else a refusal.
 pub struct Spelt {
@@ -272,15 +272,31 @@ fn first_place(hit: bool, old: usize, i: usize, n: usize) -> usize
     old
 }
 
-// What is found with one word more, the i-th of n.
+// The places with one word more, the i-th of n.
+fn with_name(s: &[u8], t: Found, up: bool, w: Spelt, i: usize, n: usize) -> Found
+    requires { ⌜ (length (now s) ≤ 40960) × Held (bitsOf (now s)) w ⌝ }
+    ensures { λ r. ⌜ Named (bitsOf (now (s .entry))) t up w i n r ⌝ }
+{
+    Found {
+        up,
+        resource: first_place(is_resource(s, w), t.resource, i, n),
+        own: first_place(w.head == 126879447515136, t.own, i, n),
+    }
+}
+
+// What is found with one word more, the i-th of n. Only words that begin with r or s are looked at for their names.
 fn with_word(s: &[u8], t: Found, last: Spelt, w: Spelt, i: usize, n: usize) -> Found
     requires { ⌜ (length (now s) ≤ 40960) × Held (bitsOf (now s)) last × Held (bitsOf (now s)) w ⌝ }
     ensures { λ r. ⌜ With (bitsOf (now (s .entry))) t last w i n r ⌝ }
 {
+    let up = still_up(s, t.up, last, w);
+    if w.head / 2199023255552 == 57 {
+        return with_name(s, t, up, w, i, n);
+    }
     Found {
-        up: still_up(s, t.up, last, w),
-        resource: first_place(is_resource(s, w), t.resource, i, n),
-        own: first_place(w.head == 126879447515136, t.own, i, n),
+        up,
+        resource: t.resource,
+        own: t.own,
     }
 }
 

@@ -1,44 +1,32 @@
 use denote.Ref.{now}
-use mathlib.Core.Path.{refl, _∙_}
+use mathlib.Core.Path.{sym, _∙_}
 use Rattle.definitions.specs.Bits.{bitsOf}
-use Rattle.sheet_words.specs.WordLaws.{self-test}
+use Rattle.sheet_words.specs.WordLaws.{neither-is}
 use borrow.Author.Needs.{needs}
 use Rattle.sheet_words.proofs.with_word.Statement.{statement}
 use Rattle.sheet_words.proofs.with_word.Tie as tie
 use Rattle.sheet_words.proofs.with_word.Reads as reads
 use Rattle.sheet_words.proofs.with_word.Lts as lts
-use Rattle.sheet_words.proofs.first_place.Reads as first-place-reads
-use Rattle.sheet_words.proofs.is_resource.Reads as is-resource-reads
 use Rattle.sheet_words.proofs.still_up.Reads as still-up-reads
+use Rattle.sheet_words.proofs.with_name.Reads as with-name-reads
 
 still-up-requires : tie.Need-still-up-requires
 still-up-requires c κs = search needs
 
-is-resource-requires : tie.Need-is-resource-requires
-is-resource-requires c κs = search needs
-
-first-place-requires : tie.Need-first-place-requires
-first-place-requires c κs = search needs
-
-first-place-requires-2 : tie.Need-first-place-requires-2
-first-place-requires-2 c κs = search needs
+with-name-requires : tie.Need-with-name-requires
+with-name-requires c κs = search needs
 
 returns : tie.Need-returns
 returns c =
-    let b = c .before .before .before .before .before .before in
-    let bs = bitsOf (now (b .args .s)) in
-    record {
-      rising = c .before .before .before .before .still-up .ensures;
-      class = c .before .before .first-place .ensures ∙ rw (c .before .before .before .is-resource .ensures) refl;
-      self = c .first-place2 .ensures ∙ rw (self-test bs (b .args .w) (b .pre .2)) refl;
-    }
+    let n = c .with-name .ensures in
+    record { rising = n .rising ∙ c .before .before .before .still-up .ensures; class = n .class; self = n .self }
+
+returns-2 : tie.Need-returns-2
+returns-2 c =
+    let b = c .before .before .before .before in
+    let a = b .args in
+    let f = neither-is (bitsOf (now (a .s))) (a .w) (b .pre .2) (c .if1 .left) (a .t) (c .before .before .still-up .result) (a .i) (a .n) in
+    record { rising = c .before .before .still-up .ensures; class = f .class; self = f .self }
 
 pub with-word-spec : {M : Type 1} → statement M
-with-word-spec =
-    tie.close
-    (tie.spec
-    still-up-requires
-    is-resource-requires
-    first-place-requires
-    first-place-requires-2
-    returns)
+with-word-spec = tie.close (tie.spec still-up-requires with-name-requires returns returns-2)
