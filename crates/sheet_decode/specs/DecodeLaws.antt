@@ -17,12 +17,13 @@ use Rattle.definitions.specs.Records.{TypeInfo, Sheet}
 use Rattle.line_laws.specs.Reading.{read-is-within}
 use Rattle.decoding.specs.Decoding.{turnedBack, tested, decoded}
 use Rattle.decoding.specs.DecodingLaws.{was-read, not-read, seven, five, six}
+use Rattle.sheet_words.specs.Words.{Telling, tellingOf}
 use Rattle.sheet_keys.specs.Keys.{nameOfKey}
 use Rattle.sheet_draft.specs.Draft.{keyAt, typeIn, typesIn}
 use Rattle.sheet_draft.specs.Drafted.{Entered}
 use Rattle.sheet_order.specs.Entries.{LowKeys}
 use Rattle.sheet_extensions.specs.Records.{recordsIn}
-use Rattle.sheet_decode.specs.Lists.{Tables, Telling, tellingOf, Seen, seen, ofLists, Kept}
+use Rattle.sheet_decode.specs.Lists.{Tables, Seen, seen, ofLists, Kept}
 use Rattle.sheet_decode.specs.Decodes.{Whole, Decodes}
 use Rattle.sheet_decode.specs.declared.Lists.{Lists}
 use Rattle.sheet_decode.specs.declared.Decoding.{Decoding}

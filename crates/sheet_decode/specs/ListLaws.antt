@@ -9,33 +9,15 @@ use lib.ListN.{length, drop}
 use Rattle.definitions.specs.Parse.{Parsed, done, refused, next, _>>=_, pure, counted}
 use Rattle.definitions.specs.Reading.{word, typeInfo, extension, sheet}
 use Rattle.definitions.specs.Records.{TypeInfo, Extension, Sheet}
-use Rattle.words.specs.declared.WordsRead.{WordsRead}
-use Rattle.words.specs.declared.Words.{Words}
-use Rattle.words.specs.Words.{ofWords, ofWordsRead}
-use Rattle.words.specs.WordLaws.{length-ofWords}
-use Rattle.spelling.specs.declared.Spelled.{Spelled}
-use Rattle.spelling.specs.Spelling.{Spells}
 use Rattle.sheet.specs.declared.Opening.{Opening}
 use Rattle.sheet.specs.Sheets.{version, lists, ofOpening}
 use Rattle.sheet.specs.SheetLaws.{sheet-parts}
+use Rattle.sheet_words.specs.Words.{Telling, tellingOf, told, ofWordsRead}
+use Rattle.sheet_words.specs.declared.WordsRead.{WordsRead}
 use Rattle.sheet_types.specs.Rows.{NotesRead}
 use Rattle.sheet_types.specs.RowLaws.{read-none}
-use Rattle.sheet_decode.specs.Lists.{Tables, Telling, tellingOf, told, tellingIn, ofWordsTold, Seen, seen, records, ofLists, Kept}
-use Rattle.sheet_decode.specs.declared.WordsTold.{WordsTold}
+use Rattle.sheet_decode.specs.Lists.{Tables, tellingIn, Seen, seen, records, ofLists, Kept}
 use Rattle.sheet_decode.specs.declared.Lists.{Lists}
-
--- ---- words
-
--- what the spelling tells is what the words tell
-pub words-told : (bs : List Bool) (r : WordsRead) (s : Spelled) (x : Parsed (List (List ℕ))) → Spells (ofWords (r .words)) s → ofWordsRead bs r ≡ x →
-    cond (r .ok) (done (record { count = r .words .count; bad = s .bad; resource = s .resource; own = s .own }) (drop (r .next .at) bs)) (refused (r .refusal)) ≡ told x
-words-told bs r s x h e = go (r .ok) ∙ ap told e
-  where
-    go : (t : Bool) →
-        cond t (done (record { count = r .words .count; bad = s .bad; resource = s .resource; own = s .own }) (drop (r .next .at) bs)) (refused (r .refusal))
-        ≡ told (cond t (done (ofWords (r .words)) (drop (r .next .at) bs)) (refused (r .refusal)))
-    go true = rw (h .bad, h .resource, h .own, length-ofWords (r .words))
-    go false = refl
 
 -- ---- the sheet
 
@@ -70,7 +52,7 @@ module _ (bs : List Bool) (o : Opening) (e : ofOpening bs o ≡ version bs) wher
   pub no-version : eqb (o .refusal) 0 ≡ false → refused (o .refusal) ≡ seen (sheet bs)
   no-version q = sym (sheet-seen bs ∙ rw (← e, q))
 
-  module _ (q : eqb (o .refusal) 0 ≡ true) (w : WordsTold) (f : ofWordsTold bs w ≡ told (counted 8 2 200 word (drop (o .next .at) bs))) where
+  module _ (q : eqb (o .refusal) 0 ≡ true) (w : WordsRead) (f : ofWordsRead bs w ≡ told (counted 8 2 200 word (drop (o .next .at) bs))) where
     pub no-words : w .ok ≡ false → refused (w .refusal) ≡ seen (sheet bs)
     no-words b = sym (sheet-seen bs ∙ rw (← e, q, ← f, b))
 

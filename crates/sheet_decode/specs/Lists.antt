@@ -6,13 +6,12 @@ use Prim.Native.Nat.{ℕ, _≤_}
 use lib.ListN.{length, drop}
 use Rattle.definitions.specs.Parse.{Parsed, done, refused, Parser, next, _>>=_, pure, counted}
 use Rattle.definitions.specs.Reading.{typeInfo, extension}
-use Rattle.definitions.specs.Checks.{resourceBytes, selfBytes, badWords}
-use Rattle.definitions.specs.Map.{numberOf}
 use Rattle.definitions.specs.Records.{TypeInfo, Extension, Sheet}
 use Rattle.sheet_draft.specs.Draft.{typesIn}
 use Rattle.sheet_types.specs.Rows.{NotesRead}
 use Rattle.sheet_extensions.specs.Records.{recordsIn}
-use Rattle.sheet_decode.specs.declared.WordsTold.{WordsTold}
+use Rattle.sheet_words.specs.Words.{Telling, tellingOf}
+use Rattle.sheet_words.specs.declared.WordsRead.{WordsRead}
 use Rattle.sheet_decode.specs.declared.Lists.{Lists}
 
 -- The tables have the sizes that they are lent with.
@@ -20,28 +19,9 @@ pub record Tables (d t : List ℕ) : Type 0 where
   pub draft : length d ≡ 704
   pub catalogue : length t ≡ 1544
 
--- What a list of words tells: its length, refusal 5, the numbers of `resource` and `self` (FORMAT 1.2).
-pub record Telling : Type 0 where
-  pub count : ℕ
-  pub bad : Bool
-  pub resource : ℕ
-  pub own : ℕ
-
--- That of the words of a sheet.
-abbrev pub tellingOf : List (List ℕ) → Telling
-tellingOf ws = record { count = length ws; bad = badWords ws; resource = numberOf resourceBytes ws; own = numberOf selfBytes ws }
-
--- What the words that a parser gives tell, and the bits behind them.
-abbrev pub told : Parsed (List (List ℕ)) → Parsed Telling
-told x = next x (λ ws. pure (tellingOf ws))
-
 -- What an answer tells.
-abbrev pub tellingIn : WordsTold → Telling
+abbrev pub tellingIn : WordsRead → Telling
 tellingIn r = record { count = r .count; bad = r .bad; resource = r .resource; own = r .own }
-
--- An answer as a parser's.
-abbrev pub ofWordsTold : List Bool → WordsTold → Parsed Telling
-ofWordsTold bs r = cond (r .ok) (done (tellingIn r) (drop (r .at) bs)) (refused (r .refusal))
 
 -- A sheet, of its words no more than they tell.
 pub record Seen : Type 0 where

@@ -1,26 +1,15 @@
 // The decoder: tests 3 to 7 of a sheet, its types put into a draft and its extension records into the catalogue.
 use bits::Cursor;
 use sheet_repeats::Sizes;
+use sheet_words::WordsRead;
 ghost use mathlib.Core.Bool.{false};
 ghost use mathlib.Core.Path.{_≡_};
 ghost use Prim.Native.Nat.{_≤_};
 ghost use lib.ListN.{length, drop};
 ghost use Rattle.definitions.specs.Bits.{bitsOf};
-ghost use Rattle.definitions.specs.Parse.{counted};
-ghost use Rattle.definitions.specs.Reading.{word, sheet};
-ghost use Rattle.sheet_decode.specs.Lists.{Tables, told, ofWordsTold, tellingIn, records, seen, ofLists, Kept};
+ghost use Rattle.definitions.specs.Reading.{sheet};
+ghost use Rattle.sheet_decode.specs.Lists.{Tables, tellingIn, records, seen, ofLists, Kept};
 ghost use Rattle.sheet_decode.specs.Decodes.{Decodes};
-
-// ok: count words, the place behind them, whether they are refused with 5, and the numbers of `resource` and `self`. Else a refusal.
-pub struct WordsTold {
-    pub ok: bool,
-    pub refusal: usize,
-    pub count: usize,
-    pub at: usize,
-    pub bad: bool,
-    pub resource: u8,
-    pub own: u8,
-}
 
 // ok: how many words, types and extension records there are, the place behind the last field, and what the words tell. Else a refusal.
 pub struct Lists {
@@ -46,26 +35,6 @@ pub struct Decoding {
     pub own: u8,
 }
 
-// The words, and what their spelling tells (FORMAT 1.2).
-fn read_words(s: &[u8], c: Cursor) -> WordsTold
-    requires { ⌜ length (now s) ≤ 40960 ⌝ }
-    ensures { λ r. ⌜ (ofWordsTold (bitsOf (now (s .entry))) r ≡ told (counted 8 2 200 word (drop (c .at) (bitsOf (now (s .entry)))))) × (r .count ≤ 200) ⌝ }
-{
-    let r = words::read_words(s, c);
-    let words = r.words;
-    let next = r.next;
-    let spelled = spelling::spell(words);
-    WordsTold {
-        ok: r.ok,
-        refusal: r.refusal,
-        count: words.count,
-        at: next.at,
-        bad: spelled.bad,
-        resource: spelled.resource,
-        own: spelled.own,
-    }
-}
-
 fn unread(number: usize) -> Lists
     ensures { λ r. ⌜ (r .ok ≡ false) × (r .refusal ≡ number) × (r .width ≡ 0) × (r .count ≡ 0) × (r .extensions ≡ 0) ⌝ }
 {
@@ -83,7 +52,7 @@ fn unread(number: usize) -> Lists
 }
 
 // The types and the extension records behind the words.
-fn read_records(s: &[u8], w: WordsTold, d: &mut [u64; 704], t: &mut [u64; 1544]) -> Lists
+fn read_records(s: &[u8], w: WordsRead, d: &mut [u64; 704], t: &mut [u64; 1544]) -> Lists
     requires { ⌜ (length (now s) ≤ 40960) × (w .count ≤ 200) × Tables (now d) (now t) ⌝ }
     ensures { λ r. ⌜ (ofLists (bitsOf (now (s .entry))) (now (d .exit)) (now (t .exit)) r ≡ records (tellingIn w) (drop (w .at) (bitsOf (now (s .entry))))) × Kept (bitsOf (now (s .entry))) (now (d .exit)) (now (t .exit)) r ⌝ }
 {
@@ -117,7 +86,7 @@ fn read_lists(s: &[u8], d: &mut [u64; 704], t: &mut [u64; 1544]) -> Lists
     if o.refusal != 0 {
         return unread(o.refusal);
     }
-    let w = read_words(s, o.next);
+    let w = sheet_words::read_words(s, o.next);
     if !w.ok {
         return unread(w.refusal);
     }

@@ -12,7 +12,7 @@ use Rattle.sheet_decode.proofs.read_lists.Reads as reads
 use Rattle.sheet_decode.proofs.read_lists.Lts as lts
 use Rattle.sheet.proofs.read_version.Reads as read-version-reads
 use Rattle.sheet_decode.proofs.read_records.Reads as read-records-reads
-use Rattle.sheet_decode.proofs.read_words.Reads as read-words-reads
+use Rattle.sheet_words.proofs.read_words.Reads as read-words-reads
 use Rattle.sheet_decode.proofs.unread.Reads as unread-reads
 
 -- src/lib.rt:116:9
