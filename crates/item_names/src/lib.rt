@@ -25,7 +25,7 @@ fn put_keys<'a>(t: &mut [u64; 1544], firsts: &'a [u8; 64], seconds: &'a [u8; 64]
 }
 
 // A type goes into the set of its first word and into that of its second, or of those that have none.
-fn mark_name(t: &mut [u64; 1544], a: usize, first: u8, second: u8)
+pub fn mark_name(t: &mut [u64; 1544], a: usize, first: u8, second: u8)
     requires { ⌜ a < 64 ⌝ }
     ensures { λ _. ⌜ NameMarked a first second (now (t .entry)) (now (t .exit)) ⌝ }
 {
@@ -76,7 +76,7 @@ fn put_word_if(t: &mut [u64; 1544], n: usize, w: usize, mask: u64) -> usize
 }
 
 // The words below `width` that are the last of a type's name, ascending, each with its types. The answer says how many.
-fn put_words(t: &mut [u64; 1544], width: usize) -> usize
+pub fn put_words(t: &mut [u64; 1544], width: usize) -> usize
     requires { ⌜ FewWords width (now t) ⌝ }
     ensures { λ r. ⌜ WordsPut width (now (t .entry)) (now (t .exit)) r ⌝ }
 {
@@ -103,7 +103,7 @@ fn owner_of(key: u64, set: u64) -> u64
 }
 
 // For each type of a name `a.b` the place of the type `a`.
-fn put_owners(t: &mut [u64; 1544], count: usize)
+pub fn put_owners(t: &mut [u64; 1544], count: usize)
     requires { ⌜ KeysSmall count (now t) ⌝ }
     ensures { λ _. ⌜ OwnersPut count (now (t .entry)) (now (t .exit)) ⌝ }
 {
