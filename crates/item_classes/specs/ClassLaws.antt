@@ -128,7 +128,7 @@ listedAt y k = resourceAs (getD (y .words) k 0) (getD (y .doms) k 0)
 abbrev pub onlyIf : {A : Type 0} → Bool → List A → List A
 onlyIf b l = cond b l []
 
-own-as : (kind : ℕ) (rows : List (List ℕ)) → associateOf (annotationAs kind rows) ≡ onlyIf (eqb kind 1) (map resourceOf rows)
+pub own-as : (kind : ℕ) (rows : List (List ℕ)) → associateOf (annotationAs kind rows) ≡ onlyIf (eqb kind 1) (map resourceOf rows)
 unfolding annotationAs
 own-as zero rows = refl
 own-as (suc zero) rows = refl
@@ -143,7 +143,7 @@ own-as (suc (suc (suc (suc (suc (suc (suc k))))))) rows = rw (ne-eqb (suc (suc (
 abbrev pub lists : ℕ → Bool
 lists kind = eqb kind 1 || eqb kind 2
 
-given-as : (kind : ℕ) (rows : List (List ℕ)) → resourcesOf (annotationAs kind rows) ≡ onlyIf (lists kind) (map resourceOf rows)
+pub given-as : (kind : ℕ) (rows : List (List ℕ)) → resourcesOf (annotationAs kind rows) ≡ onlyIf (lists kind) (map resourceOf rows)
 unfolding annotationAs
 given-as zero rows = refl
 given-as (suc zero) rows = refl

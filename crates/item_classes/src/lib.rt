@@ -52,7 +52,7 @@ fn with_nested(c: Classes, resources: u64, class: u64) -> Classes
 }
 
 // One class more, of an annotation of that kind.
-fn with_class(c: Classes, resources: u64, kind: usize, class: u64) -> Classes
+pub fn with_class(c: Classes, resources: u64, kind: usize, class: u64) -> Classes
     ensures { λ r. ⌜ GathersMore resources (eqb kind 1) class c r ⌝ }
 {
     if kind == 1 {

@@ -9,7 +9,7 @@ ghost use Rattle.records.specs.Marks.{ofMarks};
 ghost use Rattle.item_heads.specs.Heads.{variantBits, HeadIs, Packs, WithMark, HeadPut, WithResource, TypePut};
 
 // Marks as bits, the last mark lowest; how many bits there are, times 8, and how many marks.
-struct Packed {
+pub struct Packed {
     pub bits: u64,
     pub tally: u64,
 }
@@ -45,7 +45,7 @@ fn head_of(variant: usize, is_virtual: bool, is_trait: bool, parents: usize) -> 
 }
 
 // A set with the type a, if its variant is that of a resource.
-fn with_resource(set: u64, a: usize, variant: usize) -> u64
+pub fn with_resource(set: u64, a: usize, variant: usize) -> u64
     requires { ⌜ a < 64 ⌝ }
     ensures { λ r. ⌜ WithResource set a variant r ⌝ }
 {
@@ -58,7 +58,7 @@ fn with_resource(set: u64, a: usize, variant: usize) -> u64
 }
 
 // One mark behind the others: a 0, or a 1 and the 8 bits of the tag.
-fn with_mark(p: Packed, derive: u8, tag: u8) -> Packed
+pub fn with_mark(p: Packed, derive: u8, tag: u8) -> Packed
     requires { ⌜ (p .bits < 2 ^ 54) × (p .tally < 440) ⌝ }
     ensures { λ r. ⌜ WithMark p derive tag r ⌝ }
 {
