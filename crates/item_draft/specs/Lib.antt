@@ -1,0 +1,6 @@
+pub mod Parts
+pub mod Fill
+pub mod PartLaws
+pub mod Rows
+pub mod Records
+pub mod Filling
