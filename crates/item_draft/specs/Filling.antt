@@ -2,7 +2,7 @@
 use mathlib.Core.Bool.{Bool, true, false, _&&_, _||_, not}
 use mathlib.Core.List.{List, [], _∷_, map, List·Memᴰ·head}
 use mathlib.Core.Path.{_≡_, refl, sym, ap, ap₂, _∙_, subst}
-use Prim.Native.Nat.{ℕ, zero, suc, _+_, _*_, _/_, _%_, _≤_, _<_}
+use Prim.Native.Nat.{ℕ, zero, suc, _+_, _/_, _%_, _≤_, _<_}
 use native.Mathlib.Omega.{arith}
 use borrow.Author.Tests.{le-ltb, ltb-true, ltb-false, ne-eqb}
 use lib.Bits.{bitAnd}
@@ -13,7 +13,7 @@ use Rattle.lists.specs.Tests.{by}
 use Rattle.lists.specs.Appending.{map-same}
 use Rattle.lists.specs.Tabulating.{tabulate, tabulate-same, tabulate-in, length-tabulate}
 use Rattle.rows.specs.Rows.{hasBit}
-use Rattle.definitions.specs.Records.{Dom, Resource, Sheet, TypeInfo}
+use Rattle.definitions.specs.Records.{Dom, Resource, Sheet}
 use Rattle.definitions.specs.Comparisons.{elemName}
 use Rattle.definitions.specs.Map.{LineType, LineMap, TypeMap, typeMapOf, lineTypeOf, lineMapOf}
 use Rattle.definitions.specs.Making.{isResourceVariant}
@@ -29,10 +29,10 @@ use Rattle.law_classes.specs.Refusal.{hasChild, lostClass, ownTwice}
 use Rattle.item_spread.specs.Spread.{Ordered, Starts, Right}
 use Rattle.sheet_draft.specs.Draft as draft
 use Rattle.sheet_draft.specs.Draft.{typeIn}
-use Rattle.catalogue.specs.Layout.{keyAt, headAt, marksAt, tallyAt, parentsAt, ownAt, aboveAt, passedAt, wordAt, maskAt, ownerAt, firstAt, secondAt}
-use Rattle.catalogue.specs.Layout.{extensionKeyAt, extensionCountAt, extensionParentAt, extensionsIn, extendedIn, wordsIn, resourcesIn, childedIn, widthIn}
-use Rattle.catalogue.specs.Catalogue.{isResourceHead, virtualHead, traitHead, nameOfKey, parentsIn, Entry, Listed, Extended, SetsOf, Owned, Catalogued}
-use Rattle.item_names.specs.Names.{secondOf, keyOf, typesOf, maskOf, ownerOf}
+use Rattle.catalogue.specs.Layout.{keyAt, headAt, marksAt, tallyAt, parentsAt, ownAt, aboveAt, passedAt, wordAt, maskAt, firstAt, secondAt}
+use Rattle.catalogue.specs.Layout.{extensionKeyAt, wordsIn, resourcesIn, widthIn}
+use Rattle.catalogue.specs.Catalogue.{isResourceHead, virtualHead, traitHead, Entry, Listed, Extended, SetsOf, Owned, Catalogued}
+use Rattle.item_names.specs.Names.{secondOf, typesOf, maskOf, ownerOf}
 use Rattle.item_names.specs.NamesLaws.{few-words}
 use Rattle.item_names.specs.Holding.{Holds, holds-set, holds-fits}
 use Rattle.item_names.specs.Named.{Named, NamesIn, key-name, key-small, first-is, first-fits, none-is, none-fits, second-is, second-fits, worded, owner-right, owner-none}
@@ -46,6 +46,7 @@ use Rattle.item_draft.specs.Parts.{HeadsPut, NotesReady, ownSets, givenS
 use Rattle.item_draft.specs.Fill.{recordIn, Stands, Fillable, Fills}
 use Rattle.item_draft.specs.Rows as rows
 use Rattle.item_draft.specs.Records as extensions
+use Rattle.item_draft.specs.Standing.{records-stand}
 use Rattle.item_draft.specs.declared.Known.{Known}
 
 -- The tables from part to part.
@@ -210,24 +211,11 @@ module _ (bs : List Bool) (d entries order : List ℕ) (k : Known) (t0 t1 t2 t3 
 
     -- ---- extension records
 
-    parents-same : (e : ℕ) → e < k .extensions → parentsIn t4 e ≡ parentsIn t0 e
-    unfolding parentsIn
-    parents-same e h =
-        let f = extensions.few-records s t0 (k .extensions) (hs .drawn .within) (hs .extensions) in
-        let c = extensions.record-count s t0 (k .extensions) (hs .drawn .within) (hs .extensions) e h in
-        ap (tabulate (λ j. nameOfKey (extensionParentAt t4 (8 * e + j)))) (high (736 + e) (omega arith) (omega arith))
-        ∙ tabulate-same (λ j. nameOfKey (extensionParentAt t4 (8 * e + j))) (λ j. nameOfKey (extensionParentAt t0 (8 * e + j))) (extensionCountAt t0 e)
-        (λ j l. ap nameOfKey (high (768 + (8 * e + j)) (omega arith) (omega arith)))
-
     record-key-stays : (e : ℕ) → e < k .extensions → extensionKeyAt t4 e ≡ extensionKeyAt t0 e
     record-key-stays e h = high (704 + e) (omega arith) (omega (arith, extensions.few-records s t0 (k .extensions) (hs .drawn .within) (hs .extensions)))
 
     records-held : tabulate (recordIn t4) (k .extensions) ≡ s .extensions
-    unfolding recordIn
-    records-held =
-        tabulate-same (recordIn t4) (recordIn t0) (k .extensions)
-        (λ e h. rw (record-key-stays e h, parents-same e h))
-        ∙ hs .extensions
+    records-held = records-stand s t0 t4 (k .extensions) (hs .drawn .within) (hs .extensions) (λ i h l. high i (omega arith) (omega arith))
 
     record-types-stay : (e : ℕ) → e < k .extensions → typesWith t1 (extensionKeyAt t1 e) ≡ typesWith t4 (extensionKeyAt t4 e)
     record-types-stay e h =

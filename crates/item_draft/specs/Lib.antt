@@ -3,4 +3,5 @@ pub mod Fill
 pub mod PartLaws
 pub mod Rows
 pub mod Records
+pub mod Standing
 pub mod Filling

@@ -2,11 +2,11 @@
 use mathlib.Core.Bool.{Bool, false, _&&_, _||_}
 use mathlib.Core.List.{List, [], _∷_, map}
 use mathlib.Core.Path.{_≡_, refl, sym, ap, ap₂, _∙_, subst}
-use Prim.Native.Nat.{ℕ, _+_, _/_, _%_, _≤_, _<_}
+use Prim.Native.Nat.{ℕ, _+_, _/_, _%_, _<_}
 use native.Mathlib.Omega.{arith}
 use borrow.Author.Tests.{eqb-true, eqb-false, le-ltb}
-use lib.Dec.{eqb, ltb}
-use lib.ListN.{length, getD, set, length-set, drop}
+use lib.Dec.{eqb}
+use lib.ListN.{length, getD, set, length-set}
 use lib.Seq.{getD-set-same, getD-set-other}
 use Rattle.lists.specs.Lists.{any, each, repeats}
 use Rattle.lists.specs.Tests.{by}
@@ -14,7 +14,6 @@ use Rattle.lists.specs.Appending.{map-same}
 use Rattle.rows.specs.Rows.{hasBit}
 use Rattle.rows.specs.RowLaws.{bit-none}
 use Rattle.definitions.specs.Records.{Dom, Resource}
-use Rattle.definitions.specs.Parse.{Parsed, done}
 use Rattle.definitions.specs.Checks.{resourcesOf}
 use Rattle.definitions.specs.Items.{associateOf}
 use Rattle.ordering.specs.Lists.{any-tab-step}
@@ -22,13 +21,11 @@ use Rattle.sheet_notes.specs.Notes.{Notes, notes}
 use Rattle.sheet_draft.specs.Draft as draft
 use Rattle.sheet_draft.specs.Draft.{placeAt, notesOf, notesAt}
 use Rattle.catalogue.specs.Layout.{headAt, resourcesIn, childedIn, widthIn}
-use Rattle.catalogue.specs.Kept.{KeptOutside, kept-none, kept-set, kept-more}
+use Rattle.catalogue.specs.Kept.{kept-none, kept-set, kept-more}
 use Rattle.item_names.specs.Names.{typesOf}
 use Rattle.item_names.specs.NamesLaws as names
 use Rattle.item_heads.specs.Heads.{Packs, WithResource}
 use Rattle.item_classes.specs.Classes.{classBy, classIn, meets, lost, Gathers}
-use Rattle.item_classes.specs.declared.Classes.{Classes}
-use Rattle.item_heads.specs.declared.Packed.{Packed}
 use Rattle.item_entries.specs.Entries.{rowIn}
 use Rattle.item_notes.specs.Notes.{DoneAt, NotesAt, NotesGathered}
 use Rattle.item_notes.specs.declared.Noted.{Noted}

@@ -1,10 +1,10 @@
 -- The extension records in the table are those of the map.
 use mathlib.Core.Bool.{Bool, true, false, _&&_}
 use mathlib.Core.List.{List, [], _∷_, _++_, map}
-use mathlib.Core.Path.{_≡_, refl, sym, ap, ap₂, _∙_, subst}
+use mathlib.Core.Path.{_≡_, refl, sym, ap, _∙_, subst}
 use Prim.Native.Nat.{ℕ, zero, suc, _+_, _-_, _*_, _/_, _%_, _≤_, _<_}
 use native.Mathlib.Omega.{arith}
-use borrow.Author.Tests.{eq-eqb, ne-eqb, eqb-true, eqb-false, lt-ltb}
+use borrow.Author.Tests.{eq-eqb, eqb-true, eqb-false, lt-ltb}
 use lib.Bits.{bitAnd}
 use lib.Dec.{eqb}
 use lib.ListN.{length}
@@ -21,12 +21,11 @@ use Rattle.definitions.specs.Making.{extensionParents}
 use Rattle.laws.specs.Comparisons.{same-name, name-same}
 use Rattle.line_laws.specs.Statements.{lineMap}
 use Rattle.line_laws.specs.Within.{NameWithin, ExtensionWithin, Within}
-use Rattle.fields.specs.Fields.{twoWords}
 use Rattle.ordering.specs.Lists.{tab, any-tab-out, below, below-same, below-none, filter-below, map-below, same-list-sym}
 use Rattle.law_classes.specs.Sets.{typeAt}
 use Rattle.catalogue.specs.Layout.{keyAt, extensionKeyAt, extensionCountAt, extensionParentAt, extensionsIn, extendedIn, firstAt, secondAt}
 use Rattle.catalogue.specs.Catalogue.{nameOfKey, parentsIn, addedIn, Extended}
-use Rattle.item_names.specs.Names.{secondOf, keyOf, typesOf}
+use Rattle.item_names.specs.Names.{secondOf, keyOf}
 use Rattle.item_names.specs.Named.{Named, NamesIn, name-of-key, key-name, types-hold}
 use Rattle.item_sets.specs.Sets.{typesWith, RecordKeysFit}
 use Rattle.item_draft.specs.Fill.{recordIn}
@@ -48,7 +47,7 @@ key-back k =
     (λ e. rw e (omega (arith, eqb-false (k % 256) 0 e)))
 
 -- names are equal where their keys are
-same-key : (k j : ℕ) → sameName (nameOfKey k) (nameOfKey j) ≡ eqb k j
+pub same-key : (k j : ℕ) → sameName (nameOfKey k) (nameOfKey j) ≡ eqb k j
 same-key k j =
     same-test
     (λ e. eq-eqb k j (sym (key-back k) ∙ ap keyBack (same-name (nameOfKey k) (nameOfKey j) e) ∙ key-back j))

@@ -1,11 +1,11 @@
 -- What the draft with its entries says of the map: the type at each place in name order, its name, its words.
-use mathlib.Core.Bool.{Bool, cond, false}
+use mathlib.Core.Bool.{Bool, cond}
 use mathlib.Core.List.{List, [], _∷_, map, List·Memᴰ·head, List·Memᴰ·tail}
 use mathlib.Core.Logic.{_⊎_, inl, inr, ⊎-elim}
-use mathlib.Core.Path.{_≡_, refl, sym, ap, ap₂, _∙_, subst}
+use mathlib.Core.Path.{_≡_, refl, sym, ap, _∙_, subst}
 use Prim.Native.Nat.{ℕ, zero, suc, _+_, _-_, _*_, _/_, _%_, _≤_, _<_}
 use native.Mathlib.Omega.{arith}
-use borrow.Author.Tests.{eq-eqb, ne-eqb, eqb-true, eqb-false}
+use borrow.Author.Tests.{eqb-true, eqb-false}
 use lib.Dec.{eqb}
 use lib.ListN.{length, getD, take, length-map, length-take}
 use lib.Seq.{getD-take}
@@ -15,7 +15,7 @@ use Rattle.lists.specs.Strict.{which}
 use Rattle.lists.specs.Places.{getD-in, sorted-places}
 use Rattle.lists.specs.Sorting.{sort-is}
 use Rattle.lists.specs.Tabulating.{tabulate-of}
-use Rattle.definitions.specs.Records.{Name, Resource, Sheet, TypeInfo}
+use Rattle.definitions.specs.Records.{Resource, Sheet, TypeInfo}
 use Rattle.definitions.specs.Map.{LineType, LineMap, TypeMap, typeMapOf, lineTypeOf, lineMapOf}
 use Rattle.definitions.specs.Items.{owned, given}
 use Rattle.laws.specs.Comparisons.{names-once, types-is, types-apart}
@@ -23,11 +23,10 @@ use Rattle.line_laws.specs.Statements.{lineMap}
 use Rattle.line_laws.specs.Within.{NameWithin, ResourceWithin}
 use Rattle.line_laws.specs.Associating.{owned-of, given-is}
 use Rattle.line_laws.specs.Bounds.{gives-within, own-within}
-use Rattle.fields.specs.Fields.{twoWords}
 use Rattle.ordering.specs.Reading as reading
 use Rattle.law_classes.specs.Sets.{typeAt, noType}
 use Rattle.sheet_keys.specs.Keys as keys
-use Rattle.sheet_draft.specs.Draft.{keyAt, typeIn, typesIn}
+use Rattle.sheet_draft.specs.Draft.{keyAt, typeIn}
 use Rattle.sheet_draft.specs.Drafted.{entryAt, entryBefore, entriesOf}
 use Rattle.catalogue.specs.Catalogue.{nameOfKey}
 use Rattle.item_names.specs.Named.{WordOrNone, Named, name-of-key}
@@ -96,19 +95,16 @@ module _ (s : Sheet) (bs : List Bool) (d entries : List ℕ) (n : ℕ) (w : Draw
       ∙ map-at rowType (take n entries) a 0 reading.noType (omega (arith, length-entries))
       ∙ ap rowType (getD-take n entries a 0 h)
 
-  listed-is : (a : ℕ) → a < n → typeAt m a ≡ lineTypeOf (reading.typeAt mm a)
+  pub line-listed : (a : ℕ) → a < n → typeAt m a ≡ lineTypeOf (reading.typeAt mm a)
   unfolding lineMapOf
-  listed-is a h = map-at lineTypeOf (mm .types) a reading.noType noType (omega (arith, count-types))
+  line-listed a h = map-at lineTypeOf (mm .types) a reading.noType noType (omega (arith, count-types))
 
   -- and as the lines see it
   pub line-at : (a : ℕ) → a < n → typeAt m a ≡ lineTypeOf (typeIn W bs d (rowIn entries a))
-  line-at a h = listed-is a h ∙ ap lineTypeOf (type-at a h)
+  line-at a h = line-listed a h ∙ ap lineTypeOf (type-at a h)
 
-  pub line-listed : (a : ℕ) → a < n → typeAt m a ≡ lineTypeOf (reading.typeAt mm a)
-  line-listed a h = listed-is a h
-
-  type-in : (a : ℕ) → a < n → In (reading.typeAt mm a) (s .types)
-  type-in a h = types-is s (reading.typeAt mm a) .0 (getD-in (mm .types) reading.noType a (omega (arith, count-types)))
+  pub type-listed : (a : ℕ) → a < n → In (reading.typeAt mm a) (s .types)
+  type-listed a h = types-is s (reading.typeAt mm a) .0 (getD-in (mm .types) reading.noType a (omega (arith, count-types)))
 
   -- the row of an entry, and its key
   row-of : (a : ℕ) → a < n → (i : ℕ) × (i < n) × (getD entries a 0 ≡ keyAt d i * 64 + i)
@@ -132,12 +128,12 @@ module _ (s : Sheet) (bs : List Bool) (d entries : List ℕ) (n : ℕ) (w : Draw
   unfolding lineTypeOf typeIn
   name-at a h = ap (λ (T : LineType). T .name) (line-at a h) ∙ key-words (keyAt d (rowIn entries a)) ∙ ap nameOfKey (sym (key-is a h))
 
-  name-listed : (a : ℕ) → a < n → typeAt m a .name ≡ reading.typeAt mm a .name
+  pub name-of-listed : (a : ℕ) → a < n → typeAt m a .name ≡ reading.typeAt mm a .name
   unfolding lineTypeOf
-  name-listed a h = ap (λ (T : LineType). T .name) (listed-is a h)
+  name-of-listed a h = ap (λ (T : LineType). T .name) (line-listed a h)
 
   within-name : (a : ℕ) → a < n → NameWithin W (nameOfKey (keyIn entries a))
-  within-name a h = subst (NameWithin W) (sym (name-listed a h) ∙ name-at a h) (w .within .type (reading.typeAt mm a) (type-in a h) .name)
+  within-name a h = subst (NameWithin W) (sym (name-of-listed a h) ∙ name-at a h) (w .within .type (reading.typeAt mm a) (type-listed a h) .name)
 
   key-first : (a : ℕ) → a < n → keyIn entries a / 256 < W
   key-first a h = first-below W (keyIn entries a) (within-name a h)
@@ -167,7 +163,7 @@ module _ (s : Sheet) (bs : List Bool) (d entries : List ℕ) (n : ℕ) (w : Draw
     once = λ a b h k e.
         let p : a < n = omega (arith, count-is) in
         let q : b < n = omega (arith, count-is) in
-        let f = sym (name-listed a p) ∙ e ∙ name-listed b q in
+        let f = sym (name-of-listed a p) ∙ e ∙ name-of-listed b q in
         ⊎-elim
         (λ (x : a < b). absurd (apart a b x q f))
         (λ y.
@@ -192,10 +188,10 @@ module _ (s : Sheet) (bs : List Bool) (d entries : List ℕ) (n : ℕ) (w : Draw
   pub own-words : (a : ℕ) → a < n → (u : Resource) → In u (owned (typeAt m a)) → ResourceWithin W u
   own-words a h u i =
       let T = reading.typeAt mm a in
-      let r = owned-of T (subst (λ D. In u (owned D)) (listed-is a h) i) in
-      own-within s (w .readable) (w .within) (type-in a h) (r .2)
+      let r = owned-of T (subst (λ D. In u (owned D)) (line-listed a h) i) in
+      own-within s (w .readable) (w .within) (type-listed a h) (r .2)
 
   pub given-words : (a : ℕ) → a < n → (u : Resource) → In u (given (typeAt m a)) → ResourceWithin W u
   given-words a h u i =
       let T = reading.typeAt mm a in
-      gives-within s (w .readable) (w .within) (type-in a h) (given-is T u .0 (subst (λ D. In u (given D)) (listed-is a h) i))
+      gives-within s (w .readable) (w .within) (type-listed a h) (given-is T u .0 (subst (λ D. In u (given D)) (line-listed a h) i))

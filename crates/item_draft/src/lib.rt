@@ -1,12 +1,10 @@
 // The catalogue of a map, out of its draft and its sheet, where the names, the parents, the extension records and the order
 // stand already.
-use item_notes::Noted;
 use item_sets::Numbers;
 ghost use mathlib.Core.Path.{_≡_};
 ghost use Prim.Native.Nat.{_≤_, _<_};
 ghost use lib.ListN.{length};
 ghost use Rattle.definitions.specs.Bits.{bitsOf};
-ghost use Rattle.catalogue.specs.Layout.{resourcesIn, childedIn, widthIn};
 ghost use Rattle.item_draft.specs.Parts.{HeadsPut, NotePut, NotesReady, NotesPut};
 ghost use Rattle.item_draft.specs.Fill.{Fillable, Fills};
 

@@ -1,7 +1,7 @@
 -- The names of the entries as two lists of bytes, as the catalogue's names are described.
 use mathlib.Core.List.{List}
 use Prim.Native.Nat.{ℕ, _+_, _/_, _%_, _≤_, _<_}
-use lib.ListN.{length, getD}
+use lib.ListN.{getD}
 use Rattle.lists.specs.Tabulating.{tabulate}
 
 -- The key of an entry (FORMAT 1.4).

@@ -1,8 +1,8 @@
 -- Names, annotations and marks where a parser was done, and the steps of the loops over them.
-use mathlib.Core.Bool.{Bool, true, false, _&&_, _||_, not, cond}
+use mathlib.Core.Bool.{Bool, true, false, _&&_, not, cond}
 use mathlib.Core.List.{List, [], _∷_, _++_, map, append-nil, append-assoc}
 use mathlib.Core.Path.{_≡_, refl, sym, ap, ap₂, _∙_, subst}
-use Prim.Native.Nat.{ℕ, zero, suc, _+_, _*_, _-_, _/_, _%_, _^_, _≤_, _<_}
+use Prim.Native.Nat.{ℕ, _+_, _*_, _-_, _/_, _%_, _^_, _≤_, _<_}
 use native.Mathlib.Omega.{arith}
 use borrow.Author.Tests.{eq-eqb, ne-eqb, eqb-true, eqb-false}
 use lib.Dec.{eqb, ltb, leb}
@@ -11,14 +11,14 @@ use Rattle.lists.specs.Lists.{each}
 use Rattle.lists.specs.Tests.{by, never}
 use Rattle.lists.specs.Appending.{map-append, each-snoc}
 use Rattle.definitions.specs.Bits.{bitsOf, num}
-use Rattle.definitions.specs.Records.{Name, Resource, Annotation, Mark, makelistMark, deriveMark}
-use Rattle.definitions.specs.Parse.{Parsed, done, Parser, next, pure, refuse, choose, field, flag, between, repeatOnto, repeat, counted}
+use Rattle.definitions.specs.Records.{Resource, Annotation, Mark, makelistMark, deriveMark}
+use Rattle.definitions.specs.Parse.{done, Parser, next, pure, refuse, choose, field, flag, between, repeatOnto, repeat, counted}
 use Rattle.definitions.specs.Reading.{wordField, wordIfFlag, name, annotation, mark}
 use Rattle.definitions.specs.Checks.{resourcesOf}
 use Rattle.definitions.specs.Items.{associateOf}
 use Rattle.bits.specs.NumberLaws.{num-lt, length-bitsOf}
 use Rattle.sheet_window.specs.WindowLaws.{split}
-use Rattle.sheet_peek.specs.PeekLaws.{refused-not, done-value, done-rest, next-done, pure-done, FieldIs, field-done, allowed-done, repeat-none, repeat-more, counted-done}
+use Rattle.sheet_peek.specs.PeekLaws.{refused-not, done-value, done-rest, next-done, pure-done, field-done, allowed-done, repeat-none, repeat-more, counted-done}
 use Rattle.records.specs.Annotations.{resourceOf, annotationAs, rowOfWord, rowOfTag, rowsFor}
 use Rattle.records.specs.AnnotationLaws.{annotation-rows, rows-none}
 use Rattle.records.specs.Marks.{markAs}
@@ -30,10 +30,9 @@ use Rattle.item_classes.specs.declared.Classes.{Classes}
 use Rattle.item_heads.specs.Heads.{Packs, WithMark}
 use Rattle.item_heads.specs.HeadLaws.{packs-none, packs-room}
 use Rattle.item_heads.specs.declared.Packed.{Packed}
-use Rattle.item_notes.specs.Notes.{nameIn, nameEnd, markEnd, DoneAt, NamesAt, RowsAt, AnnotationAt, AnnotationsAt, MarksAt, NotesAt, Adds, rowSets}
+use Rattle.item_notes.specs.Notes.{nameIn, nameEnd, markEnd, NamesAt, RowsAt, AnnotationAt, AnnotationsAt, MarksAt, NotesAt, Adds, rowSets}
 use Rattle.item_notes.specs.Notes.{RowsGathered, NamesSkipped, RowsSkipped, AnnotationGathered, AnnotationsGathered, MarksPacked, NotesGathered}
 use Rattle.item_notes.specs.declared.Gathered.{Gathered}
-use Rattle.item_notes.specs.declared.Noted.{Noted}
 
 -- a place in a sheet is small
 pub room : (s : List ℕ) (e : ℕ) → length s ≤ 40960 → e ≤ length (bitsOf s) → e ≤ 327680

@@ -1,7 +1,7 @@
 // Up to 25 bits at any place of a sheet; past its end they are 0. For what the decoder has tested already.
 ghost use mathlib.Core.Path.{_≡_};
 ghost use Prim.Native.Nat.{_+_, _/_, _≤_, _<_};
-ghost use lib.ListN.{length, drop, getD};
+ghost use lib.ListN.{drop, getD};
 ghost use Rattle.definitions.specs.Bits.{bitsOf, num};
 
 // A byte, 0 past the end.

@@ -1,7 +1,7 @@
 use mathlib.Core.Path.{refl, _∙_}
 use native.Mathlib.Omega.{arith}
 use Rattle.definitions.specs.Bits.{bitsOf}
-use Rattle.item_draft.specs.Filling.{Steps, filled, keys-fit, notes-ready, order-fits}
+use Rattle.item_draft.specs.Filling.{filled, keys-fit, notes-ready, order-fits}
 use borrow.Author.Needs.{needs}
 use Rattle.item_draft.proofs.fill.Statement.{statement}
 use Rattle.item_draft.proofs.fill.Tie as tie

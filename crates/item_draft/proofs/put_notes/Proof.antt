@@ -1,6 +1,4 @@
 use mathlib.Core.Path.{sym, subst, _∙_}
-use Rattle.sheet_draft.specs.Draft.{placeAt}
-use Rattle.item_entries.specs.Entries.{rowIn}
 use Rattle.item_notes.specs.Notes.{NotesAt, NotesGathered}
 use native.Mathlib.Omega.{arith}
 use Prim.Native.Nat.{_-_, _≤_}

@@ -1,5 +1,5 @@
 use mathlib.Core.Path.{_≡_, subst}
-use Prim.Native.Nat.{_-_, _/_, _≤_, _<_}
+use Prim.Native.Nat.{_-_, _≤_, _<_}
 use native.Mathlib.Omega.{arith}
 use Rattle.item_names.specs.Names.{KeysPut}
 use Rattle.item_names.specs.NamesLaws.{keys-none, keys-more}

@@ -1,5 +1,5 @@
 use mathlib.Core.Path.{_≡_, refl, subst}
-use Prim.Native.Nat.{_+_, _-_, _/_, _%_, _≤_, _<_}
+use Prim.Native.Nat.{_-_, _≤_, _<_}
 use native.Mathlib.Omega.{arith}
 use Rattle.item_names.specs.Names.{SetsPut}
 use Rattle.item_names.specs.NamesLaws.{sets-none, sets-more}

@@ -4,7 +4,6 @@ use native.Mathlib.Omega.{arith}
 use Rattle.definitions.specs.Bits.{bitsOf}
 use Rattle.item_notes.specs.Notes.{RowsAt, RowsSkipped}
 use Rattle.item_notes.specs.NoteLaws.{room, inherit-at, inherit-fits, skip-inherit, skip-alias, alias-fits, skip-derive, derive-fits, skip-none}
-use borrow.Author.Needs.{needs}
 use Rattle.item_notes.proofs.skip_rest.Statement.{statement}
 use Rattle.item_notes.proofs.skip_rest.Tie as tie
 
