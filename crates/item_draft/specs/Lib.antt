@@ -5,3 +5,5 @@ pub mod Rows
 pub mod Records
 pub mod Standing
 pub mod Filling
+pub mod Instance
+pub mod TableInstance
