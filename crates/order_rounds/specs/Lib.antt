@@ -1,0 +1,5 @@
+pub mod Rounds
+pub mod Organized
+pub mod StepLaws
+pub mod StageLaws
+pub mod OrganizedLaws

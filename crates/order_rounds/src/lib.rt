@@ -1,0 +1,128 @@
+// The order of the types of a map, round by round, over the sets of their parents. A type is its place in name order.
+ghost use mathlib.Core.Path.{_≡_};
+ghost use Prim.Native.Nat.{_+_, _≤_};
+ghost use lib.ListN.{length, take};
+ghost use Rattle.bitsets.specs.Bitsets.{members};
+ghost use Rattle.order_rounds.specs.Rounds.{allIn, readyOf, Parentless, ReadyIn, Appended, Sets, Placed};
+ghost use Rattle.order_rounds.specs.Organized.{Asked, Organized};
+
+// Whether each parent stands among the first n of the order. The scan ends where one does not (01: 'the first parent not
+// placed'). It begins with the type that was placed last, since most parents were placed in the round before.
+fn all_placed(parents: u64, order: &[u64; 64], n: usize) -> bool
+    requires { ⌜ (length (now order) ≡ 64) × (n ≤ 64) ⌝ }
+    ensures { λ r. ⌜ r ≡ allIn parents (take n (now (order .entry))) ⌝ }
+{
+    let mut left = parents;
+    'parents: while left != 0 {
+        let place = bitsets::lowest(left) as u64;
+        let mut j = n;
+        loop {
+            if j == 0 {
+                break 'parents;
+            }
+            j -= 1;
+            if order[j] == place {
+                break;
+            }
+        }
+        left = bitsets::rest(left);
+    }
+    left == 0
+}
+
+// Whether a type is ready that was not before the last round: `last` has the types that the round placed.
+fn is_ready(parents: u64, last: u64, order: &[u64; 64], n: usize) -> bool
+    requires { ⌜ (length (now order) ≡ 64) × (n ≤ 64) ⌝ }
+    ensures { λ r. ⌜ r ≡ readyOf last (take n (now (order .entry))) parents ⌝ }
+{
+    if parents & last == 0 {
+        return false;
+    }
+    all_placed(parents, order, n)
+}
+
+// Those of the waiting types that are ready now.
+fn ready_in(t: &[u64; 1544], waiting: u64, last: u64, order: &[u64; 64], n: usize) -> u64
+    requires { ⌜ (length (now order) ≡ 64) × (n ≤ 64) ⌝ }
+    ensures { λ r. ⌜ ReadyIn (now (t .entry)) waiting last (take n (now (order .entry))) r ⌝ }
+{
+    let mut out: u64 = 0;
+    let mut left = waiting;
+    while left != 0 {
+        let a = bitsets::lowest(left);
+        let parents = catalogue::parents_at(t, a);
+        if is_ready(parents, last, order, n) {
+            out = bitsets::with_one(out, a);
+        }
+        left = bitsets::rest(left);
+    }
+    out
+}
+
+// The types without parents, which round one places.
+fn parentless(t: &[u64; 1544], count: usize) -> u64
+    requires { ⌜ count ≤ 64 ⌝ }
+    ensures { λ r. ⌜ Parentless (now (t .entry)) count r ⌝ }
+{
+    let mut out: u64 = 0;
+    let mut a: usize = 0;
+    while a < count {
+        if catalogue::parents_at(t, a) == 0 {
+            out = bitsets::with_one(out, a);
+        }
+        a += 1;
+    }
+    out
+}
+
+// The types of a set behind the first n of the order, by name.
+fn append(order: &mut [u64; 64], n: usize, types: u64) -> usize
+    requires { ⌜ length (now order) ≡ 64 ⌝ }
+    requires { ⌜ n + length (members types) ≤ 64 ⌝ }
+    ensures { λ r. ⌜ Appended (now (order .entry)) (now (order .exit)) n types r ⌝ }
+{
+    let mut at = n;
+    let mut left = types;
+    while left != 0 {
+        let a = bitsets::lowest(left);
+        order[at] = a as u64;
+        at += 1;
+        left = bitsets::rest(left);
+    }
+    at
+}
+
+// What all rounds place: another round is made while one placed a type (FORMAT 3.4).
+pub fn place_all(t: &[u64; 1544], count: usize, order: &mut [u64; 64]) -> usize
+    requires { ⌜ length (now order) ≡ 64 ⌝ }
+    requires { ⌜ Sets (now t) count ⌝ }
+    ensures { λ r. ⌜ Placed (now (t .entry)) count (now (order .exit)) r ⌝ }
+{
+    let mut ready = parentless(t, count);
+    let mut waiting = bitsets::first(count as u64);
+    let mut n: usize = 0;
+    while ready != 0 {
+        n = append(order, n, ready);
+        waiting = bitsets::without(waiting, ready);
+        ready = ready_in(t, waiting, ready, order, n);
+    }
+    n
+}
+
+// The order of the types, if there is one. `whole` says that each listed parent is declared, and none is `self`.
+pub fn organize_type_map(
+    t: &[u64; 1544],
+    count: usize,
+    whole: bool,
+    order: &mut [u64; 64],
+) -> bool
+    requires { ⌜ length (now order) ≡ 64 ⌝ }
+    requires { ⌜ Asked (now t) count whole ⌝ }
+    ensures { λ r. ⌜ Organized (now (t .entry)) count whole (now (order .exit)) r ⌝ }
+{
+    if !whole {
+        return false;
+    }
+    let n = place_all(t, count, order);
+    n == count
+}
