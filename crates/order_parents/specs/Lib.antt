@@ -1,3 +1,5 @@
 pub mod Parents
 pub mod Known
 pub mod PutLaws
+pub mod MapLaws
+pub mod SheetLaws
