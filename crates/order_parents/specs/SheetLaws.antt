@@ -80,7 +80,7 @@ module _ (s : Sheet) where
   unfolding lineTypeOf
   name-at a h = ap (λ (T : LineType). T .name) (line-at a h)
 
-  type-within : Within s → (a : ℕ) → a < length (typeMapOf s .types) → TypeWithin (length (s .words)) (typeAt (typeMapOf s) a)
+  pub type-within : Within s → (a : ℕ) → a < length (typeMapOf s .types) → TypeWithin (length (s .words)) (typeAt (typeMapOf s) a)
   unfolding typeMapOf
   type-within w a h = w .type _ (sort-is (λ (T U : TypeInfo). nameBefore (T .name) (U .name)) (s .types) _ .0 (getD-in (typeMapOf s .types) noType a h))
 
@@ -90,7 +90,7 @@ pub record KeyWithin (W key : ℕ) : Type 0 where
   pub first : key / 256 < W
   pub second : key % 256 ≤ W
 
-key-within : (W key : ℕ) → NameWithin W (nameOfKey key) → KeyWithin W key
+pub key-within : (W key : ℕ) → NameWithin W (nameOfKey key) → KeyWithin W key
 unfolding nameOfKey
 key-within W key n = record {
   first = n .below (key / 256) (List·Memᴰ·head refl);

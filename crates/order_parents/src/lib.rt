@@ -13,7 +13,7 @@ pub struct Found {
 }
 
 // The type that has a key, as a set of one, or of none where the name is not declared (FORMAT 1.5).
-fn type_of(t: &[u64; 1544], key: u64) -> u64
+pub fn type_of(t: &[u64; 1544], key: u64) -> u64
     requires { ⌜ key < 65536 ⌝ }
     ensures { λ r. ⌜ r ≡ looked (now (t .entry)) key ⌝ }
 {

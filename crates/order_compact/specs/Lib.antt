@@ -1,0 +1,4 @@
+pub mod Compact
+pub mod Reading
+pub mod ReadingLaws
+pub mod SheetLaws
