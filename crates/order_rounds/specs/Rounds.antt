@@ -1,5 +1,5 @@
 -- The rounds over sets of parents: what each function of them answers.
-use mathlib.Core.Bool.{Bool, false, _&&_, not}
+use mathlib.Core.Bool.{Bool, true, false, _&&_, not}
 use mathlib.Core.List.{List, _++_}
 use mathlib.Core.Path.{_≡_}
 use Prim.Native.Nat.{ℕ, _+_, _^_, _≤_, _<_}
@@ -22,6 +22,10 @@ allIn parents out = all (λ b. elem b out) (members parents)
 -- A type is ready that was not before the last round: one of its parents was placed in it, and all are placed (FORMAT 3.4).
 unfoldable pub readyOf : ℕ → List ℕ → ℕ → Bool
 readyOf last out parents = not (eqb (bitAnd parents last) 0) && allIn parents out
+
+-- Each type of a set is in the list.
+pub record AllPlaced (types : ℕ) (out : List ℕ) : Type 0 where
+  pub there : (b : ℕ) → hasBit types b ≡ true → elem b out ≡ true
 
 -- The types without parents.
 pub record Parentless (t : List ℕ) (count r : ℕ) : Type 0 where

@@ -20,7 +20,7 @@ use Rattle.ordering.specs.Reading.{Parent, listed, selfIn}
 use Rattle.ordering.specs.Rounds.{settled, isReady, free, next, round, placed, final, listsSelf, count-most, rests, next-is}
 use Rattle.ordering.specs.declared.Parents.{Parents}
 use Rattle.catalogue.specs.Layout.{parentsAt}
-use Rattle.order_rounds.specs.Rounds.{allIn, readyOf, Parentless, ReadyIn, Appended, SetsFor}
+use Rattle.order_rounds.specs.Rounds.{allIn, readyOf, AllPlaced, Parentless, ReadyIn, Appended, SetsFor}
 
 -- a set with a number in it has a member
 pub some-member : (x : ℕ) → x < 2 ^ 64 → (x ≡ 0 → ⊥) → 0 < length (members x)
@@ -32,6 +32,14 @@ some-member x h e =
     longer : {y : ℕ} (l : List ℕ) → In y l → 0 < length l
     longer [] i = absurd (List·Memᴰ·not-nil i)
     longer (z ∷ l) i = omega arith
+
+-- the types of a set that was appended are placed
+pub appended-placed : (old new : List ℕ) (n types r : ℕ) → types < 2 ^ 64 → Appended old new n types r → AllPlaced types (take r new)
+appended-placed old new n types r m a = record {
+  there = λ b h.
+      let l : b < 64 = by (ltb b 64) (λ z. ltb-true b 64 z) (λ z. never h (bit-past 64 types b m (ltb-false b 64 z))) in
+      ap (elem b) (a .taken) ∙ elem-right b (take n old) (members types) (any-in (eqb b) (in-members types l h) (eq-eqb b b refl));
+}
 
 module _ (p : Parents) (t : List ℕ) (n : ℕ) where
   -- after k rounds: the order, the types that are ready now, and those that wait

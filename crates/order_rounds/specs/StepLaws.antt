@@ -9,14 +9,14 @@ use borrow.Author.Tests.{eq-eqb, ne-eqb, eqb-true, eqb-false, lt-ltb, le-ltb}
 use lib.Dec.{eqb, ltb}
 use lib.ListN.{length, getD, take, set, length-set}
 use lib.Seq.{take-suc-set}
-use Rattle.lists.specs.Tests.{by, or-false-both}
+use Rattle.lists.specs.Tests.{by, same-test, and-left, or-false-both, all-in, all-of}
 use Rattle.rows.specs.Rows.{hasBit}
 use Rattle.rows.specs.RowLaws.{bit-none}
-use Rattle.bitsets.specs.Bitsets.{members, more, Lowest, Rest}
-use Rattle.bitsets.specs.BitLaws.{bit-more, rest-is, members-next, members-none}
+use Rattle.bitsets.specs.Bitsets.{members, more, less, Lowest, Rest}
+use Rattle.bitsets.specs.BitLaws.{bit-more, bit-less, rest-is, in-members, members-of, members-next, members-none}
 use Rattle.ordering.specs.Lists.{elem}
 use Rattle.catalogue.specs.Layout.{parentsAt}
-use Rattle.order_rounds.specs.Rounds.{readyOf, Parentless, ReadyIn, Appended}
+use Rattle.order_rounds.specs.Rounds.{allIn, readyOf, AllPlaced, Parentless, ReadyIn, Appended}
 
 -- a number that stands at none of the first n places
 pub elem-none : (x : ℕ) (l : List ℕ) (n : ℕ) → ((i : ℕ) → i < n → getD l i 0 ≡ x → ⊥) → elem x (take n l) ≡ false
@@ -78,6 +78,23 @@ module _ (t : List ℕ) where
   }
 
 -- ---- the types that are ready
+
+-- those placed in the last round need no look-up
+pub others-in : (parents last : ℕ) (out : List ℕ) → AllPlaced last out → allIn (less parents last) out ≡ allIn parents out
+unfolding allIn
+others-in parents last out h =
+    same-test
+    (λ e.
+    all-of (λ b. elem b out) (members parents)
+    (λ b i.
+    let m = members-of parents i in
+    by (hasBit last b) (h .there b)
+    (λ q. all-in (λ c. elem c out) e (in-members (less parents last) (m .0) (bit-less parents last b ∙ rw (m .1, q))))))
+    (λ e.
+    all-of (λ b. elem b out) (members (less parents last))
+    (λ b i.
+    let m = members-of (less parents last) i in
+    all-in (λ c. elem c out) e (in-members parents (m .0) (and-left (hasBit parents b) (not (hasBit last b)) (sym (bit-less parents last b) ∙ m .1)))))
 
 module _ (t : List ℕ) (waiting last : ℕ) (out : List ℕ) where
   abbrev isOne : ℕ → Bool

@@ -3,11 +3,11 @@ ghost use mathlib.Core.Path.{_≡_};
 ghost use Prim.Native.Nat.{_+_, _≤_};
 ghost use lib.ListN.{length, take};
 ghost use Rattle.bitsets.specs.Bitsets.{members};
-ghost use Rattle.order_rounds.specs.Rounds.{allIn, readyOf, Parentless, ReadyIn, Appended, Sets, Placed};
+ghost use Rattle.order_rounds.specs.Rounds.{allIn, readyOf, AllPlaced, Parentless, ReadyIn, Appended, Sets, Placed};
 ghost use Rattle.order_rounds.specs.Organized.{Asked, Organized};
 
 // Whether each parent stands among the first n of the order. The scan ends where one does not (01: 'the first parent not
-// placed'). It begins with the type that was placed last, since most parents were placed in the round before.
+// placed'). It begins with the type that was placed last, since a parent is rarely placed many rounds before.
 fn all_placed(parents: u64, order: &[u64; 64], n: usize) -> bool
     requires { ⌜ (length (now order) ≡ 64) × (n ≤ 64) ⌝ }
     ensures { λ r. ⌜ r ≡ allIn parents (take n (now (order .entry))) ⌝ }
@@ -30,20 +30,23 @@ fn all_placed(parents: u64, order: &[u64; 64], n: usize) -> bool
     left == 0
 }
 
-// Whether a type is ready that was not before the last round: `last` has the types that the round placed.
+// Whether a type is ready that was not before the last round: `last` has the types that the round placed. Its other parents are
+// looked for among those placed.
 fn is_ready(parents: u64, last: u64, order: &[u64; 64], n: usize) -> bool
     requires { ⌜ (length (now order) ≡ 64) × (n ≤ 64) ⌝ }
+    requires { ⌜ AllPlaced last (take n (now order)) ⌝ }
     ensures { λ r. ⌜ r ≡ readyOf last (take n (now (order .entry))) parents ⌝ }
 {
     if parents & last == 0 {
         return false;
     }
-    all_placed(parents, order, n)
+    all_placed(bitsets::without(parents, last), order, n)
 }
 
 // Those of the waiting types that are ready now.
 fn ready_in(t: &[u64; 1544], waiting: u64, last: u64, order: &[u64; 64], n: usize) -> u64
     requires { ⌜ (length (now order) ≡ 64) × (n ≤ 64) ⌝ }
+    requires { ⌜ AllPlaced last (take n (now order)) ⌝ }
     ensures { λ r. ⌜ ReadyIn (now (t .entry)) waiting last (take n (now (order .entry))) r ⌝ }
 {
     let mut out: u64 = 0;

@@ -5,7 +5,7 @@ use lib.ListN.{length}
 use Rattle.bitsets.specs.Bitsets.{members}
 use Rattle.ordering.specs.declared.Parents.{Parents}
 use Rattle.order_rounds.specs.Rounds.{SetsFor}
-use Rattle.order_rounds.specs.StageLaws.{Stage, stage-none, stage-more, stage-end, room, some-member}
+use Rattle.order_rounds.specs.StageLaws.{Stage, stage-none, stage-more, stage-end, room, some-member, appended-placed}
 use Rattle.order_rounds.proofs.place_all.Statement.{statement}
 use Rattle.order_rounds.proofs.place_all.Tie as tie
 
@@ -44,8 +44,11 @@ ready-in-requires c κs =
     let l = c .before .before .before .before .before .loop in
     let a = c .before .before .append .ensures in
     (
-      a .long ∙ l .inv .2,
-      omega (arith, a .count, room (s .pre .1 .compact) _ _ (s .pre .1 .right) (l .inv .0) (l .n) (l .order) (l .ready) (l .waiting) (l .inv .4 _ (s .pre .1 .right)), s .pre .1 .right .few),
+      (
+        a .long ∙ l .inv .2,
+        omega (arith, a .count, room (s .pre .1 .compact) _ _ (s .pre .1 .right) (l .inv .0) (l .n) (l .order) (l .ready) (l .waiting) (l .inv .4 _ (s .pre .1 .right)), s .pre .1 .right .few),
+      ),
+      appended-placed (l .order) _ (l .n) (l .ready) _ (l .inv .3) a,
     )
 
 loop-less : tie.Need-loop-less Inv-loop μ-loop

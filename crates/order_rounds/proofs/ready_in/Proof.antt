@@ -1,7 +1,10 @@
+use mathlib.Core.List.{List}
 use mathlib.Core.Path.{_≡_, sym, ap, _∙_, subst}
 use mathlib.Core.Logic.{⊎-elim}
+use Prim.Native.Nat.{ℕ}
 use native.Mathlib.Omega.{arith}
 use lib.ListN.{take}
+use Rattle.catalogue.specs.Layout.{parentsAt}
 use Rattle.order_rounds.specs.Rounds.{readyOf}
 use Rattle.order_rounds.specs.StepLaws.{ReadyTo, ready-none, ready-yes, ready-no, ready-all}
 use Rattle.order_rounds.proofs.ready_in.Statement.{statement}
@@ -41,14 +44,15 @@ loop-again c =
     let k = c .before .before .before .before .lowest in
     let f = c .before .before .before .parents-at in
     let g = c .before .before .is-ready in
-    let e = sym (g .ensures ∙ ap (readyOf (s .args .last) (take (s .args .n) (s .args .order .now))) (f .ensures)) in
+    let out : List ℕ = take (s .args .n) (s .args .order .now) in
+    let e : readyOf (s .args .last) out (parentsAt (s .args .t .now) (k .result)) ≡ g .result = sym (ap (readyOf (s .args .last) out) (f .ensures)) ∙ sym (g .ensures) in
     ⊎-elim
     (λ w.
-    subst (ReadyTo (s .args .t .now) (s .args .waiting) (s .args .last) (take (s .args .n) (s .args .order .now)) (c .rest .result)) (sym (w .2 ∙ w .1 .ensures))
-    (ready-yes (s .args .t .now) (s .args .waiting) (s .args .last) (take (s .args .n) (s .args .order .now)) (l .left) (l .out) (k .result) (c .rest .result) (k .ensures) (c .rest .ensures) (e ∙ w .0 .taken) (l .inv)))
+    subst (ReadyTo (s .args .t .now) (s .args .waiting) (s .args .last) out (c .rest .result)) (sym (w .2 ∙ w .1 .ensures))
+    (ready-yes (s .args .t .now) (s .args .waiting) (s .args .last) out (l .left) (l .out) (k .result) (c .rest .result) (k .ensures) (c .rest .ensures) (e ∙ w .0 .taken) (l .inv)))
     (λ w.
-    subst (ReadyTo (s .args .t .now) (s .args .waiting) (s .args .last) (take (s .args .n) (s .args .order .now)) (c .rest .result)) (sym (w .1))
-    (ready-no (s .args .t .now) (s .args .waiting) (s .args .last) (take (s .args .n) (s .args .order .now)) (l .left) (l .out) (k .result) (c .rest .result) (k .ensures) (c .rest .ensures) (e ∙ w .0 .left) (l .inv)))
+    subst (ReadyTo (s .args .t .now) (s .args .waiting) (s .args .last) out (c .rest .result)) (sym (w .1))
+    (ready-no (s .args .t .now) (s .args .waiting) (s .args .last) out (l .left) (l .out) (k .result) (c .rest .result) (k .ensures) (c .rest .ensures) (e ∙ w .0 .left) (l .inv)))
     (c .before .if1 .came)
 
 returns : tie.Need-returns Inv-loop μ-loop
