@@ -12,7 +12,7 @@ use Rattle.lists.specs.Tests.{by, never}
 use Rattle.lists.specs.Appending.{map-append, each-snoc}
 use Rattle.definitions.specs.Bits.{bitsOf, num}
 use Rattle.definitions.specs.Records.{Resource, Annotation, Mark, makelistMark, deriveMark}
-use Rattle.definitions.specs.Parse.{done, Parser, next, pure, refuse, choose, field, flag, between, repeatOnto, repeat, counted}
+use Rattle.definitions.specs.Parse.{done, Parser, next, pure, refuse, choose, field, flag, between, repeatOnto, repeat, counted, notAllowed}
 use Rattle.definitions.specs.Reading.{wordField, wordIfFlag, name, annotation, mark}
 use Rattle.definitions.specs.Checks.{resourcesOf}
 use Rattle.definitions.specs.Items.{associateOf}
@@ -246,9 +246,9 @@ annotation-done W one bs p {y} {rest} e =
     (subst (λ k. behind k (eqb k 2 && not one) (d .1) ≡ done y rest) (i .0 .value) (d .3)))
   where
     behind : ℕ → Bool → Parser Annotation
-    behind kind b = choose b (refuse 4) (λ cs. next (rowsFor W kind cs) (λ rows. pure (annotationAs kind rows)))
+    behind kind b = choose b (refuse notAllowed) (λ cs. next (rowsFor W kind cs) (λ rows. pure (annotationAs kind rows)))
 
-    go : (b : Bool) → p + 3 ≤ length bs → choose b (refuse 4) (λ cs. next (rowsFor W (num 3 (drop p bs)) cs) (λ rows. pure (annotationAs (num 3 (drop p bs)) rows))) (drop (p + 3) bs) ≡ done y rest → AnnotationIs W bs p y rest
+    go : (b : Bool) → p + 3 ≤ length bs → choose b (refuse notAllowed) (λ cs. next (rowsFor W (num 3 (drop p bs)) cs) (λ rows. pure (annotationAs (num 3 (drop p bs)) rows))) (drop (p + 3) bs) ≡ done y rest → AnnotationIs W bs p y rest
     go true l z = refused-not z
     go false l z =
         let f = pure-done (rowsFor W (num 3 (drop p bs)) (drop (p + 3) bs)) (annotationAs (num 3 (drop p bs))) z in

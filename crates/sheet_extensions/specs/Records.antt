@@ -7,6 +7,7 @@ use lib.ListN.{length, drop, getD, set}
 use Rattle.lists.specs.Tabulating.{tabulate}
 use Rattle.definitions.specs.Parse.{Parsed, done, refused, next, pure}
 use Rattle.definitions.specs.Records as records
+use Rattle.fields.specs.Fields.{faultOf}
 use Rattle.sheet_keys.specs.Keys.{nameOfKey, namesFrom}
 use Rattle.sheet_notes.specs.declared.Skip.{Skip}
 use Rattle.sheet_notes.specs.Notes.{ofSkip}
@@ -51,4 +52,4 @@ ofRecordRead bs t e r = next (ofSkip bs r) (λ x. pure (recordIn t e))
 
 -- An answer as a parser's: the records are the first ones.
 abbrev pub ofExtensionsRead : List Bool → List ℕ → ExtensionsRead → Parsed (List records.Extension)
-ofExtensionsRead bs t r = cond (r .ok) (done (recordsIn t (r .count)) (drop (r .at) bs)) (refused (r .refusal))
+ofExtensionsRead bs t r = cond (r .ok) (done (recordsIn t (r .count)) (drop (r .at) bs)) (refused (faultOf (r .fault)))

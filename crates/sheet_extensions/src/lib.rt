@@ -1,6 +1,7 @@
 // The extension records of a sheet, read straight into the catalogue.
 use bits::Cursor;
 use fields::ByteRead;
+use fields::Fault;
 use fields::Field;
 use sheet_keys::KeyRead;
 use sheet_keys::Span;
@@ -14,10 +15,10 @@ ghost use Rattle.definitions.specs.Reading.{name, extension};
 ghost use Rattle.sheet_keys.specs.Keys.{ofSpan, Kept};
 ghost use Rattle.sheet_extensions.specs.Records.{recordSet, ofRecordRead, ofExtensionsRead, FewHere, KeptRecords};
 
-// ok: count records stand in the catalogue, and `at` is the place behind them in the sheet. Else a refusal.
+// ok: count records stand in the catalogue, and `at` is the place behind them in the sheet. Else a fault.
 pub struct ExtensionsRead {
     pub ok: bool,
-    pub refusal: usize,
+    pub fault: Fault,
     pub count: usize,
     pub at: usize,
 }
@@ -34,7 +35,7 @@ fn read_added(s: &[u8], c: Cursor, limit: usize, e: usize, t: &mut [u64; 1544]) 
         Field::At(n, next) => sheet_keys::read_each_key(s, next, limit, n, t, PARENTS + 8 * e),
         Field::Refused(r) => Span {
             ok: false,
-            refusal: r,
+            fault: r,
             count: 0,
             at: 0,
         },
@@ -68,7 +69,8 @@ fn read_record(s: &[u8], c: Cursor, limit: usize, e: usize, t: &mut [u64; 1544])
             ByteRead::At(w, c2) => {
                 let ps = read_added(s, c2, limit, e, t);
                 if !ps.ok {
-                    return Skip::Refused(ps.refusal);
+                    let fault = ps.fault;
+                    return Skip::Refused(fault);
                 }
                 put_record(t, e, key_with(key, w), ps.count);
                 Skip::At(Cursor { at: ps.at })
@@ -101,7 +103,7 @@ fn read_each_record(
             Skip::Refused(r) => {
                 return ExtensionsRead {
                     ok: false,
-                    refusal: r,
+                    fault: r,
                     count: 0,
                     at: 0,
                 };
@@ -112,7 +114,7 @@ fn read_each_record(
     }
     ExtensionsRead {
         ok: true,
-        refusal: 0,
+        fault: Fault::Past,
         count: n,
         at: next.at,
     }
@@ -127,7 +129,7 @@ pub fn read_extensions(s: &[u8], c: Cursor, limit: usize, t: &mut [u64; 1544]) -
         Field::At(n, next) => read_each_record(s, next, limit, n, t),
         Field::Refused(r) => ExtensionsRead {
             ok: false,
-            refusal: r,
+            fault: r,
             count: 0,
             at: 0,
         },

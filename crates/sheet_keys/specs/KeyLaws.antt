@@ -11,7 +11,7 @@ use lib.Seq
 use Rattle.lists.specs.Tests.{by}
 use Rattle.lists.specs.Tabulating.{tabulate, tabulate-set, tabulate-same}
 use Rattle.definitions.specs.Bits.{num, bitsOf}
-use Rattle.definitions.specs.Parse.{done, refused, allowed}
+use Rattle.definitions.specs.Parse.{done, refused, allowed, notAllowed}
 use Rattle.definitions.specs.Reading.{wordField, wordIfFlag, name}
 use Rattle.bits.specs.NumberLaws.{num-lt}
 use Rattle.sheet_window.specs.WindowLaws.{field-in, split}
@@ -54,7 +54,7 @@ module _ (bs : List Bool) (p W w : ℕ) (l : p + 17 ≤ length bs) (few : W ≤ 
       let q : w / 256 ≡ num 8 (drop p bs) * 2 + num 1 (drop (p + 8) bs) = omega (arith, e, digits, num-lt 1 (drop (p + 8) bs), num-lt 8 (drop (p + 9) bs)) in
       omega (arith, q, num-lt 1 (drop (p + 8) bs))
 
-  pub first-large : W ≤ w / 512 → refused 4 ≡ name W (drop p bs)
+  pub first-large : W ≤ w / 512 → refused notAllowed ≡ name W (drop p bs)
   unfolding name wordField allowed
   first-large h = sym (rw (field-in bs p 8 (p + 8) (omega arith) refl (omega arith), word, le-ltb (w / 512) W h))
 
@@ -75,7 +75,7 @@ module _ (bs : List Bool) (p W w : ℕ) (l : p + 17 ≤ length bs) (few : W ≤ 
       ))
 
   module _ (h : w / 512 < W) (z : w / 256 % 2 ≡ 1) where
-    pub second-large : W ≤ w % 256 → refused 4 ≡ name W (drop p bs)
+    pub second-large : W ≤ w % 256 → refused notAllowed ≡ name W (drop p bs)
     unfolding name wordField wordIfFlag allowed
     second-large k =
         sym (rw (

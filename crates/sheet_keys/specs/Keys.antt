@@ -7,6 +7,7 @@ use lib.Dec.{eqb}
 use lib.ListN.{length, drop, getD}
 use Rattle.lists.specs.Tabulating.{tabulate}
 use Rattle.definitions.specs.Parse.{Parsed, done, refused}
+use Rattle.fields.specs.Fields.{faultOf}
 use Rattle.sheet_keys.specs.declared.KeyRead.{KeyRead}
 use Rattle.sheet_keys.specs.declared.Span.{Span}
 
@@ -16,14 +17,14 @@ nameOfKey k = (k / 256) ∷ cond (eqb (k % 256) 0) [] ((k % 256 - 1) ∷ [])
 
 abbrev pub ofKeyRead : List Bool → KeyRead → Parsed (List ℕ)
 ofKeyRead bs (KeyRead.At k c) = done (nameOfKey k) (drop (c .at) bs)
-ofKeyRead bs (KeyRead.Refused r) = refused r
+ofKeyRead bs (KeyRead.Refused r) = refused (faultOf r)
 
 -- n names of a table, from `base` on
 unfoldable pub namesFrom : List ℕ → ℕ → ℕ → List (List ℕ)
 namesFrom l base n = tabulate (λ j. nameOfKey (getD l (base + j) 0)) n
 
 abbrev pub ofSpan : List Bool → List ℕ → ℕ → Span → Parsed (List (List ℕ))
-ofSpan bs l base r = cond (r .ok) (done (namesFrom l base (r .count)) (drop (r .at) bs)) (refused (r .refusal))
+ofSpan bs l base r = cond (r .ok) (done (namesFrom l base (r .count)) (drop (r .at) bs)) (refused (faultOf (r .fault)))
 
 -- what stands below `base` is left as it was
 pub record Kept (base : ℕ) (old new : List ℕ) : Type 0 where

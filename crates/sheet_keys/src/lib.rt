@@ -1,5 +1,6 @@
 // Names as keys, read straight into a lent table.
 use bits::Cursor;
+use fields::Fault;
 use fields::Field;
 use fields::Name;
 use fields::NameRead;
@@ -15,13 +16,13 @@ ghost use Rattle.sheet_keys.specs.Keys.{nameOfKey, ofKeyRead, ofSpan, Ke
 // The first word times 256, and one more than the second word, or 0 where there is none: keys ascend as names do.
 pub enum KeyRead {
     At(u64, Cursor),
-    Refused(usize),
+    Refused(Fault),
 }
 
-// ok: count entries stand in the table, and `at` is the place behind them in the sheet. Else a refusal.
+// ok: count entries stand in the table, and `at` is the place behind them in the sheet. Else a fault.
 pub struct Span {
     pub ok: bool,
-    pub refusal: usize,
+    pub fault: Fault,
     pub count: usize,
     pub at: usize,
 }
@@ -43,13 +44,13 @@ fn key_in(s: &[u8], at: usize, limit: usize) -> KeyRead
     let a = w / 512;
     let b = w % 256;
     if limit <= a {
-        return KeyRead::Refused(4);
+        return KeyRead::Refused(Fault::NotAllowed);
     }
     if w / 256 % 2 == 0 {
         return KeyRead::At((a * 256) as u64, Cursor { at: at + 9 });
     }
     if limit <= b {
-        return KeyRead::Refused(4);
+        return KeyRead::Refused(Fault::NotAllowed);
     }
     KeyRead::At((a * 256 + b + 1) as u64, Cursor { at: at + 17 })
 }
@@ -100,7 +101,7 @@ pub fn read_each_key(
             KeyRead::Refused(r) => {
                 return Span {
                     ok: false,
-                    refusal: r,
+                    fault: r,
                     count: 0,
                     at: 0,
                 };
@@ -111,7 +112,7 @@ pub fn read_each_key(
     }
     Span {
         ok: true,
-        refusal: 0,
+        fault: Fault::Past,
         count: n,
         at: next.at,
     }
@@ -133,7 +134,7 @@ pub fn read_keys(
         Field::At(n, next) => read_each_key(s, next, limit, n, out, base),
         Field::Refused(r) => Span {
             ok: false,
-            refusal: r,
+            fault: r,
             count: 0,
             at: 0,
         },

@@ -2,12 +2,16 @@
 use mathlib.Core.Bool.{Bool, true, false}
 use mathlib.Core.List.{List, [], _∷_, _++_}
 use mathlib.Core.Path.{_≡_, refl, sym, ap, _∙_}
-use Prim.Native.Nat.{ℕ, zero, suc, _+_, _-_, _*_, _≤_, _<_}
+use Prim.Native.Nat.{ℕ, zero, suc, _+_, _-_, _*_, _%_, _≤_, _<_}
 use native.Mathlib.Numerals.{sub-one}
 use native.Mathlib.Omega.{arith}
+use borrow.Author.Tests.{eqb-true, eqb-false}
+use lib.Dec.{eqb}
 use lib.ListN.{length, drop}
+use Rattle.lists.specs.Tests.{by}
+use Rattle.bits.specs.NumberLaws.{num-lt}
 use Rattle.definitions.specs.Bits.{num}
-use Rattle.definitions.specs.Parse.{allowed, Parsed, done, refused, Parser, next, pure, refuse, choose, field, between, repeatOnto, repeat, counted}
+use Rattle.definitions.specs.Parse.{allowed, Parsed, done, refused, Parser, next, pure, refuse, choose, field, between, repeatOnto, repeat, counted, notAllowed}
 use Rattle.definitions.specs.Reading.{wordField, annotation, mark}
 use Rattle.definitions.specs.Records.{Annotation, Mark}
 use Rattle.records.specs.Annotations.{annotationAs, rowOfWord, rowOfTag, rowsFor}
@@ -77,20 +81,34 @@ unfolding rowOfTag
 tag-steps bs = forget-pure (field 8 bs) (λ w. (w ∷ []) ∷ [])
 
 pub annotation-steps : (W : ℕ) (one : Bool) (bs : List Bool) →
-    forget (annotation W one bs) ≡ next (between 3 0 6 bs) (λ kind. choose (nestedInTwo kind one) (refuse 4) (λ cs. forget (rowsFor W kind cs)))
+    forget (annotation W one bs) ≡ next (between 3 0 6 bs) (λ kind. choose (nestedInTwo kind one) (refuse notAllowed) (λ cs. forget (rowsFor W kind cs)))
 annotation-steps W one bs = ap forget (annotation-rows W one bs) ∙ go (between 3 0 6 bs)
   where
     at : (t : Bool) (kind : ℕ) (cs : List Bool) →
-        forget (choose t (refuse 4) (λ ds. next (rowsFor W kind ds) (λ rows. pure (annotationAs kind rows))) cs)
-        ≡ choose t (refuse 4) (λ ds. forget (rowsFor W kind ds)) cs
+        forget (choose t (refuse notAllowed) (λ ds. next (rowsFor W kind ds) (λ rows. pure (annotationAs kind rows))) cs)
+        ≡ choose t (refuse notAllowed) (λ ds. forget (rowsFor W kind ds)) cs
     at true kind cs = refl
     at false kind cs = forget-pure (rowsFor W kind cs) (annotationAs kind)
 
     go : (x : Parsed ℕ) →
-        forget (next x (λ kind. choose (nestedInTwo kind one) (refuse 4) (λ ds. next (rowsFor W kind ds) (λ rows. pure (annotationAs kind rows)))))
-        ≡ next x (λ kind. choose (nestedInTwo kind one) (refuse 4) (λ cs. forget (rowsFor W kind cs)))
+        forget (next x (λ kind. choose (nestedInTwo kind one) (refuse notAllowed) (λ ds. next (rowsFor W kind ds) (λ rows. pure (annotationAs kind rows)))))
+        ≡ next x (λ kind. choose (nestedInTwo kind one) (refuse notAllowed) (λ cs. forget (rowsFor W kind cs)))
     go (done kind rest) = at (nestedInTwo kind one) kind rest
     go (refused r) = refl
+
+-- ---- a mark that is there
+
+pub mark-in : (bs : List Bool) (p w : ℕ) → p + 9 ≤ length bs → w ≡ num 1 (drop p bs) → done 0 (drop (p + 1 + 8 * (w % 2)) bs) ≡ forget (mark (drop p bs))
+unfolding mark
+mark-in bs p w l e =
+    let k : w < 2 = rw e (num-lt 1 (drop p bs)) in
+    by (eqb w 1)
+    (λ t. let q : w ≡ 1 = eqb-true w 1 t in
+    let r : p + 1 + 8 * (w % 2) ≡ p + 9 = omega arith in
+    sym (rw (field-in bs p 1 (p + 1) (omega arith) refl (omega arith), ← e, t, field-in bs (p + 1) 8 (p + 9) (omega arith) (omega arith) l, r)))
+    (λ t. let q : w ≡ 0 = omega (arith, eqb-false w 1 t) in
+    let r : p + 1 + 8 * (w % 2) ≡ p + 1 = omega arith in
+    sym (rw (field-in bs p 1 (p + 1) (omega arith) refl (omega arith), ← e, t, r)))
 
 -- ---- neither annotations nor marks
 

@@ -7,6 +7,7 @@ use lib.ListN.{drop}
 use Rattle.definitions.specs.Parse.{Parsed, done, refused, Parser, next, _>>=_, pure, counted}
 use Rattle.definitions.specs.Reading.{annotation, mark}
 use Rattle.definitions.specs.Records.{Annotation, Mark}
+use Rattle.fields.specs.Fields.{faultOf}
 use Rattle.sheet_notes.specs.declared.Skip.{Skip}
 
 pub record Notes : Type 0 where
@@ -31,7 +32,7 @@ steps m (suc n) bs = next (forget (m bs)) (λ k. steps m n)
 
 abbrev pub ofSkip : List Bool → Skip → Parsed ℕ
 ofSkip bs (Skip.At c) = done 0 (drop (c .at) bs)
-ofSkip bs (Skip.Refused r) = refused r
+ofSkip bs (Skip.Refused r) = refused (faultOf r)
 
 abbrev pub nestedInTwo : ℕ → Bool → Bool
 nestedInTwo kind single = eqb kind 2 && not single

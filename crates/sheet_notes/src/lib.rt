@@ -1,9 +1,10 @@
 // Steps over what stands behind a type's parents: tested field by field, and nothing kept.
 use bits::Cursor;
 use fields::ByteRead;
+use fields::Fault;
 use fields::Field;
-use sheet_keys::KeyRead;
 use records::MarkRead;
+use sheet_keys::KeyRead;
 ghost use mathlib.Core.Path.{_≡_};
 ghost use Prim.Native.Nat.{_≤_};
 ghost use lib.ListN.{length, drop};
@@ -13,10 +14,10 @@ ghost use Rattle.definitions.specs.Reading.{name, annotation, mark};
 ghost use Rattle.records.specs.Annotations.{rowsFor};
 ghost use Rattle.sheet_notes.specs.Notes.{notes, forget, steps, ofSkip};
 
-// The cursor behind what was read, or a refusal.
+// The cursor behind what was read, or a fault.
 pub enum Skip {
     At(Cursor),
-    Refused(usize),
+    Refused(Fault),
 }
 
 // n names.
@@ -44,7 +45,7 @@ fn skip_names(s: &[u8], c: Cursor, limit: usize) -> Skip
     requires { ⌜ (length (now s) ≤ 40960) × (limit ≤ 255) ⌝ }
     ensures { λ r. ⌜ ofSkip (bitsOf (now (s .entry))) r ≡ forget (counted 4 0 15 (name limit) (drop (c .at) (bitsOf (now (s .entry))))) ⌝ }
 {
-    match fields::read_between(s, c, 4, 0, 15) {
+    match sheet_fields::read_between(s, c, 4, 0, 15) {
         Field::At(n, next) => skip_each_name(s, next, limit, n),
         Field::Refused(r) => Skip::Refused(r),
     }
@@ -58,7 +59,7 @@ fn skip_rows(s: &[u8], c: Cursor, limit: usize, kind: usize) -> Skip
     match kind {
         1 => skip_names(s, c, limit),
         2 => skip_names(s, c, limit),
-        3 => match fields::read_word_field(s, c, limit) {
+        3 => match sheet_fields::read_word_field(s, c, limit) {
             ByteRead::At(_, next) => Skip::At(next),
             ByteRead::Refused(r) => Skip::Refused(r),
         },
@@ -81,10 +82,10 @@ fn skip_annotation(s: &[u8], c: Cursor, limit: usize, single: bool) -> Skip
     requires { ⌜ (length (now s) ≤ 40960) × (limit ≤ 255) ⌝ }
     ensures { λ r. ⌜ ofSkip (bitsOf (now (s .entry))) r ≡ forget (annotation limit single (drop (c .at) (bitsOf (now (s .entry))))) ⌝ }
 {
-    match fields::read_between(s, c, 3, 0, 6) {
+    match sheet_fields::read_between(s, c, 3, 0, 6) {
         Field::At(kind, next) => {
             if is_nested_in_two(kind, single) {
-                return Skip::Refused(4);
+                return Skip::Refused(Fault::NotAllowed);
             }
             skip_rows(s, next, limit, kind)
         }
@@ -116,9 +117,27 @@ fn skip_annotations(s: &[u8], c: Cursor, limit: usize, single: bool) -> Skip
     requires { ⌜ (length (now s) ≤ 40960) × (limit ≤ 255) ⌝ }
     ensures { λ r. ⌜ ofSkip (bitsOf (now (s .entry))) r ≡ forget (counted 4 0 12 (annotation limit single) (drop (c .at) (bitsOf (now (s .entry))))) ⌝ }
 {
-    match fields::read_between(s, c, 4, 0, 12) {
+    match sheet_fields::read_between(s, c, 4, 0, 12) {
         Field::At(n, next) => skip_each_annotation(s, next, limit, single, n),
         Field::Refused(r) => Skip::Refused(r),
+    }
+}
+
+// A mark: a flag, and a tag where it is set (FORMAT 2.9).
+fn skip_mark(s: &[u8], c: Cursor) -> Skip
+    requires { ⌜ length (now s) ≤ 40960 ⌝ }
+    ensures { λ r. ⌜ ofSkip (bitsOf (now (s .entry))) r ≡ forget (mark (drop (c .at) (bitsOf (now (s .entry))))) ⌝ }
+{
+    let at = c.at;
+    if at / 8 + 4 <= s.len() {
+        let flag = sheet_window::window(s, at, 1) % 2;
+        return Skip::At(Cursor {
+            at: at + 1 + 8 * flag,
+        });
+    }
+    match records::read_mark(s, c) {
+        MarkRead::At(_, end) => Skip::At(end),
+        MarkRead::Refused(r) => Skip::Refused(r),
     }
 }
 
@@ -129,11 +148,11 @@ fn skip_each_mark(s: &[u8], c: Cursor, n: usize) -> Skip
     let mut next = c;
     let mut left = n;
     while 0 < left {
-        match records::read_mark(s, next) {
-            MarkRead::At(_, end) => {
+        match skip_mark(s, next) {
+            Skip::At(end) => {
                 next = end;
             }
-            MarkRead::Refused(r) => {
+            Skip::Refused(r) => {
                 return Skip::Refused(r);
             }
         }
@@ -146,7 +165,7 @@ fn skip_marks(s: &[u8], c: Cursor) -> Skip
     requires { ⌜ length (now s) ≤ 40960 ⌝ }
     ensures { λ r. ⌜ ofSkip (bitsOf (now (s .entry))) r ≡ forget (counted 3 0 7 mark (drop (c .at) (bitsOf (now (s .entry))))) ⌝ }
 {
-    match fields::read_between(s, c, 3, 0, 7) {
+    match sheet_fields::read_between(s, c, 3, 0, 7) {
         Field::At(n, next) => skip_each_mark(s, next, n),
         Field::Refused(r) => Skip::Refused(r),
     }

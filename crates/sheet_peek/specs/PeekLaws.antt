@@ -9,7 +9,7 @@ use native.Mathlib.Omega.{arith}
 use lib.Dec.{leb}
 use lib.ListN.{length, drop}
 use Rattle.definitions.specs.Bits.{num}
-use Rattle.definitions.specs.Parse.{Parsed, done, refused, Parser, next, pure, refuse, choose, field, allowed, between, repeatOnto, repeat, counted}
+use Rattle.definitions.specs.Parse.{Parsed, done, refused, Parser, next, pure, refuse, choose, field, allowed, between, repeatOnto, repeat, counted, notAllowed}
 use Rattle.sheet_window.specs.WindowLaws.{field-in, field-past}
 
 -- no value comes of a refusal
@@ -53,11 +53,11 @@ pub allowed-done : (bs : List Bool) (p n : ℕ) (ok : ℕ → Bool) {v : ℕ} {r
     → FieldIs bs p n v rest × (ok v ≡ true)
 unfolding allowed
 allowed-done bs p n ok {v} {rest} h e =
-    let d = next-done (field n (drop p bs)) (λ x. choose (ok x) (pure x) (refuse 4)) e in
+    let d = next-done (field n (drop p bs)) (λ x. choose (ok x) (pure x) (refuse notAllowed)) e in
     let c = chosen (ok (d .0)) (d .0) (d .1) refl (d .3) in
     (subst (λ r. FieldIs bs p n v r) (c .1) (subst (λ x. FieldIs bs p n x (d .1)) (c .0) (field-done bs p n h (d .2))), ap ok (sym (c .0)) ∙ c .2)
   where
-    chosen : (b : Bool) (x : ℕ) (r : List Bool) → ok x ≡ b → choose b (pure x) (refuse 4) r ≡ done v rest → (x ≡ v) × (r ≡ rest) × (ok x ≡ true)
+    chosen : (b : Bool) (x : ℕ) (r : List Bool) → ok x ≡ b → choose b (pure x) (refuse notAllowed) r ≡ done v rest → (x ≡ v) × (r ≡ rest) × (ok x ≡ true)
     chosen true x r q z = (done-value z, done-rest z, q)
     chosen false x r q z = refused-not z
 

@@ -9,6 +9,7 @@ use Rattle.definitions.specs.Parse.{Parsed, done, refused, Parser, next, _>>=_,
 use Rattle.definitions.specs.Reading.{variant}
 use Rattle.definitions.specs.Records.{Variant}
 use Rattle.definitions.specs.Records as records
+use Rattle.fields.specs.Fields.{faultOf}
 use Rattle.fields.specs.declared.Field.{Field}
 use Rattle.types.specs.Types.{variantOf}
 use Rattle.sheet_notes.specs.declared.Skip.{Skip}
@@ -39,7 +40,7 @@ topOf h = record { variant = variantOf (h / 64); virtual = eqb (h / 32 % 2) 1; t
 -- An answer as a parser's.
 abbrev pub ofTop : List Bool → Field → Parsed Top
 ofTop bs (Field.At h c) = done (topOf h) (drop (c .at) bs)
-ofTop bs (Field.Refused r) = refused r
+ofTop bs (Field.Refused r) = refused (faultOf r)
 
 -- A number that was answered is one that is allowed.
 abbrev pub Small : Field → Type 0
@@ -86,4 +87,4 @@ ofTypeRead W bs d i r = next (ofSkip bs r) (λ x. pure (typeIn W bs d i))
 
 -- An answer as a parser's: the types are those of the first rows.
 abbrev pub ofTypesRead : ℕ → List Bool → List ℕ → TypesRead → Parsed (List records.TypeInfo)
-ofTypesRead W bs d r = cond (r .ok) (done (typesIn W bs d (r .count)) (drop (r .at) bs)) (refused (r .refusal))
+ofTypesRead W bs d r = cond (r .ok) (done (typesIn W bs d (r .count)) (drop (r .at) bs)) (refused (faultOf (r .fault)))

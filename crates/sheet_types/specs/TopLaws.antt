@@ -10,7 +10,7 @@ use lib.Dec.{eqb, leb}
 use lib.ListN.{length, drop, getD}
 use lib.Seq
 use Rattle.definitions.specs.Bits.{num}
-use Rattle.definitions.specs.Parse.{Parsed, done, refused, Parser, next, _>>=_, pure, refuse, choose, field, allowed, between, flag, repeat, counted}
+use Rattle.definitions.specs.Parse.{Parsed, done, refused, Parser, next, _>>=_, pure, refuse, choose, field, allowed, between, flag, repeat, counted, past, notAllowed}
 use Rattle.definitions.specs.Reading.{name, variant, annotation, mark, typeInfo}
 use Rattle.definitions.specs.Records as records
 use Rattle.bits.specs.declared.Cursor.{Cursor}
@@ -71,7 +71,7 @@ module _ (bs : List Bool) (p : ℕ) where
       variant-number (drop p bs)
       ∙ rw (field-in bs p 2 (p + 2) (omega arith) refl l, le-leb 0 (num 2 (drop p bs)) (omega arith), le-leb (num 2 (drop p bs)) 2 (omega arith))
 
-  pub top-variant : p + 2 ≤ length bs → 3 ≤ num 2 (drop p bs) → top (drop p bs) ≡ refused 4
+  pub top-variant : p + 2 ≤ length bs → 3 ≤ num 2 (drop p bs) → top (drop p bs) ≡ refused notAllowed
   unfolding top allowed
   top-variant l s =
       rw (variant-number (drop p bs), field-in bs p 2 (p + 2) (omega arith) refl l, le-leb 0 (num 2 (drop p bs)) (omega arith), lt-leb (num 2 (drop p bs)) 2 (omega arith))
@@ -100,7 +100,7 @@ module _ (bs : List Bool) (p : ℕ) where
           le-leb (num 4 (drop (p + 4) bs)) 8 (omega arith),
         )
 
-    pub top-count : 8 < h % 16 → top (drop p bs) ≡ refused 4
+    pub top-count : 8 < h % 16 → top (drop p bs) ≡ refused notAllowed
     unfolding top allowed
     top-count k =
         let d : h % 16 ≡ num 4 (drop (p + 4) bs) = omega (arith, parts, one (p + 2), one (p + 3), four) in
@@ -114,16 +114,16 @@ module _ (bs : List Bool) (p : ℕ) where
         )
 
   -- the variant of the 8 bits
-  pub top-large : p + 8 ≤ length bs → 192 ≤ h → top (drop p bs) ≡ refused 4
+  pub top-large : p + 8 ≤ length bs → 192 ≤ h → top (drop p bs) ≡ refused notAllowed
   top-large l s = top-variant (omega arith) (omega (arith, parts, one (p + 2), one (p + 3), four))
 
   -- the variant is not there
-  pub top-none : length bs < p + 2 → top (drop p bs) ≡ refused 3
+  pub top-none : length bs < p + 2 → top (drop p bs) ≡ refused past
   unfolding top allowed
   top-none l = rw (variant-number (drop p bs), field-past bs p 2 (omega arith) l)
 
   -- the variant is there, and something behind it is not
-  pub top-short : p + 2 ≤ length bs → num 2 (drop p bs) < 3 → length bs < p + 8 → top (drop p bs) ≡ refused 3
+  pub top-short : p + 2 ≤ length bs → num 2 (drop p bs) < 3 → length bs < p + 8 → top (drop p bs) ≡ refused past
   unfolding top allowed
   top-short l s k =
       rw (variant-in l s)
@@ -212,30 +212,30 @@ module _ (bs : List Bool) (p : ℕ) where
         let q : num 8 (drop p bs) ≡ v = r .1 in
         sym (top-in bs p (r .0) (omega arith) (omega arith) ∙ rw (q, r .2))
 
-    pub large-top : 192 ≤ v → refused 4 ≡ top (drop p bs)
+    pub large-top : 192 ≤ v → refused notAllowed ≡ top (drop p bs)
     large-top s =
         let r = read-was bs p 8 v c e in
         let q : num 8 (drop p bs) ≡ v = r .1 in
         sym (top-large bs p (r .0) (omega arith))
 
-    pub many-top : v < 192 → 8 < v % 16 → refused 4 ≡ top (drop p bs)
+    pub many-top : v < 192 → 8 < v % 16 → refused notAllowed ≡ top (drop p bs)
     many-top s k =
         let r = read-was bs p 8 v c e in
         let q : num 8 (drop p bs) ≡ v = r .1 in
         sym (top-count bs p (r .0) (omega arith) (omega arith))
 
   module _ (v : ℕ) (c : Cursor) (e : readAt bs p 2 ≡ Value v c) where
-    pub other-top : v ≡ 3 → refused 4 ≡ top (drop p bs)
+    pub other-top : v ≡ 3 → refused notAllowed ≡ top (drop p bs)
     other-top s =
         let r = read-was bs p 2 v c e in
         let q : num 2 (drop p bs) ≡ v = r .1 in
         sym (top-variant bs p (r .0) (omega arith))
 
-    pub short-top : (v ≡ 3 → ⊥) → readAt bs p 8 ≡ Past → refused 3 ≡ top (drop p bs)
+    pub short-top : (v ≡ 3 → ⊥) → readAt bs p 8 ≡ Past → refused past ≡ top (drop p bs)
     short-top s f =
         let r = read-was bs p 2 v c e in
         let q : num 2 (drop p bs) ≡ v = r .1 in
         sym (top-short bs p (r .0) (omega (arith, num-lt 2 (drop p bs), s)) (read-not bs p 8 f))
 
-  pub no-top : readAt bs p 2 ≡ Past → refused 3 ≡ top (drop p bs)
+  pub no-top : readAt bs p 2 ≡ Past → refused past ≡ top (drop p bs)
   no-top e = sym (top-none bs p (read-not bs p 2 e))

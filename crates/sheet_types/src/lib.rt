@@ -1,6 +1,7 @@
 // The types of a sheet, read straight into the draft.
 use bits::Cursor;
 use bits::Read;
+use fields::Fault;
 use fields::Field;
 use sheet_keys::KeyRead;
 use sheet_notes::Skip;
@@ -12,10 +13,10 @@ ghost use Rattle.definitions.specs.Parse.{repeat, counted};
 ghost use Rattle.definitions.specs.Reading.{typeInfo};
 ghost use Rattle.sheet_types.specs.Rows.{top, ofTop, Small, rowSet, ofTypeRead, ofTypesRead, KeptRows, DoneHere, NotesRead};
 
-// ok: count types stand in the draft, and `at` is the place behind them in the sheet. Else a refusal.
+// ok: count types stand in the draft, and `at` is the place behind them in the sheet. Else a fault.
 pub struct TypesRead {
     pub ok: bool,
-    pub refusal: usize,
+    pub fault: Fault,
     pub count: usize,
     pub at: usize,
 }
@@ -27,10 +28,10 @@ fn top_in(s: &[u8], at: usize) -> Field
 {
     let h = sheet_window::window(s, at, 8);
     if 192 <= h {
-        return Field::Refused(4);
+        return Field::Refused(Fault::NotAllowed);
     }
     if 8 < h % 16 {
-        return Field::Refused(4);
+        return Field::Refused(Fault::NotAllowed);
     }
     Field::At(h, Cursor { at: at + 8 })
 }
@@ -43,22 +44,22 @@ fn top_near_end(s: &[u8], c: Cursor) -> Field
     match c.read(s, 8) {
         Read::Value(h, next) => {
             if 192 <= h {
-                return Field::Refused(4);
+                return Field::Refused(Fault::NotAllowed);
             }
             if 8 < h % 16 {
-                return Field::Refused(4);
+                return Field::Refused(Fault::NotAllowed);
             }
             Field::At(h, next)
         }
         Read::Past => match c.read(s, 2) {
             Read::Value(v, _) => {
                 if v == 3 {
-                    Field::Refused(4)
+                    Field::Refused(Fault::NotAllowed)
                 } else {
-                    Field::Refused(3)
+                    Field::Refused(Fault::Past)
                 }
             }
-            Read::Past => Field::Refused(3),
+            Read::Past => Field::Refused(Fault::Past),
         },
     }
 }
@@ -95,7 +96,8 @@ fn read_type(s: &[u8], c: Cursor, limit: usize, i: usize, d: &mut [u64; 704]) ->
                 let base = sheet_draft::parents_base(i);
                 let ps = sheet_keys::read_each_key(s, c2, limit, h % 16, d, base);
                 if !ps.ok {
-                    return Skip::Refused(ps.refusal);
+                    let fault = ps.fault;
+                    return Skip::Refused(fault);
                 }
                 let at = ps.at;
                 put_row(d, i, key, h, at);
@@ -123,7 +125,7 @@ fn read_each_type(s: &[u8], c: Cursor, limit: usize, n: usize, d: &mut [u64; 704
             Skip::Refused(r) => {
                 return TypesRead {
                     ok: false,
-                    refusal: r,
+                    fault: r,
                     count: 0,
                     at: 0,
                 };
@@ -134,7 +136,7 @@ fn read_each_type(s: &[u8], c: Cursor, limit: usize, n: usize, d: &mut [u64; 704
     }
     TypesRead {
         ok: true,
-        refusal: 0,
+        fault: Fault::Past,
         count: n,
         at: next.at,
     }
@@ -149,7 +151,7 @@ pub fn read_types(s: &[u8], c: Cursor, limit: usize, d: &mut [u64; 704]) -> Type
         Field::At(n, next) => read_each_type(s, next, limit, n, d),
         Field::Refused(r) => TypesRead {
             ok: false,
-            refusal: r,
+            fault: r,
             count: 0,
             at: 0,
         },

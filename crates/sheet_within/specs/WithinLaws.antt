@@ -10,6 +10,7 @@ use Rattle.definitions.specs.Bits.{num}
 use Rattle.definitions.specs.Parse.{Parsed, done, refused, next, pure, allowed, repeatOnto, counted}
 use Rattle.definitions.specs.Reading.{annotation, mark}
 use Rattle.definitions.specs.Records.{Annotation, Mark}
+use Rattle.fields.specs.Fields.{faultOf}
 use Rattle.records.specs.declared.AnnotationsRead.{AnnotationsRead}
 use Rattle.records.specs.Annotations.{ofAnnotations, ofAnnotationsRead}
 use Rattle.repeats.specs.Repeats.{repeatsIn}
@@ -42,7 +43,7 @@ pub by-value : (W : ℕ) (one : Bool) (bs cs : List Bool) (r : AnnotationsRead) 
     → ofAnnotations (r .annotations) ≡ notesOf (notes W one cs) .annotations
 by-value W one bs cs r e f = let a = annotations-read W one cs e in go (r .ok) (f ∙ a .1)
   where
-    go : (t : Bool) → mathlib.Core.Bool.cond t (done (ofAnnotations (r .annotations)) (drop (r .next .at) bs)) (refused (r .refusal)) ≡ done (notesOf (notes W one cs) .annotations) (annotations-read W one cs e .0)
+    go : (t : Bool) → mathlib.Core.Bool.cond t (done (ofAnnotations (r .annotations)) (drop (r .next .at) bs)) (refused (faultOf (r .fault))) ≡ done (notesOf (notes W one cs) .annotations) (annotations-read W one cs e .0)
         → ofAnnotations (r .annotations) ≡ notesOf (notes W one cs) .annotations
     go true q = cc
     go false q = let z : _≡_ {A = ℕ} 0 1 = cc in absurd (omega arith)

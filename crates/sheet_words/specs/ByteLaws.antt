@@ -14,7 +14,7 @@ use Rattle.lists.specs.Lists.{all}
 use Rattle.lists.specs.Tests.{by, or-elim, and-left, and-right}
 use Rattle.lists.specs.Appending.{all-append}
 use Rattle.definitions.specs.Bits.{num, toBits, packTo}
-use Rattle.definitions.specs.Parse.{done, refused, field, allowed, between, repeatOnto, repeat, counted}
+use Rattle.definitions.specs.Parse.{done, refused, field, allowed, between, repeatOnto, repeat, counted, past, notAllowed}
 use Rattle.definitions.specs.Reading.{isWordByte, word}
 use Rattle.bits.specs.NumberLaws.{pad, pad-add, num-lt, num-take, toBits-num, num-toBits, num-prefix, length-toBits}
 use Rattle.fields.specs.ParseLaws.{repeat-done, repeat-refused}
@@ -81,17 +81,17 @@ letter-small b e =
 -- ---- the parser
 
 module _ (ok : ℕ → Bool) where
-  allowed-in : (bs : List Bool) → 8 ≤ length bs → allowed 8 ok bs ≡ cond (ok (num 8 bs)) (done (num 8 bs) (drop 8 bs)) (refused 4)
+  allowed-in : (bs : List Bool) → 8 ≤ length bs → allowed 8 ok bs ≡ cond (ok (num 8 bs)) (done (num 8 bs) (drop 8 bs)) (refused notAllowed)
   unfolding allowed
   allowed-in bs h = rw (field-in bs 0 8 8 (omega arith) refl h) (by (ok (num 8 bs)) (λ e. rw e refl) (λ e. rw e refl))
 
-  allowed-past : (bs : List Bool) → length bs < 8 → allowed 8 ok bs ≡ refused 3
+  allowed-past : (bs : List Bool) → length bs < 8 → allowed 8 ok bs ≡ refused past
   unfolding allowed
   allowed-past bs h = rw (field-past bs 0 8 (omega arith) h)
 
   -- n bytes that are there
   pub bytes-in : (n : ℕ) (xs : List ℕ) (bs : List Bool) → 8 * n ≤ length bs →
-      repeatOnto xs (allowed 8 ok) n bs ≡ cond (all ok (packTo n bs)) (done (xs ++ packTo n bs) (drop (8 * n) bs)) (refused 4)
+      repeatOnto xs (allowed 8 ok) n bs ≡ cond (all ok (packTo n bs)) (done (xs ++ packTo n bs) (drop (8 * n) bs)) (refused notAllowed)
   unfolding repeatOnto packTo
   bytes-in zero xs bs h = rw append-nil refl
   bytes-in (suc n) xs bs h =
@@ -99,11 +99,11 @@ module _ (ok : ℕ → Bool) where
       by (ok (num 8 bs))
       (λ e. repeat-done xs (allowed 8 ok) (suc n) bs (num 8 bs) (drop 8 bs) (omega arith) (allowed-in bs (omega arith) ∙ rw e refl)
       ∙ rw (sub-one (suc n), bytes-in n (xs ++ (num 8 bs ∷ [])) (drop 8 bs) (omega (arith, length-drop 8 bs)), e, append-assoc xs, Seq.drop-drop (8 * n) 8 bs, f) refl)
-      (λ e. repeat-refused xs (allowed 8 ok) (suc n) bs 4 (omega arith) (allowed-in bs (omega arith) ∙ rw e refl) ∙ rw e refl)
+      (λ e. repeat-refused xs (allowed 8 ok) (suc n) bs notAllowed (omega arith) (allowed-in bs (omega arith) ∙ rw e refl) ∙ rw e refl)
 
   -- n bytes that pass the end
   pub bytes-past : (n : ℕ) (xs : List ℕ) (bs : List Bool) → length bs < 8 * n →
-      repeatOnto xs (allowed 8 ok) n bs ≡ refused (cond (all ok (packTo (length bs / 8) bs)) 3 4)
+      repeatOnto xs (allowed 8 ok) n bs ≡ refused (cond (all ok (packTo (length bs / 8) bs)) past notAllowed)
   unfolding packTo
   bytes-past zero xs bs h = absurd (omega arith)
   bytes-past (suc n) xs bs h =
@@ -113,20 +113,20 @@ module _ (ok : ℕ → Bool) where
       by (ok (num 8 bs))
       (λ e. repeat-done xs (allowed 8 ok) (suc n) bs (num 8 bs) (drop 8 bs) (omega arith) (allowed-in bs l ∙ rw e refl)
       ∙ rw (sub-one (suc n), bytes-past n (xs ++ (num 8 bs ∷ [])) (drop 8 bs) (omega (arith, length-drop 8 bs)), z, e) refl)
-      (λ e. repeat-refused xs (allowed 8 ok) (suc n) bs 4 (omega arith) (allowed-in bs l ∙ rw e refl) ∙ rw (z, e) refl))
+      (λ e. repeat-refused xs (allowed 8 ok) (suc n) bs notAllowed (omega arith) (allowed-in bs l ∙ rw e refl) ∙ rw (z, e) refl))
       (λ t. let l : length bs < 8 = leb-false 8 (length bs) t in
       let z : length bs / 8 ≡ 0 = omega arith in
-      repeat-refused xs (allowed 8 ok) (suc n) bs 3 (omega arith) (allowed-past bs l) ∙ rw z refl)
+      repeat-refused xs (allowed 8 ok) (suc n) bs past (omega arith) (allowed-past bs l) ∙ rw z refl)
 
 -- ---- a word
 
 module _ (bs : List Bool) (p n : ℕ) where
-  pub word-past : length bs < p + 5 → refused 3 ≡ word (drop p bs)
+  pub word-past : length bs < p + 5 → refused past ≡ word (drop p bs)
   unfolding word counted allowed
   word-past h = sym (rw (field-past bs p 5 (omega arith) h))
 
   module _ (there : p + 5 ≤ length bs) (e : n ≡ num 5 (drop p bs)) where
-    pub word-empty : n ≡ 0 → refused 4 ≡ word (drop p bs)
+    pub word-empty : n ≡ 0 → refused notAllowed ≡ word (drop p bs)
     unfolding word counted allowed
     word-empty z = sym (rw (field-in bs p 5 (p + 5) (omega arith) refl there, ← e, z))
 

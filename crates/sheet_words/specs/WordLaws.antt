@@ -15,8 +15,10 @@ use Rattle.lists.specs.Places.{drop-end, before-step, before-right, before-left
 use Rattle.definitions.specs.Bits.{num, packTo}
 use Rattle.definitions.specs.Checks.{resourceBytes, selfBytes}
 use Rattle.definitions.specs.Comparisons.{bytesBefore}
-use Rattle.definitions.specs.Parse.{done, refused, allowed, repeat, counted}
+use Rattle.definitions.specs.Parse.{done, refused, allowed, repeat, counted, past, notAllowed}
 use Rattle.definitions.specs.Reading.{isWordByte, word}
+use Rattle.fields.specs.declared.Fault.{Fault}
+use Rattle.fields.specs.Fields.{faultOf}
 use Rattle.bits.specs.NumberLaws.{num-lt, num-split, length-packTo}
 use Rattle.sheet_window.specs.WindowLaws.{split}
 use Rattle.fields.specs.FieldLaws.{counted-in}
@@ -80,17 +82,17 @@ refused-tells bs r x e = record { reads = e; held = λ t. Rattle.lists.specs.Te
 
 module _ (bs : List Bool) (q n : ℕ) where
   pub text-past : length bs - q < 8 * n → q ≤ length bs →
-      refused (cond (all isWordByte (packTo ((length bs - q) / 8) (drop q bs))) 3 4) ≡ repeat (allowed 8 isWordByte) n (drop q bs)
+      refused (cond (all isWordByte (packTo ((length bs - q) / 8) (drop q bs))) past notAllowed) ≡ repeat (allowed 8 isWordByte) n (drop q bs)
   text-past h l =
       let e : length (drop q bs) ≡ length bs - q = length-drop q bs in
       sym (bytes-past isWordByte n [] (drop q bs) (omega arith) ∙ ap (λ (k : ℕ). refused (cond (all isWordByte (packTo (k / 8) (drop q bs))) 3 4)) e)
 
   module _ (inside : q + 8 * n ≤ length bs) where
-    pub text-bad : all isWordByte (packTo n (drop q bs)) ≡ false → refused 4 ≡ repeat (allowed 8 isWordByte) n (drop q bs)
+    pub text-bad : all isWordByte (packTo n (drop q bs)) ≡ false → refused notAllowed ≡ repeat (allowed 8 isWordByte) n (drop q bs)
     text-bad t = sym (bytes-in isWordByte n [] (drop q bs) (omega (arith, length-drop q bs)) ∙ rw t refl)
 
     pub text-good : (head : ℕ) → n ≤ 31 → head ≡ headOf 6 (packTo n (drop q bs)) → all isWordByte (packTo n (drop q bs)) ≡ true →
-        Tells bs (record { ok = true; refusal = 0; at = q; count = n; head = head }) (repeat (allowed 8 isWordByte) n (drop q bs))
+        Tells bs (record { ok = true; fault = Fault.Past; at = q; count = n; head = head }) (repeat (allowed 8 isWordByte) n (drop q bs))
     text-good head few f t = record {
       reads = sym (bytes-in isWordByte n [] (drop q bs) (omega (arith, length-drop q bs)) ∙ rw (t, Seq.drop-drop (8 * n) q bs) refl);
       held = λ z. record { first = f; good = t; inside = inside; few = few };
@@ -98,15 +100,15 @@ module _ (bs : List Bool) (q n : ℕ) where
 
 -- the bytes that are there of those that pass the end
 module _ (bs : List Bool) (q n k : ℕ) (some : k ≡ (length bs - q) / 8) (less : k < n) (from : q ≤ length bs) where
-  pub past-good : all isWordByte (packTo k (drop q bs)) ≡ true → Tells bs (refusedWord 3) (repeat (allowed 8 isWordByte) n (drop q bs))
+  pub past-good : all isWordByte (packTo k (drop q bs)) ≡ true → Tells bs (refusedWord Fault.Past) (repeat (allowed 8 isWordByte) n (drop q bs))
   past-good t =
-      refused-tells bs 3 _
-      (ap (λ (b : Bool). refused (cond b 3 4)) (sym (sym (ap (λ (j : ℕ). all isWordByte (packTo j (drop q bs))) some) ∙ t)) ∙ text-past bs q n (omega (arith, some, less)) from)
+      refused-tells bs Fault.Past _
+      (ap (λ (b : Bool). refused (cond b past notAllowed)) (sym (sym (ap (λ (j : ℕ). all isWordByte (packTo j (drop q bs))) some) ∙ t)) ∙ text-past bs q n (omega (arith, some, less)) from)
 
-  pub past-bad : all isWordByte (packTo k (drop q bs)) ≡ false → Tells bs (refusedWord 4) (repeat (allowed 8 isWordByte) n (drop q bs))
+  pub past-bad : all isWordByte (packTo k (drop q bs)) ≡ false → Tells bs (refusedWord Fault.NotAllowed) (repeat (allowed 8 isWordByte) n (drop q bs))
   past-bad t =
-      refused-tells bs 4 _
-      (ap (λ (b : Bool). refused (cond b 3 4)) (sym (sym (ap (λ (j : ℕ). all isWordByte (packTo j (drop q bs))) some) ∙ t)) ∙ text-past bs q n (omega (arith, some, less)) from)
+      refused-tells bs Fault.NotAllowed _
+      (ap (λ (b : Bool). refused (cond b past notAllowed)) (sym (sym (ap (λ (j : ℕ). all isWordByte (packTo j (drop q bs))) some) ∙ t)) ∙ text-past bs q n (omega (arith, some, less)) from)
 
 -- an answer for another name of what the parser gives
 pub tells-as : (bs : List Bool) (w : Spelt) (x y : _) → x ≡ y → Tells bs w x → Tells bs w y
@@ -117,7 +119,7 @@ module _ (bs : List Bool) (p : ℕ) (w : Spelt) (t : Spelled bs p w) where
   pub word-is : w .ok ≡ true → word (drop p bs) ≡ done (bytesOf bs w) (drop (w .at + 8 * w .count) bs)
   word-is e = sym (t .reads) ∙ rw e refl
 
-  pub word-not : w .ok ≡ false → word (drop p bs) ≡ refused (w .refusal)
+  pub word-not : w .ok ≡ false → word (drop p bs) ≡ refused (faultOf (w .fault))
   word-not e = sym (t .reads) ∙ rw e refl
 
   pub word-long : w .ok ≡ true → 0 < w .count

@@ -13,6 +13,8 @@ use Rattle.definitions.specs.Comparisons.{bytesBefore}
 use Rattle.definitions.specs.Map.{numberOf}
 use Rattle.definitions.specs.Parse.{Parsed, done, refused, next, pure}
 use Rattle.definitions.specs.Reading.{isWordByte, word}
+use Rattle.fields.specs.declared.Fault.{Fault}
+use Rattle.fields.specs.Fields.{faultOf}
 use Rattle.sheet_words.specs.declared.Spelt.{Spelt}
 use Rattle.sheet_words.specs.declared.Found.{Found}
 use Rattle.sheet_words.specs.declared.WordsRead.{WordsRead}
@@ -50,11 +52,11 @@ bytesOf bs w = packTo (w .count) (drop (w .at) bs)
 
 -- A word as the definitions' parser gives it (FORMAT 2.4).
 abbrev pub ofSpelt : List Bool → Spelt → Parsed (List ℕ)
-ofSpelt bs w = cond (w .ok) (done (bytesOf bs w) (drop (w .at + 8 * w .count) bs)) (refused (w .refusal))
+ofSpelt bs w = cond (w .ok) (done (bytesOf bs w) (drop (w .at + 8 * w .count) bs)) (refused (faultOf (w .fault)))
 
 -- The answer with a refusal.
-abbrev pub refusedWord : ℕ → Spelt
-refusedWord r = record { ok = mathlib.Core.Bool.false; refusal = r; at = 0; count = 0; head = 0 }
+abbrev pub refusedWord : Fault → Spelt
+refusedWord r = record { ok = mathlib.Core.Bool.false; fault = r; at = 0; count = 0; head = 0 }
 
 -- A word's bytes are in the sheet and allowed, and its head is theirs (FORMAT 1.1).
 pub record Held (bs : List Bool) (w : Spelt) : Type 0 where
@@ -108,7 +110,7 @@ told x = next x (λ ws. pure (tellingOf ws))
 
 abbrev pub ofWordsRead : List Bool → WordsRead → Parsed Telling
 ofWordsRead bs r =
-    cond (r .ok) (done (record { count = r .count; bad = r .bad; resource = r .resource; own = r .own }) (drop (r .at) bs)) (refused (r .refusal))
+    cond (r .ok) (done (record { count = r .count; bad = r .bad; resource = r .resource; own = r .own }) (drop (r .at) bs)) (refused (faultOf (r .fault)))
 
-abbrev pub refusedWords : ℕ → WordsRead
-refusedWords r = record { ok = mathlib.Core.Bool.false; refusal = r; count = 0; at = 0; bad = mathlib.Core.Bool.false; resource = 0; own = 0 }
+abbrev pub refusedWords : Fault → WordsRead
+refusedWords r = record { ok = mathlib.Core.Bool.false; fault = r; count = 0; at = 0; bad = mathlib.Core.Bool.false; resource = 0; own = 0 }

@@ -18,6 +18,7 @@ use Rattle.definitions.specs.Comparisons.{bytesBefore}
 use Rattle.definitions.specs.Map.{numberOf}
 use Rattle.definitions.specs.Parse.{Parsed, done, refused, next, pure, allowed, repeatOnto}
 use Rattle.definitions.specs.Reading.{isWordByte, word}
+use Rattle.fields.specs.declared.Fault.{Fault}
 use Rattle.sheet_words.specs.Words.{bytesOf, ofSpelt, Held, With, Telling, tellingOf, told, refusedWord}
 use Rattle.sheet_words.specs.declared.Spelt.{Spelt}
 use Rattle.sheet_words.specs.declared.Found.{Found}
@@ -85,7 +86,7 @@ unfolding bytesBefore packTo
 some-bytes zero bs h = absurd (omega arith)
 some-bytes (suc k) bs h = refl
 
-pub seen-none : (bs : List Bool) (n : ℕ) → Seen bs n [] (refusedWord 0) (record { up = true; resource = n; own = n })
+pub seen-none : (bs : List Bool) (n : ℕ) → Seen bs n [] (refusedWord Fault.Past) (record { up = true; resource = n; own = n })
 unfolding packTo Rattle.sheet_words.specs.Words.headOf
 seen-none bs n = record {
   rising = refl;

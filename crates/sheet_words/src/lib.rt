@@ -1,5 +1,6 @@
 // The words of a sheet, tested where they stand: no table of them is kept.
 use bits::Cursor;
+use fields::Fault;
 use fields::Field;
 ghost use mathlib.Core.Bool.{not, _&&_, _||_, cond};
 ghost use mathlib.Core.Path.{_≡_};
@@ -14,10 +15,10 @@ ghost use Rattle.definitions.specs.Parse.{allowed, repeat, counted};
 ghost use Rattle.definitions.specs.Reading.{isWordByte, word};
 ghost use Rattle.sheet_words.specs.Words.{bytesOf, headOf, spelt, marks, refusedWord, Held, Tells, Spelled, Short, Named, With, told, ofWordsRead, refusedWords};
 
-// ok: a word of count bytes that stand from bit `at` on; `head` is the first six of them as one number. Else a refusal.
+// ok: a word of count bytes that stand from bit `at` on; `head` is the first six of them as one number. Else a fault.
 pub struct Spelt {
     pub ok: bool,
-    pub refusal: usize,
+    pub fault: Fault,
     pub at: usize,
     pub count: usize,
     pub head: u64,
@@ -31,10 +32,10 @@ pub struct Found {
 }
 
 // ok: count words, the place behind them, whether they are refused with 5, and the numbers of `resource` and `self`, the count for one that is missing.
-// Else a refusal.
+// Else a fault.
 pub struct WordsRead {
     pub ok: bool,
-    pub refusal: usize,
+    pub fault: Fault,
     pub count: usize,
     pub at: usize,
     pub bad: bool,
@@ -103,12 +104,12 @@ fn head_at(s: &[u8], at: usize, n: usize) -> u64
     sheet_window::wide(s, at, 8 * n) << (48 - 8 * n)
 }
 
-fn word_refused(r: usize) -> Spelt
+fn word_refused(r: Fault) -> Spelt
     ensures { λ x. ⌜ x ≡ refusedWord r ⌝ }
 {
     Spelt {
         ok: false,
-        refusal: r,
+        fault: r,
         at: 0,
         count: 0,
         head: 0,
@@ -123,20 +124,20 @@ fn bytes_from(s: &[u8], at: usize, n: usize) -> Spelt
     let there = (s.len() * 8 - at) / 8;
     if there < n {
         if is_text(s, at, there) {
-            return word_refused(3);
+            return word_refused(Fault::Past);
         }
-        return word_refused(4);
+        return word_refused(Fault::NotAllowed);
     }
     if is_text(s, at, n) {
         return Spelt {
             ok: true,
-            refusal: 0,
+            fault: Fault::Past,
             at: at,
             count: n,
             head: head_at(s, at, n),
         };
     }
-    word_refused(4)
+    word_refused(Fault::NotAllowed)
 }
 
 // A word of any length, anywhere.
@@ -146,14 +147,14 @@ fn plain_word(s: &[u8], at: usize) -> Spelt
 {
     let total = s.len() * 8;
     if total < at {
-        return word_refused(3);
+        return word_refused(Fault::Past);
     }
     if total - at < 5 {
-        return word_refused(3);
+        return word_refused(Fault::Past);
     }
     let n = sheet_window::wide(s, at, 5) as usize;
     if n == 0 {
-        return word_refused(4);
+        return word_refused(Fault::NotAllowed);
     }
     bytes_from(s, at + 5, n)
 }
@@ -168,13 +169,13 @@ fn short_word(s: &[u8], at: usize, n: usize, x: u64) -> Spelt
     if is_spelt(v, n) {
         return Spelt {
             ok: true,
-            refusal: 0,
+            fault: Fault::Past,
             at: at + 5,
             count: n,
             head: v << k,
         };
     }
-    word_refused(4)
+    word_refused(Fault::NotAllowed)
 }
 
 // An entry of the word list: its length, 1 to 31, and so many bytes (FORMAT 2.4).
@@ -313,12 +314,12 @@ fn is_bad(t: Found, count: usize) -> bool
     count <= t.own
 }
 
-fn words_refused(r: usize) -> WordsRead
+fn words_refused(r: Fault) -> WordsRead
     ensures { λ x. ⌜ x ≡ refusedWords r ⌝ }
 {
     WordsRead {
         ok: false,
-        refusal: r,
+        fault: r,
         count: 0,
         at: 0,
         bad: false,
@@ -333,7 +334,7 @@ fn read_each_word(s: &[u8], c: Cursor, n: usize) -> WordsRead
     ensures { λ r. ⌜ (ofWordsRead (bitsOf (now (s .entry))) r ≡ told (repeat word n (drop (c .at) (bitsOf (now (s .entry)))))) × (r .count ≤ 200) ⌝ }
 {
     let mut at = c.at;
-    let mut last = word_refused(0);
+    let mut last = word_refused(Fault::Past);
     let mut t = Found {
         up: true,
         resource: n,
@@ -347,13 +348,14 @@ fn read_each_word(s: &[u8], c: Cursor, n: usize) -> WordsRead
             at = w.at + 8 * w.count;
             last = w;
         } else {
-            return words_refused(w.refusal);
+            let fault = w.fault;
+            return words_refused(fault);
         }
         left -= 1;
     }
     WordsRead {
         ok: true,
-        refusal: 0,
+        fault: Fault::Past,
         count: n,
         at,
         bad: is_bad(t, n),

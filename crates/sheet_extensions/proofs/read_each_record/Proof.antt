@@ -4,6 +4,7 @@ use Rattle.fields.specs.ParseLaws.{repeat-none, repeat-done, repeat-refused}
 use Rattle.definitions.specs.Reading.{extension}
 use Rattle.definitions.specs.Parse.{done, next, pure, repeatOnto, repeat}
 use Rattle.definitions.specs.Bits.{bitsOf}
+use Rattle.fields.specs.Fields.{faultOf}
 use denote.Ref.{now}
 use lib.ListN.{length, drop}
 use Prim.Native.Nat.{ℕ, _+_}
@@ -55,7 +56,7 @@ returns c =
     let x = c .before .before .before .read-record .ensures in
     let bs = bitsOf (now (a .s)) in
     let v = c .before .r .given in (
-      sym (l .inv .3 ∙ repeat-refused (recordsIn (l .t) (l .e)) (extension (a .limit)) (l .left) (drop (l .next .at) bs) (v .0 .0) (omega arith)
+      sym (l .inv .3 ∙ repeat-refused (recordsIn (l .t) (l .e)) (extension (a .limit)) (l .left) (drop (l .next .at) bs) (faultOf (v .0 .0)) (omega arith)
           (sym (x .0) ∙ rw (v .1) refl)),
       x .1 .size ∙ l .inv .1,
       omega arith,

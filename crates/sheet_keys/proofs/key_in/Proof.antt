@@ -24,11 +24,11 @@ returns c =
     let l : a .at + 17 ≤ length bs = omega (arith, length-bitsOf (now (a .s)), m .0) in
     first-large bs (a .at) (a .limit) (w .result) l (m .2) (w .ensures) (omega arith)
 
-mul-t10 : tie.Need-mul-t10
-mul-t10 c = search needs
+mul-t11 : tie.Need-mul-t11
+mul-t11 c = search needs
 
-add-t12 : tie.Need-add-t12
-add-t12 c = search needs
+add-t13 : tie.Need-add-t13
+add-t13 c = search needs
 
 returns-2 : tie.Need-returns-2
 returns-2 c =
@@ -48,17 +48,17 @@ returns-3 c =
     let l : a .at + 17 ≤ length bs = omega (arith, length-bitsOf (now (a .s)), m .0) in
     second-large bs (a .at) (a .limit) (w .result) l (m .2) (w .ensures) (omega arith) (omega (arith, c .before .if2 .left)) (omega arith)
 
-mul-t8 : tie.Need-mul-t8
-mul-t8 c = search needs
+mul-t9 : tie.Need-mul-t9
+mul-t9 c = search needs
 
-add-t9 : tie.Need-add-t9
-add-t9 c = search needs
-
-add-t14 : tie.Need-add-t14
-add-t14 c = search needs
+add-t10 : tie.Need-add-t10
+add-t10 c = search needs
 
 add-t16 : tie.Need-add-t16
 add-t16 c = search needs
+
+add-t18 : tie.Need-add-t18
+add-t18 c = search needs
 
 returns-4 : tie.Need-returns-4
 returns-4 c =
@@ -75,12 +75,12 @@ key-in-spec =
     (tie.spec
     window-requires
     returns
-    mul-t10
-    add-t12
+    mul-t11
+    add-t13
     returns-2
     returns-3
-    mul-t8
-    add-t9
-    add-t14
+    mul-t9
+    add-t10
     add-t16
+    add-t18
     returns-4)

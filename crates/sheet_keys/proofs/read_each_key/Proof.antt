@@ -6,6 +6,7 @@ use denote.Ref.{now}
 use Rattle.definitions.specs.Bits.{bitsOf}
 use Rattle.definitions.specs.Parse.{done, repeatOnto, repeat}
 use Rattle.definitions.specs.Reading.{name}
+use Rattle.fields.specs.Fields.{faultOf}
 use Rattle.fields.specs.ParseLaws.{repeat-none, repeat-done, repeat-refused}
 use Rattle.sheet_keys.specs.Keys.{nameOfKey, ofKeyRead, namesFrom, Kept}
 use Rattle.sheet_keys.specs.KeyLaws.{names-none, names-more, kept-all, kept-set}
@@ -57,7 +58,7 @@ returns c =
     let a = c .before .before .before .before .before .before .before .before .args in
     let v = c .before .r .given in
     let bs = bitsOf (now (a .s)) in (
-      sym (l .inv .2 ∙ repeat-refused (namesFrom (l .out) (a .base) (l .i)) (name (a .limit)) (l .left) (drop (l .next .at) bs) (v .0 .0) (omega arith)
+      sym (l .inv .2 ∙ repeat-refused (namesFrom (l .out) (a .base) (l .i)) (name (a .limit)) (l .left) (drop (l .next .at) bs) (faultOf (v .0 .0)) (omega arith)
           (sym (c .before .before .before .read-key .ensures) ∙ ap (ofKeyRead bs) (v .1))),
       l .inv .1,
       omega arith,

@@ -4,7 +4,7 @@ use Rattle.sheet_notes.proofs.skip_annotation.Statement.{statement}
 use Rattle.sheet_notes.proofs.skip_annotation.Tie as tie
 use Rattle.sheet_notes.proofs.skip_annotation.Reads as reads
 use Rattle.sheet_notes.proofs.skip_annotation.Lts as lts
-use Rattle.fields.proofs.read_between.Reads as read-between-reads
+use Rattle.sheet_fields.proofs.read_between.Reads as read-between-reads
 use Rattle.sheet_notes.proofs.is_nested_in_two.Reads as is-nested-in-two-reads
 use Rattle.sheet_notes.proofs.skip_rows.Reads as skip-rows-reads
 

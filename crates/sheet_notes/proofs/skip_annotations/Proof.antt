@@ -5,7 +5,7 @@ use Rattle.sheet_notes.proofs.skip_annotations.Statement.{statement}
 use Rattle.sheet_notes.proofs.skip_annotations.Tie as tie
 use Rattle.sheet_notes.proofs.skip_annotations.Reads as reads
 use Rattle.sheet_notes.proofs.skip_annotations.Lts as lts
-use Rattle.fields.proofs.read_between.Reads as read-between-reads
+use Rattle.sheet_fields.proofs.read_between.Reads as read-between-reads
 use Rattle.sheet_notes.proofs.skip_each_annotation.Reads as skip-each-annotation-reads
 
 read-between-requires : tie.Need-read-between-requires

@@ -5,14 +5,14 @@ use lib.ListN.{drop}
 use denote.Ref.{now}
 use Rattle.definitions.specs.Bits.{bitsOf}
 use Rattle.definitions.specs.Reading.{mark}
-use Rattle.records.specs.Marks.{ofMarkRead}
+use Rattle.fields.specs.Fields.{faultOf}
 use Rattle.sheet_notes.specs.Notes.{forget, steps, ofSkip}
 use Rattle.sheet_notes.specs.NoteLaws.{step-none, step-done, step-refused}
 use Rattle.sheet_notes.proofs.skip_each_mark.Statement.{statement}
 use Rattle.sheet_notes.proofs.skip_each_mark.Tie as tie
 use Rattle.sheet_notes.proofs.skip_each_mark.Reads as reads
 use Rattle.sheet_notes.proofs.skip_each_mark.Lts as lts
-use Rattle.records.proofs.read_mark.Reads as read-mark-reads
+use Rattle.sheet_notes.proofs.skip_mark.Reads as skip-mark-reads
 
 abbrev Inv-loop : tie.InvT-loop
 Inv-loop s n next₀ left₀ next left =
@@ -24,8 +24,8 @@ abbrev μ-loop : tie.MeasureT-loop
 loop-holds : tie.Need-loop-holds Inv-loop μ-loop
 loop-holds c = refl
 
-read-mark-requires : tie.Need-read-mark-requires Inv-loop μ-loop
-read-mark-requires c κs = search needs
+skip-mark-requires : tie.Need-skip-mark-requires Inv-loop μ-loop
+skip-mark-requires c κs = search needs
 
 enum-known-end : tie.Need-enum-known-end Inv-loop μ-loop
 enum-known-end c = search needs
@@ -39,7 +39,7 @@ returns c =
     let a = c .before .before .before .before .before .before .before .args in
     let v = c .before .r .given in
     let bs = bitsOf (now (a .s)) in
-    sym (l .inv ∙ step-refused mark (l .left) (drop (l .next .at) bs) (v .0 .0) (omega arith) (ap forget (sym (c .before .before .before .read-mark .ensures) ∙ ap (ofMarkRead bs) (v .1))))
+    sym (l .inv ∙ step-refused mark (l .left) (drop (l .next .at) bs) (faultOf (v .0 .0)) (omega arith) (sym (c .before .before .before .skip-mark .ensures) ∙ ap (ofSkip bs) (v .1)))
 
 sub-left : tie.Need-sub-left Inv-loop μ-loop
 sub-left c = search needs
@@ -53,7 +53,7 @@ loop-again c =
     let a = c .before .before .before .before .before .before .before .args in
     let v = c .before .end .given in
     let bs = bitsOf (now (a .s)) in
-    l .inv ∙ step-done mark (l .left) (drop (l .next .at) bs) (drop (v .0 .1 .0 .at) bs) (omega arith) (ap forget (sym (c .before .before .before .read-mark .ensures) ∙ ap (ofMarkRead bs) (v .1)))
+    l .inv ∙ step-done mark (l .left) (drop (l .next .at) bs) (drop (v .0 .0 .at) bs) (omega arith) (sym (c .before .before .before .skip-mark .ensures) ∙ ap (ofSkip bs) (v .1))
 
 returns-2 : tie.Need-returns-2 Inv-loop μ-loop
 returns-2 c =
@@ -68,7 +68,7 @@ skip-each-mark-spec =
     Inv-loop
     μ-loop
     loop-holds
-    read-mark-requires
+    skip-mark-requires
     enum-known-end
     enum-known-r
     returns

@@ -5,6 +5,7 @@ use lib.ListN.{drop}
 use denote.Ref.{now}
 use Rattle.definitions.specs.Bits.{bitsOf}
 use Rattle.definitions.specs.Reading.{name}
+use Rattle.fields.specs.Fields.{faultOf}
 use Rattle.sheet_keys.specs.Keys.{ofKeyRead}
 use Rattle.sheet_notes.specs.Notes.{forget, steps, ofSkip}
 use Rattle.sheet_notes.specs.NoteLaws.{step-none, step-done, step-refused}
@@ -39,7 +40,7 @@ returns c =
     let a = c .before .before .before .before .before .before .before .args in
     let v = c .before .r .given in
     let bs = bitsOf (now (a .s)) in
-    sym (l .inv ∙ step-refused (name (a .limit)) (l .left) (drop (l .next .at) bs) (v .0 .0) (omega arith) (ap forget (sym (c .before .before .before .read-key .ensures) ∙ ap (ofKeyRead bs) (v .1))))
+    sym (l .inv ∙ step-refused (name (a .limit)) (l .left) (drop (l .next .at) bs) (faultOf (v .0 .0)) (omega arith) (ap forget (sym (c .before .before .before .read-key .ensures) ∙ ap (ofKeyRead bs) (v .1))))
 
 sub-left : tie.Need-sub-left Inv-loop μ-loop
 sub-left c = search needs

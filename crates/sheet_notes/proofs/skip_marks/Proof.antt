@@ -5,7 +5,7 @@ use Rattle.sheet_notes.proofs.skip_marks.Statement.{statement}
 use Rattle.sheet_notes.proofs.skip_marks.Tie as tie
 use Rattle.sheet_notes.proofs.skip_marks.Reads as reads
 use Rattle.sheet_notes.proofs.skip_marks.Lts as lts
-use Rattle.fields.proofs.read_between.Reads as read-between-reads
+use Rattle.sheet_fields.proofs.read_between.Reads as read-between-reads
 use Rattle.sheet_notes.proofs.skip_each_mark.Reads as skip-each-mark-reads
 
 read-between-requires : tie.Need-read-between-requires

@@ -5,7 +5,7 @@ use Rattle.sheet_notes.proofs.skip_names.Statement.{statement}
 use Rattle.sheet_notes.proofs.skip_names.Tie as tie
 use Rattle.sheet_notes.proofs.skip_names.Reads as reads
 use Rattle.sheet_notes.proofs.skip_names.Lts as lts
-use Rattle.fields.proofs.read_between.Reads as read-between-reads
+use Rattle.sheet_fields.proofs.read_between.Reads as read-between-reads
 use Rattle.sheet_notes.proofs.skip_each_name.Reads as skip-each-name-reads
 
 read-between-requires : tie.Need-read-between-requires

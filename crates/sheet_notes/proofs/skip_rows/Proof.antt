@@ -9,7 +9,7 @@ use Rattle.sheet_notes.proofs.skip_rows.Tie as tie
 use Rattle.sheet_notes.proofs.skip_rows.Reads as reads
 use Rattle.sheet_notes.proofs.skip_rows.Lts as lts
 use Rattle.fields.proofs.read_tag.Reads as read-tag-reads
-use Rattle.fields.proofs.read_word_field.Reads as read-word-field-reads
+use Rattle.sheet_fields.proofs.read_word_field.Reads as read-word-field-reads
 use Rattle.sheet_notes.proofs.skip_names.Reads as skip-names-reads
 
 skip-names-requires : tie.Need-skip-names-requires

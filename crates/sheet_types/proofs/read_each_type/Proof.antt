@@ -5,6 +5,7 @@ use Rattle.fields.specs.ParseLaws.{repeat-none, repeat-done, repeat-refused}
 use Rattle.definitions.specs.Reading.{typeInfo}
 use Rattle.definitions.specs.Parse.{done, next, pure, repeatOnto, repeat}
 use Rattle.definitions.specs.Bits.{bitsOf}
+use Rattle.fields.specs.Fields.{faultOf}
 use denote.Ref.{now}
 use lib.ListN.{length, drop}
 use Prim.Native.Nat.{ℕ, _+_}
@@ -57,7 +58,7 @@ returns c =
     let e = c .before .before .before .read-type .ensures in
     let bs = bitsOf (now (a .s)) in
     let v = c .before .r .given in (
-      sym (l .inv .3 ∙ repeat-refused (typesIn (a .limit) bs (l .d) (l .i)) (typeInfo (a .limit)) (l .left) (drop (l .next .at) bs) (v .0 .0) (omega arith)
+      sym (l .inv .3 ∙ repeat-refused (typesIn (a .limit) bs (l .d) (l .i)) (typeInfo (a .limit)) (l .left) (drop (l .next .at) bs) (faultOf (v .0 .0)) (omega arith)
           (sym (e .0) ∙ rw (v .1) refl)),
       e .1 .size ∙ l .inv .1,
       omega arith,

@@ -4,6 +4,7 @@ use Prim.Native.Nat.{_*_}
 use native.Mathlib.Omega.{arith}
 use lib.ListN.{length}
 use Rattle.definitions.specs.Bits.{bitsOf}
+use Rattle.fields.specs.declared.Fault.{Fault}
 use Rattle.bits.specs.NumberLaws.{length-bitsOf}
 use Rattle.sheet_words.specs.WordLaws.{past-good, past-bad, text-good, text-bad, refused-tells}
 use borrow.Author.Needs.{needs}
@@ -72,7 +73,7 @@ returns-4 c =
     let bs = bitsOf (now (a .s)) in
     let l = length-bitsOf (now (a .s)) in
     rw (c .word-refused3 .ensures)
-    (refused-tells bs 4 _ (text-bad bs (a .at) (a .n) (omega (arith, l, b .pre, c .before .before .before .if1 .left)) (sym (c .before .before .is-text2 .ensures) ∙ c .before .if3 .left)))
+    (refused-tells bs Fault.NotAllowed _ (text-bad bs (a .at) (a .n) (omega (arith, l, b .pre, c .before .before .before .if1 .left)) (sym (c .before .before .is-text2 .ensures) ∙ c .before .if3 .left)))
 
 pub bytes-from-spec : {M : Type 1} → statement M
 bytes-from-spec =

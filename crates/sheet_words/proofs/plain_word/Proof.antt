@@ -4,6 +4,7 @@ use Prim.Native.Nat.{_*_}
 use native.Mathlib.Omega.{arith}
 use lib.ListN.{length, drop}
 use Rattle.definitions.specs.Bits.{bitsOf}
+use Rattle.fields.specs.declared.Fault.{Fault}
 use Rattle.bits.specs.NumberLaws.{length-bitsOf, num-lt}
 use Rattle.sheet_words.specs.ByteLaws.{word-past, word-empty, word-some}
 use Rattle.sheet_words.specs.WordLaws.{refused-tells, tells-as}
@@ -28,7 +29,7 @@ returns c =
     let a = b .args in
     let bs = bitsOf (now (a .s)) in
     let l = length-bitsOf (now (a .s)) in
-    rw (c .word-refused .ensures) (refused-tells bs 3 _ (word-past bs (a .at) 0 (omega (arith, l, c .before .if1 .taken))))
+    rw (c .word-refused .ensures) (refused-tells bs Fault.Past _ (word-past bs (a .at) 0 (omega (arith, l, c .before .if1 .taken))))
 
 word-refused-requires-2 : tie.Need-word-refused-requires-2
 word-refused-requires-2 c κs = search needs
@@ -39,7 +40,7 @@ returns-2 c =
     let a = b .args in
     let bs = bitsOf (now (a .s)) in
     let l = length-bitsOf (now (a .s)) in
-    rw (c .word-refused2 .ensures) (refused-tells bs 3 _ (word-past bs (a .at) 0 (omega (arith, l, c .before .if2 .taken, c .before .before .if1 .left))))
+    rw (c .word-refused2 .ensures) (refused-tells bs Fault.Past _ (word-past bs (a .at) 0 (omega (arith, l, c .before .if2 .taken, c .before .before .if1 .left))))
 
 wide-requires : tie.Need-wide-requires
 wide-requires c κs = search needs
@@ -54,7 +55,7 @@ returns-3 c =
     let bs = bitsOf (now (a .s)) in
     let l = length-bitsOf (now (a .s)) in
     rw (c .word-refused3 .ensures)
-    (refused-tells bs 4 _ (word-empty bs (a .at) _ (omega (arith, l, c .before .before .before .if2 .left, c .before .before .before .before .if1 .left)) (c .before .before .wide .ensures) (c .before .if3 .taken)))
+    (refused-tells bs Fault.NotAllowed _ (word-empty bs (a .at) _ (omega (arith, l, c .before .before .before .if2 .left, c .before .before .before .before .if1 .left)) (c .before .before .wide .ensures) (c .before .if3 .taken)))
 
 add-bytes-from : tie.Need-add-bytes-from
 add-bytes-from c = search needs

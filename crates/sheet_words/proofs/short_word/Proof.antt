@@ -5,6 +5,7 @@ use Prim.Native.Nat.{_+_, _*_}
 use denote.Ref.{now}
 use lib.ListN.{drop}
 use Rattle.definitions.specs.Bits.{bitsOf}
+use Rattle.fields.specs.declared.Fault.{Fault}
 use Rattle.sheet_words.specs.ByteLaws.{word-some}
 use Rattle.sheet_words.specs.WordLaws.{short-value, head-shift, text-last, text-good, text-bad, tells-as, refused-tells}
 use borrow.Author.Needs.{needs}
@@ -61,7 +62,7 @@ returns-2 c =
     let q = a .at + 5 in
     let e = short-value (a .n) (a .x) (drop q bs) (h .few) (h .bits) in
     rw (c .word-refused .ensures)
-    (refused-tells bs 4 _
+    (refused-tells bs Fault.NotAllowed _
     (text-bad bs q (a .n) (omega (arith, h .there, h .few)) (sym (text-last bs q (a .n) _ e) ∙ sym (c .before .before .is-spelt .ensures) ∙ c .before .if1 .left)
     ∙ word-some bs (a .at) (a .n) (omega (arith, h .there)) (h .length-is) (h .some)))
 
