@@ -22,7 +22,7 @@ use Rattle.fields.specs.Fields.{faultOf}
 use Rattle.bits.specs.NumberLaws.{num-lt, num-split, length-packTo}
 use Rattle.sheet_window.specs.WindowLaws.{split}
 use Rattle.fields.specs.FieldLaws.{counted-in}
-use Rattle.sheet_words.specs.Words.{spelt, headOf, bytesOf, Held, Tells, Spelled, Short, Named, refusedWord}
+use Rattle.sheet_words.specs.Words.{spelt, headOf, bytesOf, Held, Tells, Spelled, Begun, Named, refusedWord}
 use Rattle.sheet_words.specs.ByteLaws.{bytes-split, bytes-drop, byte-is, bytes-num, bytes-in, bytes-past, word-some}
 use Rattle.sheet_words.specs.HeadLaws.{good-drop, head-less, head-more, head-same, same-split, same-short, head-none, head-few}
 use Rattle.sheet_words.specs.declared.Spelt.{Spelt}
@@ -126,18 +126,24 @@ module _ (bs : List Bool) (p : ℕ) (w : Spelt) (t : Spelled bs p w) where
   unfolding word
   word-long e = omega (arith, counted-in 5 1 31 (allowed 8 isWordByte) (drop p bs) (bytesOf bs w) _ (word-is e) .0, length-packTo (w .count) (drop (w .at) bs))
 
--- a length of up to six and the 48 bits behind it, out of 53 bits that are there
-pub short-is : (bs : List Bool) (p w : ℕ) → p + 53 ≤ length bs → w ≡ num 53 (drop p bs) → 0 < w / 281474976710656 → w / 281474976710656 ≤ 6 →
-    Short bs p (w / 281474976710656) (w % 281474976710656)
-short-is bs p w l e s f =
+-- a length and the 48 bits behind it, out of 53 bits that are there
+pub begun-is : (bs : List Bool) (p w : ℕ) → p + 53 ≤ length bs → w ≡ num 53 (drop p bs) → 0 < w / 281474976710656 →
+    Begun bs p (w / 281474976710656) (w % 281474976710656)
+begun-is bs p w l e s =
     let d : w ≡ num 5 (drop p bs) * 281474976710656 + num 48 (drop (p + 5) bs) = e ∙ split bs p 5 48 (p + 5) refl in
     record {
       there = l;
       length-is = omega (arith, d, num-lt 48 (drop (p + 5) bs));
       some = s;
-      few = f;
       bits = omega (arith, d, num-lt 48 (drop (p + 5) bs));
     }
+
+-- a word that is begun is what the parser gives of its bytes
+pub begun-word : (bs : List Bool) (p n x : ℕ) → Begun bs p n x → repeat (allowed 8 isWordByte) n (drop (p + 5) bs) ≡ word (drop p bs)
+begun-word bs p n x h = word-some bs p n (omega (arith, h .there)) (h .length-is) (h .some)
+
+pub begun-few : (bs : List Bool) (p n x : ℕ) → Begun bs p n x → n ≤ 31
+begun-few bs p n x h = omega (arith, h .length-is, num-lt 5 (drop p bs))
 
 -- ---- two words
 

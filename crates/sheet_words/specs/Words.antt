@@ -74,12 +74,11 @@ pub record Tells (bs : List Bool) (w : Spelt) (x : Parsed (List ℕ)) : Type 0 w
 abbrev pub Spelled : List Bool → ℕ → Spelt → Type 0
 Spelled bs p w = Tells bs w (word (drop p bs))
 
--- At bit p stands a length n of at most six, and behind it the 48 bits x.
-pub record Short (bs : List Bool) (p n x : ℕ) : Type 0 where
+-- At bit p stands a length n that is not 0, and behind it the 48 bits x (FORMAT 2.4).
+pub record Begun (bs : List Bool) (p n x : ℕ) : Type 0 where
   pub there : p + 53 ≤ length bs
   pub length-is : n ≡ num 5 (drop p bs)
   pub some : 0 < n
-  pub few : n ≤ 6
   pub bits : x ≡ num 48 (drop (p + 5) bs)
 
 -- ---- the words

@@ -13,7 +13,7 @@ ghost use Rattle.definitions.specs.Checks.{resourceBytes, selfBytes};
 ghost use Rattle.definitions.specs.Comparisons.{bytesBefore};
 ghost use Rattle.definitions.specs.Parse.{allowed, repeat, counted};
 ghost use Rattle.definitions.specs.Reading.{isWordByte, word};
-ghost use Rattle.sheet_words.specs.Words.{bytesOf, headOf, spelt, marks, refusedWord, Held, Tells, Spelled, Short, Named, With, told, ofWordsRead, refusedWords};
+ghost use Rattle.sheet_words.specs.Words.{bytesOf, headOf, spelt, marks, refusedWord, Held, Tells, Spelled, Begun, Named, With, told, ofWordsRead, refusedWords};
 
 // ok: a word of count bytes that stand from bit `at` on; `head` is the first six of them as one number. Else a fault.
 pub struct Spelt {
@@ -161,7 +161,7 @@ fn plain_word(s: &[u8], at: usize) -> Spelt
 
 // A word of up to six bytes, of which x has the bits and zeros or others behind them.
 fn short_word(s: &[u8], at: usize, n: usize, x: u64) -> Spelt
-    requires { ⌜ (length (now s) ≤ 40960) × Short (bitsOf (now s)) at n x ⌝ }
+    requires { ⌜ (length (now s) ≤ 40960) × Begun (bitsOf (now s)) at n x × (n ≤ 6) ⌝ }
     ensures { λ r. ⌜ Spelled (bitsOf (now (s .entry))) at r ⌝ }
 {
     let k = 48 - 8 * n;
@@ -178,6 +178,30 @@ fn short_word(s: &[u8], at: usize, n: usize, x: u64) -> Spelt
     word_refused(Fault::NotAllowed)
 }
 
+// A word of more than six bytes, of which x has the first six.
+fn long_word(s: &[u8], at: usize, n: usize, x: u64) -> Spelt
+    requires { ⌜ (length (now s) ≤ 40960) × Begun (bitsOf (now s)) at n x × (6 < n) ⌝ }
+    ensures { λ r. ⌜ Spelled (bitsOf (now (s .entry))) at r ⌝ }
+{
+    let q = at + 5;
+    if s.len() * 8 - q < 8 * n {
+        return bytes_from(s, q, n);
+    }
+    if is_spelt(x, 6) {
+        if is_text(s, q + 48, n - 6) {
+            return Spelt {
+                ok: true,
+                refusal: 0,
+                at: q,
+                count: n,
+                head: x,
+            };
+        }
+        return word_refused(4);
+    }
+    word_refused(4)
+}
+
 // An entry of the word list: its length, 1 to 31, and so many bytes (FORMAT 2.4).
 fn read_word(s: &[u8], at: usize) -> Spelt
     requires { ⌜ length (now s) ≤ 40960 ⌝ }
@@ -187,9 +211,11 @@ fn read_word(s: &[u8], at: usize) -> Spelt
         let w = sheet_window::wide_in(s, at, 53);
         let n = (w >> 48) as usize;
         if 0 < n {
+            let x = w % 281474976710656;
             if n <= 6 {
-                return short_word(s, at, n, w % 281474976710656);
+                return short_word(s, at, n, x);
             }
+            return long_word(s, at, n, x);
         }
     }
     plain_word(s, at)

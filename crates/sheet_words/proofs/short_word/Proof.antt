@@ -5,9 +5,7 @@ use Prim.Native.Nat.{_+_, _*_}
 use denote.Ref.{now}
 use lib.ListN.{drop}
 use Rattle.definitions.specs.Bits.{bitsOf}
-use Rattle.fields.specs.declared.Fault.{Fault}
-use Rattle.sheet_words.specs.ByteLaws.{word-some}
-use Rattle.sheet_words.specs.WordLaws.{short-value, head-shift, text-last, text-good, text-bad, tells-as, refused-tells}
+use Rattle.sheet_words.specs.WordLaws.{short-value, head-shift, text-last, text-good, text-bad, tells-as, refused-tells, begun-word}
 use borrow.Author.Needs.{needs}
 use Rattle.sheet_words.proofs.short_word.Statement.{statement}
 use Rattle.sheet_words.proofs.short_word.Tie as tie
@@ -29,8 +27,9 @@ is-spelt-requires : tie.Need-is-spelt-requires
 is-spelt-requires c κs =
     let a = c .before .args in
     let h = c .before .pre .1 in
+    let few = c .before .pre .2 in
     let B = drop (a .at + 5) (bitsOf (now (a .s))) in
-    (h .few, rw (short-value (a .n) (a .x) B (h .few) (h .bits)) (num-lt (8 * a .n) B))
+    (few, rw (short-value (a .n) (a .x) B few (h .bits)) (num-lt (8 * a .n) B))
 
 add-t10 : tie.Need-add-t10
 add-t10 c =
@@ -44,11 +43,12 @@ returns : tie.Need-returns
 returns c =
     let a = c .before .before .before .args in
     let h = c .before .before .before .pre .1 in
+    let few = c .before .before .before .pre .2 in
     let bs = bitsOf (now (a .s)) in
     let q = a .at + 5 in
-    let e = short-value (a .n) (a .x) (drop q bs) (h .few) (h .bits) in
-    tells-as bs _ _ _ (word-some bs (a .at) (a .n) (omega (arith, h .there)) (h .length-is) (h .some))
-    (text-good bs q (a .n) (omega (arith, h .there, h .few)) _ (omega (arith, h .few)) (head-shift (a .n) _ (drop q bs) (h .few) e)
+    let e = short-value (a .n) (a .x) (drop q bs) few (h .bits) in
+    tells-as bs _ _ _ (begun-word bs (a .at) (a .n) (a .x) h)
+    (text-good bs q (a .n) (omega (arith, h .there, few)) _ (omega (arith, few)) (head-shift (a .n) _ (drop q bs) few e)
     (sym (text-last bs q (a .n) _ e) ∙ sym (c .before .is-spelt .ensures) ∙ c .if1 .taken))
 
 word-refused-requires : tie.Need-word-refused-requires
@@ -58,13 +58,14 @@ returns-2 : tie.Need-returns-2
 returns-2 c =
     let a = c .before .before .before .before .args in
     let h = c .before .before .before .before .pre .1 in
+    let few = c .before .before .before .before .pre .2 in
     let bs = bitsOf (now (a .s)) in
     let q = a .at + 5 in
-    let e = short-value (a .n) (a .x) (drop q bs) (h .few) (h .bits) in
+    let e = short-value (a .n) (a .x) (drop q bs) few (h .bits) in
     rw (c .word-refused .ensures)
-    (refused-tells bs Fault.NotAllowed _
-    (text-bad bs q (a .n) (omega (arith, h .there, h .few)) (sym (text-last bs q (a .n) _ e) ∙ sym (c .before .before .is-spelt .ensures) ∙ c .before .if1 .left)
-    ∙ word-some bs (a .at) (a .n) (omega (arith, h .there)) (h .length-is) (h .some)))
+    (refused-tells bs 4 _
+    (text-bad bs q (a .n) (omega (arith, h .there, few)) (sym (text-last bs q (a .n) _ e) ∙ sym (c .before .before .is-spelt .ensures) ∙ c .before .if1 .left)
+    ∙ begun-word bs (a .at) (a .n) (a .x) h))
 
 pub short-word-spec : {M : Type 1} → statement M
 short-word-spec =
