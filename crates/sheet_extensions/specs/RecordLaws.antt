@@ -10,6 +10,7 @@ use lib.ListN.{length, drop, getD, set, length-set}
 use lib.Seq
 use Rattle.lists.specs.Tests.{by}
 use Rattle.lists.specs.Tabulating.{tabulate, tabulate-set, tabulate-same}
+use Rattle.definitions.specs.Parse as parse
 use Rattle.definitions.specs.Parse.{Parsed, done, refused, next, pure, counted}
 use Rattle.definitions.specs.Reading.{wordField, wordIfFlag, name, extension}
 use Rattle.fields.specs.FieldLaws.{word-lt}
@@ -82,17 +83,17 @@ kept-same e t = record { size = refl; keys = λ j b. refl; counts = λ j b. refl
 -- ---- what the code read
 
 module _ (W : ℕ) (bs : List Bool) (p : ℕ) where
-  pub no-name : (r : ℕ) → refused r ≡ name W (drop p bs) → refused r ≡ extension W (drop p bs)
+  pub no-name : (r : parse.Fault) → refused r ≡ name W (drop p bs) → refused r ≡ extension W (drop p bs)
   unfolding extension
   no-name r e = sym (rw (← e))
 
   module _ (key at₁ : ℕ) (e : done (nameOfKey key) (drop at₁ bs) ≡ name W (drop p bs)) where
-    pub no-word : (r : ℕ) → refused r ≡ wordField W (drop at₁ bs) → refused r ≡ extension W (drop p bs)
+    pub no-word : (r : parse.Fault) → refused r ≡ wordField W (drop at₁ bs) → refused r ≡ extension W (drop p bs)
     unfolding extension
     no-word r f = sym (rw (← e, ← f))
 
     module _ (w at₂ : ℕ) (f : done w (drop at₂ bs) ≡ wordField W (drop at₁ bs)) where
-      pub no-added : (r : ℕ) → refused r ≡ counted 4 1 8 (name W) (drop at₂ bs) → refused r ≡ extension W (drop p bs)
+      pub no-added : (r : parse.Fault) → refused r ≡ counted 4 1 8 (name W) (drop at₂ bs) → refused r ≡ extension W (drop p bs)
       unfolding extension
       no-added r g = sym (rw (← e, ← f, ← g))
 

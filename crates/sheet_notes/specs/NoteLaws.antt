@@ -11,6 +11,7 @@ use lib.ListN.{length, drop}
 use Rattle.lists.specs.Tests.{by}
 use Rattle.bits.specs.NumberLaws.{num-lt}
 use Rattle.definitions.specs.Bits.{num}
+use Rattle.definitions.specs.Parse as parse
 use Rattle.definitions.specs.Parse.{allowed, Parsed, done, refused, Parser, next, pure, refuse, choose, field, between, repeatOnto, repeat, counted, notAllowed}
 use Rattle.definitions.specs.Reading.{wordField, annotation, mark}
 use Rattle.definitions.specs.Records.{Annotation, Mark}
@@ -30,7 +31,7 @@ module _ {A : Type 0} (m : Parser A) where
   step-done zero bs rest h e = absurd (omega arith)
   step-done (suc n) bs rest h e = rw (sub-one (suc n), e)
 
-  pub step-refused : (n : ℕ) (bs : List Bool) (r : ℕ) → 0 < n → forget (m bs) ≡ refused r → steps m n bs ≡ refused r
+  pub step-refused : (n : ℕ) (bs : List Bool) (r : parse.Fault) → 0 < n → forget (m bs) ≡ refused r → steps m n bs ≡ refused r
   unfolding steps
   step-refused zero bs r h e = absurd (omega arith)
   step-refused (suc n) bs r h e = rw e

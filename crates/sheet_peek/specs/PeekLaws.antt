@@ -9,11 +9,12 @@ use native.Mathlib.Omega.{arith}
 use lib.Dec.{leb}
 use lib.ListN.{length, drop}
 use Rattle.definitions.specs.Bits.{num}
+use Rattle.definitions.specs.Parse as parse
 use Rattle.definitions.specs.Parse.{Parsed, done, refused, Parser, next, pure, refuse, choose, field, allowed, between, repeatOnto, repeat, counted, notAllowed}
 use Rattle.sheet_window.specs.WindowLaws.{field-in, field-past}
 
 -- no value comes of a refusal
-pub refused-not : {A : Type 0} {C : Type 0} {r : ℕ} {x : A} {rest : List Bool} → refused r ≡ done x rest → C
+pub refused-not : {A : Type 0} {C : Type 0} {r : parse.Fault} {x : A} {rest : List Bool} → refused r ≡ done x rest → C
 refused-not e = let z : _≡_ {A = ℕ} 0 1 = cc in absurd (omega arith)
 
 pub done-value : {A : Type 0} {x y : A} {a b : List Bool} → done x a ≡ done y b → x ≡ y

@@ -10,6 +10,7 @@ use lib.ListN.{length, drop, getD, set, length-set}
 use lib.Seq
 use Rattle.lists.specs.Tests.{by}
 use Rattle.lists.specs.Tabulating.{tabulate, tabulate-set, tabulate-same, length-tabulate}
+use Rattle.definitions.specs.Parse as parse
 use Rattle.definitions.specs.Parse.{Parsed, done, refused, next, pure, repeat}
 use Rattle.definitions.specs.Reading.{name, typeInfo}
 use Rattle.definitions.specs.Records as records
@@ -97,15 +98,15 @@ kept-same i d = record { size = refl; keys = λ j b. refl; heads = λ j b. refl;
 -- ---- what the code read
 
 module _ (W : ℕ) (bs : List Bool) (p : ℕ) where
-  pub no-name : (r : ℕ) → refused r ≡ name W (drop p bs) → refused r ≡ typeInfo W (drop p bs)
+  pub no-name : (r : parse.Fault) → refused r ≡ name W (drop p bs) → refused r ≡ typeInfo W (drop p bs)
   no-name r e = sym (type-parts W (drop p bs) ∙ rw (← e))
 
   module _ (key at₁ : ℕ) (e : done (nameOfKey key) (drop at₁ bs) ≡ name W (drop p bs)) where
-    pub no-top : (r : ℕ) → refused r ≡ top (drop at₁ bs) → refused r ≡ typeInfo W (drop p bs)
+    pub no-top : (r : parse.Fault) → refused r ≡ top (drop at₁ bs) → refused r ≡ typeInfo W (drop p bs)
     no-top r f = sym (type-parts W (drop p bs) ∙ rw (← e, ← f))
 
     module _ (h at₂ : ℕ) (f : done (topOf h) (drop at₂ bs) ≡ top (drop at₁ bs)) (s : h % 16 ≤ 8) where
-      pub no-parents : (r : ℕ) → refused r ≡ repeat (name W) (h % 16) (drop at₂ bs) → refused r ≡ typeInfo W (drop p bs)
+      pub no-parents : (r : parse.Fault) → refused r ≡ repeat (name W) (h % 16) (drop at₂ bs) → refused r ≡ typeInfo W (drop p bs)
       no-parents r g = let q : h % 16 % 9 ≡ h % 16 = omega arith in sym (type-parts W (drop p bs) ∙ rw (← e, ← f, q, ← g))
 
       -- the row, by what stands in it

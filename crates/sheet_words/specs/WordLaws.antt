@@ -77,7 +77,7 @@ short-value n x bs h e =
 
 -- ---- the parser's answer
 
-pub refused-tells : (bs : List Bool) (r : ℕ) (x : _) → refused r ≡ x → Tells bs (refusedWord r) x
+pub refused-tells : (bs : List Bool) (r : Fault) (x : _) → refused (faultOf r) ≡ x → Tells bs (refusedWord r) x
 refused-tells bs r x e = record { reads = e; held = λ t. Rattle.lists.specs.Tests.never t refl }
 
 module _ (bs : List Bool) (q n : ℕ) where
@@ -85,7 +85,7 @@ module _ (bs : List Bool) (q n : ℕ) where
       refused (cond (all isWordByte (packTo ((length bs - q) / 8) (drop q bs))) past notAllowed) ≡ repeat (allowed 8 isWordByte) n (drop q bs)
   text-past h l =
       let e : length (drop q bs) ≡ length bs - q = length-drop q bs in
-      sym (bytes-past isWordByte n [] (drop q bs) (omega arith) ∙ ap (λ (k : ℕ). refused (cond (all isWordByte (packTo (k / 8) (drop q bs))) 3 4)) e)
+      sym (bytes-past isWordByte n [] (drop q bs) (omega arith) ∙ ap (λ (k : ℕ). refused (cond (all isWordByte (packTo (k / 8) (drop q bs))) past notAllowed)) e)
 
   module _ (inside : q + 8 * n ≤ length bs) where
     pub text-bad : all isWordByte (packTo n (drop q bs)) ≡ false → refused notAllowed ≡ repeat (allowed 8 isWordByte) n (drop q bs)

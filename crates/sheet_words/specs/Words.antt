@@ -54,7 +54,7 @@ bytesOf bs w = packTo (w .count) (drop (w .at) bs)
 abbrev pub ofSpelt : List Bool → Spelt → Parsed (List ℕ)
 ofSpelt bs w = cond (w .ok) (done (bytesOf bs w) (drop (w .at + 8 * w .count) bs)) (refused (faultOf (w .fault)))
 
--- The answer with a refusal.
+-- The answer with a fault.
 abbrev pub refusedWord : Fault → Spelt
 refusedWord r = record { ok = mathlib.Core.Bool.false; fault = r; at = 0; count = 0; head = 0 }
 
@@ -100,6 +100,7 @@ pub record Telling : Type 0 where
   pub resource : ℕ
   pub own : ℕ
 
+-- What the words ws tell (FORMAT 1.2).
 abbrev pub tellingOf : List (List ℕ) → Telling
 tellingOf ws = record { count = length ws; bad = badWords ws; resource = numberOf resourceBytes ws; own = numberOf selfBytes ws }
 
@@ -107,9 +108,11 @@ tellingOf ws = record { count = length ws; bad = badWords ws; resource = numberO
 abbrev pub told : Parsed (List (List ℕ)) → Parsed Telling
 told x = next x (λ ws. pure (tellingOf ws))
 
+-- The answer about all words, as the definitions' parser gives it (FORMAT 2.2).
 abbrev pub ofWordsRead : List Bool → WordsRead → Parsed Telling
 ofWordsRead bs r =
     cond (r .ok) (done (record { count = r .count; bad = r .bad; resource = r .resource; own = r .own }) (drop (r .at) bs)) (refused (faultOf (r .fault)))
 
+-- That answer with a fault.
 abbrev pub refusedWords : Fault → WordsRead
 refusedWords r = record { ok = mathlib.Core.Bool.false; fault = r; count = 0; at = 0; bad = mathlib.Core.Bool.false; resource = 0; own = 0 }

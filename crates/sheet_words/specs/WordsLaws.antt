@@ -16,6 +16,7 @@ use Rattle.definitions.specs.Bits.{packTo}
 use Rattle.definitions.specs.Checks.{resourceBytes, selfBytes, badWords}
 use Rattle.definitions.specs.Comparisons.{bytesBefore}
 use Rattle.definitions.specs.Map.{numberOf}
+use Rattle.definitions.specs.Parse as parse
 use Rattle.definitions.specs.Parse.{Parsed, done, refused, next, pure, allowed, repeatOnto}
 use Rattle.definitions.specs.Reading.{isWordByte, word}
 use Rattle.fields.specs.declared.Fault.{Fault}
@@ -151,7 +152,7 @@ module _ (bs : List Bool) (n : ℕ) (ws : List (List ℕ)) (v : Spelt) (t : Foun
 
 -- ---- what the equation of the words says
 
-pub words-refused : (x : Parsed (List (List ℕ))) (r : ℕ) → told x ≡ refused r → x ≡ refused r
+pub words-refused : (x : Parsed (List (List ℕ))) (r : parse.Fault) → told x ≡ refused r → x ≡ refused r
 words-refused (done ws rest) r e = let z : _≡_ {A = ℕ} 0 1 = cc in absurd (omega arith)
 words-refused (refused q) r e = let z : q ≡ r = cc in rw z
 

@@ -24,7 +24,7 @@ pub struct Spelt {
     pub head: u64,
 }
 
-// Whether the words so far ascend, and the numbers of `resource` and `self`: those of all words for one that is not among them.
+// Whether the words so far ascend, and the numbers of `resource` and `self`, the count of all words for one that is not found yet.
 pub struct Found {
     pub up: bool,
     pub resource: usize,
@@ -43,8 +43,8 @@ pub struct WordsRead {
     pub own: u8,
 }
 
-// Six bytes below 128 at once: the top bit of each that may stand in a word. A capital is made small, and then a byte is between two others where one of
-// two sums has the top bit.
+// Of six bytes below 128, the top bit of each that may stand in a word. A capital is made small; a byte is in a range where only one of two sums has the
+// top bit.
 fn marked(v: u64) -> u64
     requires { ⌜ v < 2 ^ 48 ⌝ }
     ensures { λ r. ⌜ r ≡ marks v ⌝ }
@@ -159,7 +159,7 @@ fn plain_word(s: &[u8], at: usize) -> Spelt
     bytes_from(s, at + 5, n)
 }
 
-// A word of up to six bytes, of which x has the bits and zeros or others behind them.
+// A word of up to six bytes, which are the first bits of x.
 fn short_word(s: &[u8], at: usize, n: usize, x: u64) -> Spelt
     requires { ⌜ (length (now s) ≤ 40960) × Begun (bitsOf (now s)) at n x × (n ≤ 6) ⌝ }
     ensures { λ r. ⌜ Spelled (bitsOf (now (s .entry))) at r ⌝ }
@@ -191,15 +191,15 @@ fn long_word(s: &[u8], at: usize, n: usize, x: u64) -> Spelt
         if is_text(s, q + 48, n - 6) {
             return Spelt {
                 ok: true,
-                refusal: 0,
+                fault: Fault::Past,
                 at: q,
                 count: n,
                 head: x,
             };
         }
-        return word_refused(4);
+        return word_refused(Fault::NotAllowed);
     }
-    word_refused(4)
+    word_refused(Fault::NotAllowed)
 }
 
 // An entry of the word list: its length, 1 to 31, and so many bytes (FORMAT 2.4).

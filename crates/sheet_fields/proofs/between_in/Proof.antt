@@ -27,8 +27,8 @@ returns-2 c =
     let a = b .args in
     between-high (bitsOf (now (a .s))) (a .at) (a .n) (w .result) (b .pre .1) (omega (arith, length-bitsOf (now (a .s)), b .pre .2, b .pre .3)) (w .ensures) (a .least) (a .most) (c .before .if1 .left) (c .if2 .taken)
 
-add-t8 : tie.Need-add-t8
-add-t8 c = search needs
+add-t10 : tie.Need-add-t10
+add-t10 c = search needs
 
 returns-3 : tie.Need-returns-3
 returns-3 c =
@@ -38,4 +38,4 @@ returns-3 c =
     between-is (bitsOf (now (a .s))) (a .at) (a .n) (w .result) (b .pre .1) (omega (arith, length-bitsOf (now (a .s)), b .pre .2, b .pre .3)) (w .ensures) (a .least) (a .most) (c .before .if1 .left) (c .if2 .left)
 
 pub between-in-spec : {M : Type 1} → statement M
-between-in-spec = tie.close (tie.spec window-requires returns returns-2 add-t8 returns-3)
+between-in-spec = tie.close (tie.spec window-requires returns returns-2 add-t10 returns-3)

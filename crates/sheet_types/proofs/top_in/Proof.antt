@@ -30,8 +30,8 @@ returns-2 c =
     let e = read-in (now (a .s)) (a .at) 8 (omega (arith, c .before .before .before .before .pre .0)) ∙ ap (λ (v : ℕ). Value v (record { at = a .at + 8 })) (sym (w .ensures)) in
     (many-top (bitsOf (now (a .s))) (a .at) (w .result) (record { at = a .at + 8 }) e (omega arith) (omega arith), tt)
 
-add-t5 : tie.Need-add-t5
-add-t5 c = search needs
+add-t6 : tie.Need-add-t6
+add-t6 c = search needs
 
 returns-3 : tie.Need-returns-3
 returns-3 c =
@@ -41,4 +41,4 @@ returns-3 c =
     (whole-top (bitsOf (now (a .s))) (a .at) (w .result) (record { at = a .at + 8 }) e (omega arith) (omega arith), (omega arith, omega arith))
 
 pub top-in-spec : {M : Type 1} → statement M
-top-in-spec = tie.close (tie.spec window-requires returns returns-2 add-t5 returns-3)
+top-in-spec = tie.close (tie.spec window-requires returns returns-2 add-t6 returns-3)

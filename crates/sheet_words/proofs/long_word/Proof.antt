@@ -4,6 +4,7 @@ use native.Mathlib.Omega.{arith}
 use denote.Ref.{now}
 use lib.ListN.{drop}
 use Rattle.definitions.specs.Bits.{bitsOf}
+use Rattle.fields.specs.declared.Fault.{Fault}
 use Rattle.bits.specs.NumberLaws.{length-bitsOf, num-lt}
 use Rattle.sheet_words.specs.HeadLaws.{head-many}
 use Rattle.sheet_words.specs.WordLaws.{begun-word, begun-few, tells-as, text-six, text-not, text-good, text-bad, refused-tells}
@@ -104,7 +105,7 @@ returns-3 c =
     let l = length-bitsOf (now (a .s)) in
     let q = a .at + 5 in
     rw (c .word-refused .ensures)
-    (refused-tells bs 4 _
+    (refused-tells bs Fault.NotAllowed _
     (text-bad bs q (a .n) (omega (arith, l, h .there, c .before .before .before .before .before .if1 .left))
     (text-six bs q (a .n) (a .x) (b .pre .2) (h .bits) (sym (c .before .before .before .before .is-spelt .ensures) ∙ c .before .before .before .if2 .taken) ∙ sym (c .before .before .is-text .ensures) ∙ c .before .if3 .left)
     ∙ begun-word bs (a .at) (a .n) (a .x) h))
@@ -121,7 +122,7 @@ returns-4 c =
     let l = length-bitsOf (now (a .s)) in
     let q = a .at + 5 in
     rw (c .word-refused2 .ensures)
-    (refused-tells bs 4 _
+    (refused-tells bs Fault.NotAllowed _
     (text-bad bs q (a .n) (omega (arith, l, h .there, c .before .before .before .if1 .left)) (text-not bs q (a .n) (a .x) (b .pre .2) (h .bits) (sym (c .before .before .is-spelt .ensures) ∙ c .before .if2 .left))
     ∙ begun-word bs (a .at) (a .n) (a .x) h))
 

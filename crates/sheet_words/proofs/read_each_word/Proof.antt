@@ -103,16 +103,16 @@ loop-again c =
 is-bad-requires : tie.Need-is-bad-requires Inv-loop μ-loop
 is-bad-requires c κs = search needs
 
-cast-t12 : tie.Need-cast-t12 Inv-loop μ-loop
-cast-t12 c =
+cast-t14 : tie.Need-cast-t14 Inv-loop μ-loop
+cast-t14 c =
     let b = c .before .before .before .before .before .before in
     let a = b .args in
     let bs = bitsOf (now (a .s)) in
     let i = c .before .before .before .loop in
     record { fits = class-few bs (a .n) (i .inv .0) (i .last) (i .t) (i .inv .2) (omega (arith, i .inv .1)) (b .pre .1) }
 
-cast-t13 : tie.Need-cast-t13 Inv-loop μ-loop
-cast-t13 c =
+cast-t15 : tie.Need-cast-t15 Inv-loop μ-loop
+cast-t15 c =
     let b = c .before .before .before .before .before .before .before in
     let a = b .args in
     let bs = bitsOf (now (a .s)) in
@@ -150,6 +150,6 @@ read-each-word-spec =
     loop-less
     loop-again
     is-bad-requires
-    cast-t12
-    cast-t13
+    cast-t14
+    cast-t15
     returns-2)

@@ -5,6 +5,7 @@ use Prim.Native.Nat.{_+_, _*_}
 use denote.Ref.{now}
 use lib.ListN.{drop}
 use Rattle.definitions.specs.Bits.{bitsOf}
+use Rattle.fields.specs.declared.Fault.{Fault}
 use Rattle.sheet_words.specs.WordLaws.{short-value, head-shift, text-last, text-good, text-bad, tells-as, refused-tells, begun-word}
 use borrow.Author.Needs.{needs}
 use Rattle.sheet_words.proofs.short_word.Statement.{statement}
@@ -31,13 +32,13 @@ is-spelt-requires c κs =
     let B = drop (a .at + 5) (bitsOf (now (a .s))) in
     (few, rw (short-value (a .n) (a .x) B few (h .bits)) (num-lt (8 * a .n) B))
 
-add-t10 : tie.Need-add-t10
-add-t10 c =
+add-t11 : tie.Need-add-t11
+add-t11 c =
     let b = c .before .before .before in
     record { fits = omega (arith, b .pre .0, b .pre .1 .there, length-bitsOf (now (b .args .s))) }
 
-shl-t12 : tie.Need-shl-t12
-shl-t12 c = search needs
+shl-t13 : tie.Need-shl-t13
+shl-t13 c = search needs
 
 returns : tie.Need-returns
 returns c =
@@ -63,7 +64,7 @@ returns-2 c =
     let q = a .at + 5 in
     let e = short-value (a .n) (a .x) (drop q bs) few (h .bits) in
     rw (c .word-refused .ensures)
-    (refused-tells bs 4 _
+    (refused-tells bs Fault.NotAllowed _
     (text-bad bs q (a .n) (omega (arith, h .there, few)) (sym (text-last bs q (a .n) _ e) ∙ sym (c .before .before .is-spelt .ensures) ∙ c .before .if1 .left)
     ∙ begun-word bs (a .at) (a .n) (a .x) h))
 
@@ -75,8 +76,8 @@ short-word-spec =
     sub-k
     shr-v
     is-spelt-requires
-    add-t10
-    shl-t12
+    add-t11
+    shl-t13
     returns
     word-refused-requires
     returns-2)
