@@ -1,1 +1,3 @@
+pub mod Within
 pub mod WithinLaws
+pub mod PlainLaws

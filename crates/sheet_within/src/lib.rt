@@ -9,7 +9,11 @@ ghost use Rattle.repeats.specs.Repeats.{repeatsIn};
 ghost use Rattle.sheet_notes.specs.Notes.{notes};
 ghost use Rattle.sheet_draft.specs.Draft.{notesOf};
 ghost use Rattle.sheet_types.specs.Rows.{isDone};
+ghost use Rattle.lists.specs.Lists.{any, repeats};
+ghost use lib.Dec.{eqb};
+ghost use Rattle.sheet_within.specs.Within.{wordsIn, PlainNames, PlainNotes};
 
+// The annotations by value: for whatever the tests below leave open.
 fn is_repeating_by_value(s: &[u8], at: usize, limit: usize, single: bool) -> bool
     requires { ⌜ (length (now s) ≤ 40960) × (limit ≤ 255) × (isDone (notes limit single (drop at (bitsOf (now s)))) ≡ true) ⌝ }
     ensures { λ r. ⌜ r ≡ repeatsIn (notesOf (notes limit single (drop at (bitsOf (now (s .entry))))) .annotations) ⌝ }
@@ -21,13 +25,87 @@ fn is_repeating_by_value(s: &[u8], at: usize, limit: usize, single: bool) -> boo
     repeats::is_repeating(x)
 }
 
-// Whether the annotations at a place repeat something. Most types have none: 4 bits of 0.
+// Whether w is the first word of one of the n names, from a place on.
+fn has_word_from(k: &[u64; 15], w: u64, from: usize, n: usize) -> bool
+    requires { ⌜ n ≤ 15 ⌝ }
+    ensures { λ r. ⌜ r ≡ any (eqb w) (drop from (wordsIn (now (k .entry)) n)) ⌝ }
+{
+    let mut j = from;
+    while j < n {
+        if w == k[j] / 256 {
+            return true;
+        }
+        j += 1;
+    }
+    false
+}
+
+// Whether two of n names have one first word.
+fn has_word_twice(k: &[u64; 15], n: usize) -> bool
+    requires { ⌜ n ≤ 15 ⌝ }
+    ensures { λ r. ⌜ r ≡ repeats eqb (wordsIn (now (k .entry)) n) ⌝ }
+{
+    let mut i: usize = 0;
+    while i < n {
+        if has_word_from(k, k[i] / 256, i + 1, n) {
+            return true;
+        }
+        i += 1;
+    }
+    false
+}
+
+fn blank() -> [u64; 15]
+    ensures { λ r. ⌜ length r ≡ 15 ⌝ }
+{
+    [0; 15]
+}
+
+// Whether n names at a place are there and have first words that differ.
+fn is_plain_list(s: &[u8], at: usize, limit: usize, n: usize) -> bool
+    requires { ⌜ (length (now s) ≤ 40960) × (limit ≤ 255) × (n ≤ 15) ⌝ }
+    ensures { λ r. ⌜ PlainNames limit (bitsOf (now (s .entry))) at n r ⌝ }
+{
+    if n < 2 {
+        return true;
+    }
+    let mut k = blank();
+    let r = sheet_keys::read_each_key(s, Cursor { at }, limit, n, &mut k, 0);
+    if !r.ok {
+        return false;
+    }
+    !has_word_twice(&k, r.count)
+}
+
+// Whether there is no annotation at a place, or one that repeats no word: what most types have.
+fn is_plain_in(s: &[u8], at: usize, limit: usize) -> bool
+    requires { ⌜ (length (now s) ≤ 40960) × (limit ≤ 255) × (at / 8 + 4 ≤ length (now s)) ⌝ }
+    ensures { λ r. ⌜ PlainNotes limit (bitsOf (now (s .entry))) at r ⌝ }
+{
+    let w = sheet_window::window(s, at, 11);
+    if w < 128 {
+        return true;
+    }
+    if 256 <= w {
+        return false;
+    }
+    let kind = w / 16 % 8;
+    if kind == 1 {
+        return is_plain_list(s, at + 11, limit, w % 16);
+    }
+    if kind == 2 {
+        return is_plain_list(s, at + 11, limit, w % 16);
+    }
+    true
+}
+
+// Whether the annotations at a place repeat something.
 pub fn is_repeating_at(s: &[u8], at: usize, limit: usize, single: bool) -> bool
     requires { ⌜ (length (now s) ≤ 40960) × (limit ≤ 255) × (isDone (notes limit single (drop at (bitsOf (now s)))) ≡ true) ⌝ }
     ensures { λ r. ⌜ r ≡ repeatsIn (notesOf (notes limit single (drop at (bitsOf (now (s .entry))))) .annotations) ⌝ }
 {
     if at / 8 + 4 <= s.len() {
-        if sheet_window::window(s, at, 4) == 0 {
+        if is_plain_in(s, at, limit) {
             return false;
         }
     }
