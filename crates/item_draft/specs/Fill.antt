@@ -19,7 +19,7 @@ use Rattle.ordering.specs.Lists.{elem, below}
 use Rattle.ordering.specs.Reading.{typeAt}
 use Rattle.law_classes.specs.Refusal.{lostClass, ownTwice}
 use Rattle.sheet_notes.specs.Notes.{notes}
-use Rattle.sheet_draft.specs.Draft.{keyAt, headAt, placeAt, typeIn, typesIn}
+use Rattle.sheet_draft.specs.Draft.{keyAt, placeAt, typeIn, typesIn}
 use Rattle.sheet_draft.specs.Drafted.{Drafted, Entered}
 use Rattle.item_spread.specs.Spread.{Ordered}
 use Rattle.catalogue.specs.Layout as layout
@@ -41,7 +41,6 @@ pub record Drawn (s : Sheet) (bs : List Bool) (d entries : List ℕ) (n : ℕ) :
   pub drafted : Drafted s bs d n
   pub entered : Entered d entries n
   pub sorted : map (λ e. typeIn (length (s .words)) bs d (e % 64)) (take n entries) ≡ sort byName (typesIn (length (s .words)) bs d n)
-  pub heads : (i : ℕ) → i < n → headAt d i < 256
   pub read : (i : ℕ) → i < n → DoneAt (notes (length (s .words)) (eqb (keyAt d i % 256) 0)) bs (placeAt d i)
   pub within : Within s
   pub readable : Readable s

@@ -42,7 +42,7 @@ use Rattle.item_classes.specs.declared.Classes.{Classes}
 use Rattle.item_entries.specs.Entries.{rowIn, firstsOf, secondsOf}
 use Rattle.item_sets.specs.Sets.{parentSets, aboveSets, SpreadPut, NumbersPut, typesWith, RecordKeysFit, ExtendedIs}
 use Rattle.item_sets.specs.SetsLaws.{part-at}
-use Rattle.item_draft.specs.Parts.{HeadsPut, NotesReady, ownSets, givenSets, lostAt, NotesPut}
+use Rattle.item_draft.specs.Parts.{HeadOf, HeadsPut, NotesReady, ownSets, givenSets, lostAt, NotesPut}
 use Rattle.item_draft.specs.Fill.{recordIn, Stands, Fillable, Fills}
 use Rattle.item_draft.specs.Rows as rows
 use Rattle.item_draft.specs.Records as extensions
@@ -244,8 +244,8 @@ module _ (bs : List Bool) (d entries order : List ℕ) (k : Known) (t0 t1 t2 t3 
     width-is : widthIn t2 ≡ W
     width-is = st .numbers .width ∙ hs .wide
 
-    head-is : (a : ℕ) → a < n → headAt t4 a ≡ draft.headAt d (rowIn entries a)
-    head-is a h = head-stays (64 + a) (omega (arith, few)) ∙ st .heads .at a (omega (arith, count-is))
+    head-is : (a : ℕ) → a < n → HeadOf (draft.headAt d (rowIn entries a)) (headAt t4 a)
+    head-is a h = subst (HeadOf (draft.headAt d (rowIn entries a))) (sym (head-stays (64 + a) (omega (arith, few)))) (st .heads .at a (omega (arith, count-is)))
 
     resources-are-in : resourcesIn t4 ≡ resources
     resources-are-in = number-stays 1541 (omega arith) ∙ st .numbers .resources
@@ -272,10 +272,10 @@ module _ (bs : List Bool) (d entries order : List ℕ) (k : Known) (t0 t1 t2 t3 
         record {
           key = key-small s (firstsOf entries) (secondsOf entries) t4 nm names-in a h;
           name = key-name s (firstsOf entries) (secondsOf entries) t4 nm names-in a h;
-          head = subst (λ x. x < 256) (sym eh) (hs .drawn .heads (rowIn entries a) (rows.row-below s bs d entries (k .count) (hs .drawn) a l));
-          isResource = ap (λ (x : ℕ). eqb (x / 64) 1) eh ∙ variant-is (draft.headAt d (rowIn entries a) / 64) ∙ sym (ap (λ (D : LineType). isResourceVariant (D .variant)) T);
-          isVirtual = ap (λ (x : ℕ). eqb (x / 32 % 2) 1) eh ∙ sym (ap (λ (D : LineType). D .virtual) T);
-          isTrait = ap (λ (x : ℕ). eqb (x / 16 % 2) 1) eh ∙ sym (ap (λ (D : LineType). D .trait) T);
+          head = eh .small;
+          isResource = eh .resource ∙ variant-is (draft.headAt d (rowIn entries a) / 64) ∙ sym (ap (λ (D : LineType). isResourceVariant (D .variant)) T);
+          isVirtual = ap (λ (x : ℕ). eqb x 1) (eh .virtual) ∙ sym (ap (λ (D : LineType). D .virtual) T);
+          isTrait = ap (λ (x : ℕ). eqb x 1) (eh .trait) ∙ sym (ap (λ (D : LineType). D .trait) T);
           markCount = ap (λ (x : ℕ). x % 8) et ∙ y .count ∙ sym (ap (λ (D : LineType). length (D .marks)) T);
           markBits =
               ap₂ (λ (x z : ℕ). Rattle.definitions.specs.Bits.toBits (x / 8) z) et em

@@ -19,7 +19,7 @@ use Rattle.definitions.specs.Checks.{resourceBytes, selfBytes, badWords, namesT
 use Rattle.line_laws.specs.Within.{WordsWithin, ResourceWithin, AnnotationWithin, TypeWithin, Within}
 use Rattle.sheet_keys.specs.Keys.{nameOfKey, namesFrom}
 use Rattle.sheet_notes.specs.Notes.{notes}
-use Rattle.sheet_draft.specs.Draft.{headAt, placeAt, keyAt, notesAt, typeIn, typesIn}
+use Rattle.sheet_draft.specs.Draft.{placeAt, keyAt, notesAt, typeIn, typesIn}
 use Rattle.sheet_draft.specs.Drafted.{entryBefore, entriesOf}
 use Rattle.item_notes.specs.Notes.{DoneAt}
 use Rattle.item_draft.specs.Fill.{byName, Drawn}
@@ -143,11 +143,6 @@ notes-read zero h = pair-read
 notes-read (suc zero) h = single-read
 notes-read (suc (suc i)) h = absurd (omega arith)
 
-heads-small : (i : ℕ) → i < 2 → headAt smallDraft i < 256
-heads-small zero h = omega arith
-heads-small (suc zero) h = omega arith
-heads-small (suc (suc i)) h = absurd (omega arith)
-
 rows-sorted : map (λ e. typeIn 2 smallBits smallDraft (e % 64)) (take 2 smallEntries) ≡ sort byName (typesIn 2 smallBits smallDraft 2)
 unfolding typesIn typeIn tabulate sort insert nameBefore notesAt notes nameOfKey namesFrom bitsOf toBits odd counted allowed repeatOnto fieldOnto annotation kinds associatedList associated wordField wordIfFlag mark
 rows-sorted = refl
@@ -157,7 +152,6 @@ small-drawn = record {
   drafted = record { few = omega arith; long = refl; types = types-drafted };
   entered = record { long = refl; sorted = entries-sorted };
   sorted = rows-sorted;
-  heads = heads-small;
   read = notes-read;
   within = small-within;
   readable = record { words = words-good; once = once-good };

@@ -2,9 +2,9 @@
 use mathlib.Core.Bool.{Bool, false, _&&_, _||_}
 use mathlib.Core.List.{List, [], _∷_, map}
 use mathlib.Core.Path.{_≡_, refl, sym, ap, ap₂, _∙_, subst}
-use Prim.Native.Nat.{ℕ, _+_, _/_, _%_, _<_}
+use Prim.Native.Nat.{ℕ, _+_, _*_, _/_, _%_, _≤_, _<_}
 use native.Mathlib.Omega.{arith}
-use borrow.Author.Tests.{eqb-true, eqb-false, le-ltb}
+use borrow.Author.Tests.{ne-eqb, eqb-true, eqb-false, le-ltb}
 use lib.Dec.{eqb}
 use lib.ListN.{length, getD, set, length-set}
 use lib.Seq.{getD-set-same, getD-set-other}
@@ -29,26 +29,44 @@ use Rattle.item_classes.specs.Classes.{classBy, classIn, meets, lost, Gathers}
 use Rattle.item_entries.specs.Entries.{rowIn}
 use Rattle.item_notes.specs.Notes.{DoneAt, NotesAt, NotesGathered}
 use Rattle.item_notes.specs.declared.Noted.{Noted}
-use Rattle.item_draft.specs.Parts.{HeadsPut, KeptNotes, NotePut, NotesReady, ownSets, givenSets, lostAt, NotesPut}
+use Rattle.item_draft.specs.Parts.{HeadOf, HeadsPut, KeptNotes, NotePut, NotesReady, ownSets, givenSets, lostAt, NotesPut}
 
 -- ---- heads
+
+pub head-same : (h : ℕ) → h < 256 → HeadOf h h
+head-same h l = record { small = l; resource = refl; virtual = refl; trait = refl }
+
+pub head-past : (h : ℕ) → 256 ≤ h → HeadOf h (128 + h % 64)
+head-past h l =
+    let r = 128 + h % 64 in
+    let a : r / 64 ≡ 2 = omega arith in
+    let b : r / 32 ≡ 4 + h % 64 / 32 = omega arith in
+    let c : h / 32 ≡ 2 * (h / 64) + h % 64 / 32 = omega arith in
+    let e : r / 16 ≡ 8 + h % 64 / 16 = omega arith in
+    let f : h / 16 ≡ 4 * (h / 64) + h % 64 / 16 = omega arith in
+    record {
+      small = omega arith;
+      resource = ap (λ (x : ℕ). eqb x 1) a ∙ sym (ne-eqb (h / 64) 1 (λ q. absurd (omega arith)));
+      virtual = omega (arith, b, c);
+      trait = omega (arith, e, f);
+    }
 
 module _ (d entries : List ℕ) where
   pub heads-none : (t : List ℕ) → HeadsPut d entries 0 t t 0
   heads-none t = record { at = λ a h. absurd (omega arith); resources = λ b. bit-none b ∙ sym (rw (le-ltb b 0 (omega arith))); kept = kept-none 64 128 t }
 
-  pub heads-more : (n : ℕ) (old t : List ℕ) (r q x : ℕ) → n < 64 → length old ≡ 1544 → x ≡ draft.headAt d (rowIn entries n) → {new : List ℕ} → new ≡ set t (64 + n) x
+  pub heads-more : (n : ℕ) (old t : List ℕ) (r q x : ℕ) → n < 64 → length old ≡ 1544 → HeadOf (draft.headAt d (rowIn entries n)) x → {new : List ℕ} → new ≡ set t (64 + n) x
       → WithResource r n (x / 64) q → HeadsPut d entries n old t r → HeadsPut d entries (n + 1) old new q
   heads-more n old t r q x h l e f w p =
       rw f
       record {
         at = λ a b.
             by (eqb a n)
-            (λ z. let y = eqb-true a n z in rw y (getD-set-same t (64 + n) x 0 (omega (arith, p .kept .long)) ∙ e))
-            (λ z. let y = eqb-false a n z in getD-set-other t (64 + n) (64 + a) x 0 (λ k. y (omega arith)) ∙ p .at a (omega (arith, y)));
+            (λ z. let y = eqb-true a n z in rw (y, getD-set-same t (64 + n) x 0 (omega (arith, p .kept .long))) e)
+            (λ z. let y = eqb-false a n z in rw (getD-set-other t (64 + n) (64 + a) x 0 (λ k. y (omega arith))) (p .at a (omega (arith, y))));
         resources = λ b.
             w .bits b
-            ∙ ap₂ (λ (c : Bool) (v : ℕ). c || (eqb n b && eqb (v / 64) 1)) (p .resources b) e
+            ∙ ap₂ (λ (c v : Bool). c || (eqb n b && v)) (p .resources b) (e .resource)
             ∙ names.one-more (λ i. eqb (draft.headAt d (rowIn entries i) / 64) 1) n b;
         kept = kept-more 64 128 64 128 old t (set t (64 + n) x) (p .kept) (kept-set 64 128 t (64 + n) x (omega arith) (omega arith)) (omega arith) (omega arith);
       }

@@ -20,9 +20,16 @@ use Rattle.item_classes.specs.Classes.{classIn, meets, lost}
 use Rattle.item_entries.specs.Entries.{rowIn}
 use Rattle.item_notes.specs.Notes.{DoneAt}
 
+-- A head in 8 bits that says the same of a type (FORMAT 2.6).
+pub record HeadOf (h r : ℕ) : Type 0 where
+  pub small : r < 256
+  pub resource : eqb (r / 64) 1 ≡ eqb (h / 64) 1
+  pub virtual : r / 32 % 2 ≡ h / 32 % 2
+  pub trait : r / 16 % 2 ≡ h / 16 % 2
+
 -- The heads of the first n types stand in the table; r has the resources among them (FORMAT 2.6).
 pub record HeadsPut (d entries : List ℕ) (n : ℕ) (old new : List ℕ) (r : ℕ) : Type 0 where
-  pub at : (a : ℕ) → a < n → headAt new a ≡ draft.headAt d (rowIn entries a)
+  pub at : (a : ℕ) → a < n → HeadOf (draft.headAt d (rowIn entries a)) (headAt new a)
   pub resources : (b : ℕ) → hasBit r b ≡ (ltb b n && eqb (draft.headAt d (rowIn entries b) / 64) 1)
   pub kept : KeptOutside 64 128 old new
 

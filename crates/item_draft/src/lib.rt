@@ -5,7 +5,7 @@ ghost use mathlib.Core.Path.{_≡_};
 ghost use Prim.Native.Nat.{_≤_, _<_};
 ghost use lib.ListN.{length};
 ghost use Rattle.definitions.specs.Bits.{bitsOf};
-ghost use Rattle.item_draft.specs.Parts.{HeadsPut, NotePut, NotesReady, NotesPut};
+ghost use Rattle.item_draft.specs.Parts.{HeadOf, HeadsPut, NotePut, NotesReady, NotesPut};
 ghost use Rattle.item_draft.specs.Fill.{Fillable, Fills};
 
 // What is known besides: how many types, last words and extension records there are, the number of the word `resource`, the
@@ -19,6 +19,16 @@ pub struct Known {
     pub width: usize,
 }
 
+// A head in 8 bits. The decoder puts no other into the draft; of larger numbers the variant is that past the last.
+fn head_in_bits(h: u64) -> u64
+    ensures { λ r. ⌜ HeadOf h r ⌝ }
+{
+    if h < 256 {
+        return h;
+    }
+    128 + h % 64
+}
+
 // The head of each type. The answer has the types of the resource variant.
 fn put_heads(t: &mut [u64; 1544], d: &[u64; 704], entries: &[u64; 64], count: usize) -> u64
     requires { ⌜ (length (now t) ≡ 1544) × (count ≤ 64) ⌝ }
@@ -28,7 +38,7 @@ fn put_heads(t: &mut [u64; 1544], d: &[u64; 704], entries: &[u64; 64], count: us
     let mut a: usize = 0;
     while a < count {
         let row = (entries[a] % 64) as usize;
-        let head = sheet_draft::head_at(d, row);
+        let head = head_in_bits(sheet_draft::head_at(d, row));
         catalogue::put_head(t, a, head);
         resources = item_heads::with_resource(resources, a, (head / 64) as usize);
         a += 1;

@@ -3,7 +3,20 @@ ghost use mathlib.Core.Path.{_≡_};
 ghost use Prim.Native.Nat.{_≤_};
 ghost use lib.ListN.{length};
 ghost use Rattle.item_names.specs.Names.{KeysPut, SetsPut, NoSets, NamesPut};
-ghost use Rattle.item_entries.specs.Entries.{firstsOf, secondsOf, KeysFit};
+ghost use Rattle.item_entries.specs.Entries.{firstsOf, secondsOf, KeysFit, SetsCleared};
+
+// No type stands in the sets of the words.
+fn clear_sets(t: &mut [u64; 1544])
+    requires { ⌜ length (now t) ≡ 1544 ⌝ }
+    ensures { λ _. ⌜ SetsCleared 256 (now (t .entry)) (now (t .exit)) ⌝ }
+{
+    let mut w: usize = 0;
+    while w < 256 {
+        catalogue::put_first(t, w, 0);
+        catalogue::put_second(t, w, 0);
+        w += 1;
+    }
+}
 
 // The key of each type's name.
 fn put_keys(t: &mut [u64; 1544], entries: &[u64; 64], count: usize)
@@ -32,13 +45,14 @@ fn put_sets(t: &mut [u64; 1544], entries: &[u64; 64], count: usize)
     }
 }
 
-// All that the catalogue has of the names. The sets of words were empty. The answer says how many words are the last of a name.
+// All that the catalogue has of the names, whatever stood in it before. The answer says how many words are the last of a name.
 pub fn put_names(t: &mut [u64; 1544], entries: &[u64; 64], count: usize, width: usize) -> usize
-    requires { ⌜ NoSets (now t) ⌝ }
+    requires { ⌜ length (now t) ≡ 1544 ⌝ }
     requires { ⌜ KeysFit (now entries) count ⌝ }
     requires { ⌜ width ≤ 200 ⌝ }
     ensures { λ r. ⌜ NamesPut (firstsOf (now (entries .entry))) (secondsOf (now (entries .entry))) count width (now (t .entry)) (now (t .exit)) r ⌝ }
 {
+    clear_sets(t);
     put_keys(t, entries, count);
     put_sets(t, entries, count);
     item_names::put_owners(t, count);
