@@ -1,11 +1,10 @@
 -- The rounds over sets of parents: what each function of them answers.
-use mathlib.Core.Bool.{Bool, true, false, _&&_, not}
+use mathlib.Core.Bool.{Bool, true, false, _&&_, _||_}
 use mathlib.Core.List.{List, _++_}
 use mathlib.Core.Path.{_≡_}
 use Prim.Native.Nat.{ℕ, _+_, _^_, _≤_, _<_}
-use lib.Bits.{bitAnd}
 use lib.Dec.{eqb, ltb}
-use lib.ListN.{length, take}
+use lib.ListN.{length, getD, take}
 use Rattle.lists.specs.Lists.{any, all}
 use Rattle.rows.specs.Rows.{hasBit}
 use Rattle.bitsets.specs.Bitsets.{members}
@@ -19,21 +18,29 @@ use Rattle.catalogue.specs.Layout.{parentsAt}
 unfoldable pub allIn : ℕ → List ℕ → Bool
 allIn parents out = all (λ b. elem b out) (members parents)
 
--- A type is ready that was not before the last round: one of its parents was placed in it, and all are placed (FORMAT 3.4).
-unfoldable pub readyOf : ℕ → List ℕ → ℕ → Bool
-readyOf last out parents = not (eqb (bitAnd parents last) 0) && allIn parents out
-
 -- Each type of a set is in the list.
 pub record AllPlaced (types : ℕ) (out : List ℕ) : Type 0 where
   pub there : (b : ℕ) → hasBit types b ≡ true → elem b out ≡ true
 
--- The types without parents.
-pub record Parentless (t : List ℕ) (count r : ℕ) : Type 0 where
-  pub bits : (a : ℕ) → hasBit r a ≡ (ltb a count && eqb (parentsAt t a) 0)
+-- Those of the types whose parents are all placed (FORMAT 3.4).
+pub record ReadyIn (t : List ℕ) (types : ℕ) (out : List ℕ) (r : ℕ) : Type 0 where
+  pub bits : (a : ℕ) → hasBit r a ≡ (hasBit types a && allIn (parentsAt t a) out)
 
--- Those of the waiting types that are ready.
-pub record ReadyIn (t : List ℕ) (waiting last : ℕ) (out : List ℕ) (r : ℕ) : Type 0 where
-  pub bits : (a : ℕ) → hasBit r a ≡ (hasBit waiting a && readyOf last out (parentsAt t a))
+-- A child more of each type of a set.
+pub record ChildAdded (old new : List ℕ) (parents a : ℕ) : Type 0 where
+  pub long : length new ≡ length old
+  pub bits : (b c : ℕ) → b < 64 → hasBit (getD new b 0) c ≡ (hasBit (getD old b 0) c || (hasBit parents b && eqb a c))
+
+-- No type has a child yet.
+pub record Childless (children : List ℕ) : Type 0 where
+  pub long : length children ≡ 64
+  pub none : (b : ℕ) → b < 64 → _≡_ {A = ℕ} (getD children b 0) 0
+
+-- The children of the first n types stand in the list; r has those without parents.
+pub record ChildrenPut (t : List ℕ) (n : ℕ) (children : List ℕ) (r : ℕ) : Type 0 where
+  pub long : length children ≡ 64
+  pub bits : (b c : ℕ) → b < 64 → hasBit (getD children b 0) c ≡ (ltb c n && hasBit (parentsAt t c) b)
+  pub free : (a : ℕ) → hasBit r a ≡ (ltb a n && eqb (parentsAt t a) 0)
 
 -- The types of a set stand behind the first n.
 pub record Appended (old new : List ℕ) (n types r : ℕ) : Type 0 where

@@ -5,22 +5,23 @@ use mathlib.Core.Path.{_≡_, refl, sym, ap, ap₂, _∙_, subst}
 use Prim.Native.Nat.{ℕ, zero, suc, _+_, _^_, _≤_, _<_, min}
 use native.Mathlib.Omega.{arith}
 use borrow.Author.Tests.{eq-eqb, ne-eqb, eqb-true, eqb-false, ltb-true, ltb-false, lt-ltb, le-ltb, not-true}
-use lib.Bits.{bitAnd}
+use lib.Bits.{bitAnd, and-le-l}
 use lib.Dec.{eqb, ltb}
 use lib.ListN.{length, getD, take, length-append}
 use Rattle.lists.specs.Lists.{In, any, all}
-use Rattle.lists.specs.Tests.{by, never, same-test, not-so, and-left, and-right, and-both, or-elim, or-left, or-right, any-in, any-of, any-not, all-in, all-of}
+use Rattle.lists.specs.Tests.{by, never, same-test, not-so, and-left, and-right, and-both, or-elim, or-left, or-right, any-in, any-of, any-not, any-none, all-in, all-of}
 use Rattle.lists.specs.Appending.{any-append}
 use Rattle.rows.specs.Rows.{hasBit}
 use Rattle.rows.specs.RowLaws.{bit-none}
 use Rattle.bitsets.specs.Bitsets.{members, less, firstBits}
-use Rattle.bitsets.specs.BitLaws.{bit-both, bit-less, bit-first, bit-past, some-bit, in-members, members-of, members-none, members-below}
+use Rattle.bitsets.specs.BitLaws.{bit-both, bit-less, bit-first, bit-past, some-bit, below-of, in-below, in-members, members-of, members-none, members-below}
 use Rattle.ordering.specs.Lists.{elem, elem-left, elem-right, elem-cases, any-tab-out, below, below-is, below-same}
 use Rattle.ordering.specs.Reading.{Parent, listed, selfIn}
 use Rattle.ordering.specs.Rounds.{settled, isReady, free, next, round, placed, final, listsSelf, count-most, rests, next-is}
 use Rattle.ordering.specs.declared.Parents.{Parents}
+use Rattle.item_spread.specs.Spread.{United}
 use Rattle.catalogue.specs.Layout.{parentsAt}
-use Rattle.order_rounds.specs.Rounds.{allIn, readyOf, AllPlaced, Parentless, ReadyIn, Appended, SetsFor}
+use Rattle.order_rounds.specs.Rounds.{allIn, AllPlaced, ReadyIn, ChildrenPut, Appended, SetsFor}
 
 -- a set with a number in it has a member
 pub some-member : (x : ℕ) → x < 2 ^ 64 → (x ≡ 0 → ⊥) → 0 < length (members x)
@@ -32,6 +33,14 @@ some-member x h e =
     longer : {y : ℕ} (l : List ℕ) → In y l → 0 < length l
     longer [] i = absurd (List·Memᴰ·not-nil i)
     longer (z ∷ l) i = omega arith
+
+-- a number of it
+some-of : (x : ℕ) → x < 2 ^ 64 → (x ≡ 0 → ⊥) → (b : ℕ) × (b < 64) × (hasBit x b ≡ true)
+unfolding hasBit
+some-of x h e = let b = some-bit 64 x h e in (b .0, b .1, eq-eqb _ _ (b .2))
+
+and-small : (x y : ℕ) → x < 2 ^ 64 → bitAnd x y < 2 ^ 64
+and-small x y h = omega (arith, and-le-l x y)
 
 -- the types of a set that was appended are placed
 pub appended-placed : (old new : List ℕ) (n types r : ℕ) → types < 2 ^ 64 → Appended old new n types r → AllPlaced types (take r new)
@@ -88,13 +97,13 @@ module _ (p : Parents) (t : List ℕ) (n : ℕ) where
         some-fails [] q = absurd (omega arith)
         some-fails (y ∷ l) q = refl
 
-    pub stage-none : (order : List ℕ) (r w : ℕ) → Parentless t n r → w ≡ firstBits n → Stage 0 0 order r w
+    pub stage-none : (order children : List ℕ) (r w : ℕ) → ChildrenPut t n children r → w ≡ firstBits n → Stage 0 0 order r w
     unfolding placed free
-    stage-none order r w q e = record {
+    stage-none order children r w q e = record {
       many = refl;
       taken = none-taken order;
       frees = λ a.
-          q .bits a
+          q .free a
           ∙ by (ltb a n)
           (λ l.
           let h = ltb-true a n l in
@@ -179,11 +188,36 @@ module _ (p : Parents) (t : List ℕ) (n : ℕ) where
     waits-more true e f = refl
     waits-more false e f = refl
 
-    kept-apart : (l e z r : Bool) → (e ≡ true → r ≡ true → z ≡ false) → ((l && e) && (not z && r)) ≡ (l && (e && r))
+    kept-apart : (l e z r : Bool) → (e ≡ true → r ≡ true → z ≡ false) → (((l && e) && (l && not z)) && r) ≡ (l && (e && r))
     kept-apart false e z r h = refl
     kept-apart true false z r h = refl
     kept-apart true true z true h = rw (h refl refl)
     kept-apart true true z false h = and-false (not z)
+
+    -- the children of the last round are the types that have a parent in it
+    near-is : (children : List ℕ) (c ready x : ℕ) → ChildrenPut t n children c → United ready children x → (a : ℕ) → hasBit x a ≡ (ltb a n && not (eqb (bitAnd (parentsAt t a) ready) 0))
+    near-is children c ready x p u a =
+        u .bits a
+        ∙ by (ltb a n)
+        (λ l.
+        let h = ltb-true a n l in
+        rw l
+        (same-test
+        (λ e.
+        let q = any-of (λ b. hasBit (getD children b 0) a) (below (hasBit ready) 64) e in
+        let m = below-of (hasBit ready) 64 (q .1) in
+        let w : hasBit (parentsAt t a) (q .0) ≡ true = sym (ap (λ (d : Bool). d && hasBit (parentsAt t a) (q .0)) l) ∙ sym (p .bits (q .0) a (m .0)) ∙ q .2 in
+        ap not (not-so (λ z. never (bit-both (parentsAt t a) ready (q .0) ∙ rw (w, m .1)) (ap (λ (y : ℕ). hasBit y (q .0)) (eqb-true _ _ z) ∙ bit-none (q .0)))))
+        (λ e.
+        let z = eqb-false (bitAnd (parentsAt t a) ready) 0 (not-true _ e) in
+        let b = some-of (bitAnd (parentsAt t a) ready) (and-small (parentsAt t a) ready (s .most a h)) z in
+        let w = sym (bit-both (parentsAt t a) ready (b .0)) ∙ b .2 in
+        any-in (λ d. hasBit (getD children d 0) a) (in-below (hasBit ready) 64 (b .1) (and-right (hasBit (parentsAt t a) (b .0)) (hasBit ready (b .0)) w))
+        (p .bits (b .0) a (b .1) ∙ rw (l, and-left (hasBit (parentsAt t a) (b .0)) (hasBit ready (b .0)) w)))))
+        (λ l.
+        rw l
+        (any-none (λ b. hasBit (getD children b 0) a) (below (hasBit ready) 64)
+        (λ b i. p .bits b a (below-of (hasBit ready) 64 i .0) ∙ ap (λ (d : Bool). d && hasBit (parentsAt t a) b) l)))
 
     placed-more : (k : ℕ) → placed p k ++ next p (placed p k) ≡ placed p (suc k)
     unfolding placed round
@@ -193,10 +227,9 @@ module _ (p : Parents) (t : List ℕ) (n : ℕ) where
     unfolding free
     free-as k a h = ap (λ (b : Bool). not (elem a (placed p (suc k))) && b) (sym (ready-is a h (placed p (suc k))))
 
-    pub stage-more : (k size more : ℕ) (order new : List ℕ) (ready waiting left r : ℕ) → Stage k size order ready waiting → Appended order new size ready more
-        → left ≡ less waiting ready → ReadyIn t left ready (take more new) r → Stage (suc k) more new r left
-    unfolding readyOf
-    stage-more k size more order new ready waiting left r g o e q =
+    pub stage-more : (k size more : ℕ) (order new : List ℕ) (children : List ℕ) (c ready waiting left near r : ℕ) → Stage k size order ready waiting → Appended order new size ready more
+        → left ≡ less waiting ready → ChildrenPut t n children c → United ready children near → ReadyIn t (bitAnd left near) (take more new) r → Stage (suc k) more new r left
+    stage-more k size more order new children c ready waiting left near r g o e v u q =
         let m = next-members k size order ready waiting g in
         let taken : take more new ≡ placed p (suc k) = o .taken ∙ ap₂ (λ (x y : List ℕ). x ++ y) (g .taken) m ∙ placed-more k in
         let waits : (a : ℕ) → hasBit left a ≡ (ltb a n && not (elem a (placed p (suc k)))) =
@@ -214,7 +247,7 @@ module _ (p : Parents) (t : List ℕ) (n : ℕ) where
           waits = waits;
           frees = λ a.
               q .bits a
-              ∙ ap₂ (λ (x : Bool) (y : List ℕ). x && (not (eqb (bitAnd (parentsAt t a) ready) 0) && allIn (parentsAt t a) y)) (waits a) taken
+              ∙ ap₂ (λ (x : Bool) (y : List ℕ). x && allIn (parentsAt t a) y) (bit-both left near a ∙ ap₂ (λ (x y : Bool). x && y) (waits a) (near-is children c ready near v u a)) taken
               ∙ by (ltb a n)
               (λ l.
               let h = ltb-true a n l in

@@ -1,5 +1,5 @@
 -- The steps of the loops.
-use mathlib.Core.Bool.{Bool, true, false, _&&_, _||_, not, or-false, or-true, and-false}
+use mathlib.Core.Bool.{Bool, true, false, _&&_, _||_, not, or-false, or-true, and-true, and-false}
 use mathlib.Core.List.{List, [], _∷_, _++_, append-nil, append-assoc}
 use mathlib.Core.Path.{_≡_, refl, sym, ap, ap₂, _∙_}
 use Prim.Native.Nat.{ℕ, zero, suc, _+_, _-_, _≤_, _<_}
@@ -8,7 +8,7 @@ use native.Mathlib.Omega.{arith}
 use borrow.Author.Tests.{eq-eqb, ne-eqb, eqb-true, eqb-false, lt-ltb, le-ltb}
 use lib.Dec.{eqb, ltb}
 use lib.ListN.{length, getD, take, set, length-set}
-use lib.Seq.{take-suc-set}
+use lib.Seq.{take-suc-set, getD-set-same, getD-set-other}
 use Rattle.lists.specs.Tests.{by, same-test, and-left, or-false-both, all-in, all-of}
 use Rattle.rows.specs.Rows.{hasBit}
 use Rattle.rows.specs.RowLaws.{bit-none}
@@ -16,7 +16,7 @@ use Rattle.bitsets.specs.Bitsets.{members, more, less, Lowest, Rest}
 use Rattle.bitsets.specs.BitLaws.{bit-more, bit-less, rest-is, in-members, members-of, members-next, members-none}
 use Rattle.ordering.specs.Lists.{elem}
 use Rattle.catalogue.specs.Layout.{parentsAt}
-use Rattle.order_rounds.specs.Rounds.{allIn, readyOf, AllPlaced, Parentless, ReadyIn, Appended}
+use Rattle.order_rounds.specs.Rounds.{allIn, AllPlaced, ReadyIn, ChildAdded, Childless, ChildrenPut, Appended}
 
 -- a number that stands at none of the first n places
 pub elem-none : (x : ℕ) (l : List ℕ) (n : ℕ) → ((i : ℕ) → i < n → getD l i 0 ≡ x → ⊥) → elem x (take n l) ≡ false
@@ -32,7 +32,7 @@ none-lower l x j n p h k i a b e =
     (λ q. k (ap (λ (y : ℕ). getD l y 0) (sym (eqb-true i (j - 1) q)) ∙ e))
     (λ q. let z = eqb-false i (j - 1) q in h i (omega (arith, z)) b e)
 
--- ---- the types without parents
+-- ---- the types without parents, and the children of each
 
 ltb-step : (a n : ℕ) → ltb a (n + 1) ≡ (ltb a n || eqb n a)
 ltb-step a n =
@@ -56,24 +56,94 @@ one-less true e z h = refl
 one-less false true z h = sym (h refl)
 one-less false false z h = refl
 
-module _ (t : List ℕ) where
-  pub parentless-none : Parentless t 0 0
-  parentless-none = record { bits = λ a. bit-none a ∙ sym (rw (le-ltb a 0 (omega arith))) }
+-- one child more, while `left` is left of the parents
+module _ (old : List ℕ) (parents a : ℕ) where
+  pub record ChildTo (new : List ℕ) (left : ℕ) : Type 0 where
+    pub long : length new ≡ length old
+    pub bits : (b c : ℕ) → b < 64 → (hasBit (getD new b 0) c || (hasBit left b && eqb a c)) ≡ (hasBit (getD old b 0) c || (hasBit parents b && eqb a c))
 
-  pub parentless-yes : (n r : ℕ) → parentsAt t n ≡ 0 → Parentless t n r → Parentless t (n + 1) (more r n)
-  parentless-yes n r e p = record {
-    bits = λ a.
-        bit-more r n a
-        ∙ ap (λ (b : Bool). b || eqb n a) (p .bits a)
-        ∙ one-more (ltb a n) (eqb n a) (eqb (parentsAt t a) 0) (λ q. ap (λ (x : ℕ). eqb (parentsAt t x) 0) (sym (eqb-true n a q)) ∙ eq-eqb _ _ e)
+  pub child-none : ChildTo old parents
+  child-none = record { long = refl; bits = λ b c h. refl }
+
+  here : (o l e : Bool) → l ≡ true → ((o || e) || (false && e)) ≡ (o || (l && e))
+  here true l e h = refl
+  here false l e h = or-false e ∙ sym (ap (λ (x : Bool). x && e) h)
+
+  pub child-more : (new : List ℕ) (left k rest x : ℕ) → length old ≡ 64 → Lowest left k → Rest left rest → x ≡ more (getD new k 0) a → ChildTo new left → ChildTo (set new k x) rest
+  child-more new left k rest x l w r e p = record {
+    long = length-set new k x ∙ p .long;
+    bits = λ b c h.
+        by (eqb b k)
+        (λ q.
+        let z = eqb-true b k q in
+        ap₂ (λ (y : ℕ) (d : Bool). hasBit y c || (d && eqb a c))
+        (ap (λ (y : ℕ). getD (set new k x) y 0) z ∙ getD-set-same new k x 0 (omega (arith, p .long, w .place)) ∙ e ∙ ap (λ (y : ℕ). more (getD new y 0) a) (sym z))
+        (r .bits k w b ∙ ap (λ (d : Bool). hasBit left b && not d) q ∙ and-false (hasBit left b))
+        ∙ ap (λ (d : Bool). d || (false && eqb a c)) (bit-more (getD new b 0) a c)
+        ∙ here (hasBit (getD new b 0) c) (hasBit left b) (eqb a c) (ap (hasBit left) z ∙ w .there)
+        ∙ p .bits b c h)
+        (λ q.
+        ap₂ (λ (y : ℕ) (d : Bool). hasBit y c || (d && eqb a c))
+        (getD-set-other new k b x 0 (eqb-false b k q))
+        (r .bits k w b ∙ ap (λ (d : Bool). hasBit left b && not d) q ∙ and-true (hasBit left b))
+        ∙ p .bits b c h);
+  }
+
+  pub child-all : (new : List ℕ) (left : ℕ) → left ≡ 0 → ChildTo new left → ChildAdded old new parents a
+  child-all new left e p = record {
+    long = p .long;
+    bits = λ b c h.
+        sym (or-false (hasBit (getD new b 0) c))
+        ∙ ap (λ (d : Bool). hasBit (getD new b 0) c || (d && eqb a c)) (sym (bit-none b) ∙ ap (λ (x : ℕ). hasBit x b) (sym e))
+        ∙ p .bits b c h;
+  }
+
+module _ (t : List ℕ) where
+  pub children-none : (l : List ℕ) → Childless l → ChildrenPut t 0 l 0
+  children-none l p = record {
+    long = p .long;
+    bits = λ b c h. ap (λ (x : ℕ). hasBit x c) (p .none b h) ∙ bit-none c ∙ sym (rw (le-ltb c 0 (omega arith)));
+    free = λ a. bit-none a ∙ sym (rw (le-ltb a 0 (omega arith)));
+  }
+
+  more-children : (n : ℕ) (l new : List ℕ) (r x : ℕ) → x ≡ parentsAt t n → ChildAdded l new x n → ChildrenPut t n l r → (b c : ℕ) → b < 64
+      → hasBit (getD new b 0) c ≡ (ltb c (n + 1) && hasBit (parentsAt t c) b)
+  more-children n l new r x e a p b c h =
+      a .bits b c h
+      ∙ ap₂ (λ (d y : Bool). d || (y && eqb n c)) (p .bits b c h) (ap (λ (y : ℕ). hasBit y b) e)
+      ∙ by (eqb n c)
+      (λ q.
+      let z = eqb-true n c q in
+      ap₂ (λ (d y : Bool). (ltb c n && hasBit (parentsAt t c) b) || (d && y)) (ap (λ (y : ℕ). hasBit (parentsAt t y) b) z) q
+      ∙ ap (λ (d : Bool). (d && hasBit (parentsAt t c) b) || (hasBit (parentsAt t c) b && true)) (le-ltb c n (omega arith))
+      ∙ and-true (hasBit (parentsAt t c) b)
+      ∙ sym (ap (λ (d : Bool). d && hasBit (parentsAt t c) b) (lt-ltb c (n + 1) (omega arith))))
+      (λ q.
+      ap (λ (d : Bool). (ltb c n && hasBit (parentsAt t c) b) || (hasBit (parentsAt t n) b && d)) q
+      ∙ ap (λ (d : Bool). (ltb c n && hasBit (parentsAt t c) b) || d) (and-false (hasBit (parentsAt t n) b))
+      ∙ or-false (ltb c n && hasBit (parentsAt t c) b)
+      ∙ ap (λ (d : Bool). d && hasBit (parentsAt t c) b) (sym (ltb-step c n ∙ ap (λ (d : Bool). ltb c n || d) q ∙ or-false (ltb c n))))
+
+  pub children-yes : (n : ℕ) (l new : List ℕ) (r x y : ℕ) → x ≡ parentsAt t n → x ≡ 0 → ChildAdded l new x n → y ≡ more r n → ChildrenPut t n l r → ChildrenPut t (n + 1) new y
+  children-yes n l new r x y e z a g p = record {
+    long = a .long ∙ p .long;
+    bits = more-children n l new r x e a p;
+    free = λ a.
+        ap (λ (k : ℕ). hasBit k a) g
+        ∙ bit-more r n a
+        ∙ ap (λ (b : Bool). b || eqb n a) (p .free a)
+        ∙ one-more (ltb a n) (eqb n a) (eqb (parentsAt t a) 0) (λ q. ap (λ (k : ℕ). eqb (parentsAt t k) 0) (sym (eqb-true n a q)) ∙ eq-eqb _ _ (sym e ∙ z))
         ∙ ap (λ (b : Bool). b && eqb (parentsAt t a) 0) (sym (ltb-step a n));
   }
 
-  pub parentless-no : (n r : ℕ) → (parentsAt t n ≡ 0 → ⊥) → Parentless t n r → Parentless t (n + 1) r
-  parentless-no n r e p = record {
-    bits = λ a.
-        p .bits a
-        ∙ one-less (ltb a n) (eqb n a) (eqb (parentsAt t a) 0) (λ q. ap (λ (x : ℕ). eqb (parentsAt t x) 0) (sym (eqb-true n a q)) ∙ ne-eqb _ _ e)
+  pub children-no : (n : ℕ) (l new : List ℕ) (r x y : ℕ) → x ≡ parentsAt t n → (x ≡ 0 → ⊥) → ChildAdded l new x n → y ≡ r → ChildrenPut t n l r → ChildrenPut t (n + 1) new y
+  children-no n l new r x y e z a g p = record {
+    long = a .long ∙ p .long;
+    bits = more-children n l new r x e a p;
+    free = λ a.
+        ap (λ (k : ℕ). hasBit k a) g
+        ∙ p .free a
+        ∙ one-less (ltb a n) (eqb n a) (eqb (parentsAt t a) 0) (λ q. ap (λ (k : ℕ). eqb (parentsAt t k) 0) (sym (eqb-true n a q)) ∙ ne-eqb _ _ (λ w. z (e ∙ w)))
         ∙ ap (λ (b : Bool). b && eqb (parentsAt t a) 0) (sym (ltb-step a n));
   }
 
@@ -96,15 +166,15 @@ others-in parents last out h =
     let m = members-of (less parents last) i in
     all-in (λ c. elem c out) e (in-members parents (m .0) (and-left (hasBit parents b) (not (hasBit last b)) (sym (bit-less parents last b) ∙ m .1)))))
 
-module _ (t : List ℕ) (waiting last : ℕ) (out : List ℕ) where
+module _ (t : List ℕ) (types : ℕ) (out : List ℕ) where
   abbrev isOne : ℕ → Bool
-  isOne a = readyOf last out (parentsAt t a)
+  isOne a = allIn (parentsAt t a) out
 
   -- those passed, while `left` is left
   pub record ReadyTo (left r : ℕ) : Type 0 where
-    pub bits : (a : ℕ) → (hasBit r a || (hasBit left a && readyOf last out (parentsAt t a))) ≡ (hasBit waiting a && readyOf last out (parentsAt t a))
+    pub bits : (a : ℕ) → (hasBit r a || (hasBit left a && allIn (parentsAt t a) out)) ≡ (hasBit types a && allIn (parentsAt t a) out)
 
-  pub ready-none : ReadyTo waiting 0
+  pub ready-none : ReadyTo types 0
   ready-none = record { bits = λ a. rw (bit-none a) }
 
   taken-one : (r l e f : Bool) → (e ≡ true → (l ≡ true) × (f ≡ true)) → ((r || e) || ((l && not e) && f)) ≡ (r || (l && f))
@@ -139,7 +209,7 @@ module _ (t : List ℕ) (waiting last : ℕ) (out : List ℕ) where
         ∙ p .bits a;
   }
 
-  pub ready-all : (left r : ℕ) → left ≡ 0 → ReadyTo left r → ReadyIn t waiting last out r
+  pub ready-all : (left r : ℕ) → left ≡ 0 → ReadyTo left r → ReadyIn t types out r
   ready-all left r e p = record {
     bits = λ a.
         sym (or-false (hasBit r a))

@@ -1,9 +1,9 @@
 // The order of the types of a map, round by round, over the sets of their parents. A type is its place in name order.
 ghost use mathlib.Core.Path.{_≡_};
-ghost use Prim.Native.Nat.{_+_, _≤_};
+ghost use Prim.Native.Nat.{_+_, _≤_, _<_};
 ghost use lib.ListN.{length, take};
 ghost use Rattle.bitsets.specs.Bitsets.{members};
-ghost use Rattle.order_rounds.specs.Rounds.{allIn, readyOf, AllPlaced, Parentless, ReadyIn, Appended, Sets, Placed};
+ghost use Rattle.order_rounds.specs.Rounds.{allIn, AllPlaced, ReadyIn, ChildAdded, Childless, ChildrenPut, Appended, Sets, Placed};
 ghost use Rattle.order_rounds.specs.Organized.{Asked, Organized};
 
 // Whether each parent stands among the first n of the order. The scan ends where one does not (01: 'the first parent not
@@ -30,31 +30,19 @@ fn all_placed(parents: u64, order: &[u64; 64], n: usize) -> bool
     left == 0
 }
 
-// Whether a type is ready that was not before the last round: `last` has the types that the round placed. Its other parents are
-// looked for among those placed.
-fn is_ready(parents: u64, last: u64, order: &[u64; 64], n: usize) -> bool
+// Those of the types that are ready now; each has a parent in `last`, the set that the last round placed. The other parents are looked
+// for among those placed.
+fn ready_in(t: &[u64; 1544], types: u64, last: u64, order: &[u64; 64], n: usize) -> u64
     requires { ⌜ (length (now order) ≡ 64) × (n ≤ 64) ⌝ }
     requires { ⌜ AllPlaced last (take n (now order)) ⌝ }
-    ensures { λ r. ⌜ r ≡ readyOf last (take n (now (order .entry))) parents ⌝ }
-{
-    if parents & last == 0 {
-        return false;
-    }
-    all_placed(bitsets::without(parents, last), order, n)
-}
-
-// Those of the waiting types that are ready now.
-fn ready_in(t: &[u64; 1544], waiting: u64, last: u64, order: &[u64; 64], n: usize) -> u64
-    requires { ⌜ (length (now order) ≡ 64) × (n ≤ 64) ⌝ }
-    requires { ⌜ AllPlaced last (take n (now order)) ⌝ }
-    ensures { λ r. ⌜ ReadyIn (now (t .entry)) waiting last (take n (now (order .entry))) r ⌝ }
+    ensures { λ r. ⌜ ReadyIn (now (t .entry)) types (take n (now (order .entry))) r ⌝ }
 {
     let mut out: u64 = 0;
-    let mut left = waiting;
+    let mut left = types;
     while left != 0 {
         let a = bitsets::lowest(left);
-        let parents = catalogue::parents_at(t, a);
-        if is_ready(parents, last, order, n) {
+        let others = bitsets::without(catalogue::parents_at(t, a), last);
+        if all_placed(others, order, n) {
             out = bitsets::with_one(out, a);
         }
         left = bitsets::rest(left);
@@ -62,15 +50,32 @@ fn ready_in(t: &[u64; 1544], waiting: u64, last: u64, order: &[u64; 64], n: usiz
     out
 }
 
-// The types without parents, which round one places.
-fn parentless(t: &[u64; 1544], count: usize) -> u64
+// One child more of each parent of a set.
+fn add_child(children: &mut [u64; 64], parents: u64, a: usize)
+    requires { ⌜ length (now children) ≡ 64 ⌝ }
+    requires { ⌜ a < 64 ⌝ }
+    ensures { λ _. ⌜ ChildAdded (now (children .entry)) (now (children .exit)) parents a ⌝ }
+{
+    let mut left = parents;
+    while left != 0 {
+        let p = bitsets::lowest(left);
+        children[p] = bitsets::with_one(children[p], a);
+        left = bitsets::rest(left);
+    }
+}
+
+// The children of each type. The answer has the types without parents, which round one places.
+fn put_children(t: &[u64; 1544], count: usize, children: &mut [u64; 64]) -> u64
     requires { ⌜ count ≤ 64 ⌝ }
-    ensures { λ r. ⌜ Parentless (now (t .entry)) count r ⌝ }
+    requires { ⌜ Childless (now children) ⌝ }
+    ensures { λ r. ⌜ ChildrenPut (now (t .entry)) count (now (children .exit)) r ⌝ }
 {
     let mut out: u64 = 0;
     let mut a: usize = 0;
     while a < count {
-        if catalogue::parents_at(t, a) == 0 {
+        let parents = catalogue::parents_at(t, a);
+        add_child(children, parents, a);
+        if parents == 0 {
             out = bitsets::with_one(out, a);
         }
         a += 1;
@@ -95,19 +100,22 @@ fn append(order: &mut [u64; 64], n: usize, types: u64) -> usize
     at
 }
 
-// What all rounds place: another round is made while one placed a type (FORMAT 3.4).
+// What all rounds place: another round is made while one placed a type (FORMAT 3.4). Only a type with a parent in the last round can
+// be ready anew.
 pub fn place_all(t: &[u64; 1544], count: usize, order: &mut [u64; 64]) -> usize
     requires { ⌜ length (now order) ≡ 64 ⌝ }
     requires { ⌜ Sets (now t) count ⌝ }
     ensures { λ r. ⌜ Placed (now (t .entry)) count (now (order .exit)) r ⌝ }
 {
-    let mut ready = parentless(t, count);
+    let mut children = [0u64; 64];
+    let mut ready = put_children(t, count, &mut children);
     let mut waiting = bitsets::first(count as u64);
     let mut n: usize = 0;
     while ready != 0 {
         n = append(order, n, ready);
         waiting = bitsets::without(waiting, ready);
-        ready = ready_in(t, waiting, ready, order, n);
+        let near = waiting & item_spread::united(ready, &children);
+        ready = ready_in(t, near, ready, order, n);
     }
     n
 }
