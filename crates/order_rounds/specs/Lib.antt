@@ -1,4 +1,5 @@
 pub mod Rounds
+pub mod Stepped
 pub mod Organized
 pub mod StepLaws
 pub mod StageLaws

@@ -3,7 +3,8 @@ ghost use mathlib.Core.Path.{_≡_};
 ghost use Prim.Native.Nat.{_+_, _≤_, _<_};
 ghost use lib.ListN.{length, take};
 ghost use Rattle.bitsets.specs.Bitsets.{members};
-ghost use Rattle.order_rounds.specs.Rounds.{allIn, AllPlaced, ReadyIn, ChildAdded, Childless, ChildrenPut, Appended, Sets, Placed};
+ghost use Rattle.order_rounds.specs.Rounds.{allIn, AllPlaced, ReadyIn, ChildAdded, Childless, ChildrenPut, Sets, Placed};
+ghost use Rattle.order_rounds.specs.Stepped.{Stepped};
 ghost use Rattle.order_rounds.specs.Organized.{Asked, Organized};
 
 // Whether each parent stands among the first n of the order. The scan ends where one does not (01: 'the first parent not
@@ -83,21 +84,29 @@ fn put_children(t: &[u64; 1544], count: usize, children: &mut [u64; 64]) -> u64
     out
 }
 
+// How many types are placed, and the children of those that were placed last.
+struct Step {
+    count: usize,
+    near: u64,
+}
+
 // The types of a set behind the first n of the order, by name.
-fn append(order: &mut [u64; 64], n: usize, types: u64) -> usize
+fn append(order: &mut [u64; 64], n: usize, types: u64, children: &[u64; 64]) -> Step
     requires { ⌜ length (now order) ≡ 64 ⌝ }
     requires { ⌜ n + length (members types) ≤ 64 ⌝ }
-    ensures { λ r. ⌜ Appended (now (order .entry)) (now (order .exit)) n types r ⌝ }
+    ensures { λ r. ⌜ Stepped (now (order .entry)) (now (order .exit)) n types (now (children .entry)) r ⌝ }
 {
+    let mut near: u64 = 0;
     let mut at = n;
     let mut left = types;
     while left != 0 {
         let a = bitsets::lowest(left);
         order[at] = a as u64;
+        near = near | children[a];
         at += 1;
         left = bitsets::rest(left);
     }
-    at
+    Step { count: at, near }
 }
 
 // What all rounds place: another round is made while one placed a type (FORMAT 3.4). Only a type with a parent in the last round can
@@ -112,10 +121,10 @@ pub fn place_all(t: &[u64; 1544], count: usize, order: &mut [u64; 64]) -> usize
     let mut waiting = bitsets::first(count as u64);
     let mut n: usize = 0;
     while ready != 0 {
-        n = append(order, n, ready);
+        let step = append(order, n, ready, &children);
+        n = step.count;
         waiting = bitsets::without(waiting, ready);
-        let near = waiting & item_spread::united(ready, &children);
-        ready = ready_in(t, near, ready, order, n);
+        ready = ready_in(t, waiting & step.near, ready, order, n);
     }
     n
 }

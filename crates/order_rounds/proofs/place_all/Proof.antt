@@ -1,4 +1,3 @@
-use borrow.Author.Needs.{needs}
 use mathlib.Core.Path.{_≡_, refl, _∙_}
 use Prim.Native.Nat.{ℕ, suc, _+_, _-_, _^_, _≤_, _<_}
 use native.Mathlib.Omega.{arith}
@@ -33,46 +32,40 @@ loop-holds c = (0, omega arith, c .before .before .before .pre .0, omega arith, 
 
 append-requires : tie.Need-append-requires Inv-loop μ-loop
 append-requires c κs =
-    let s = c .before .before .before .before .before .before in
-    let l = c .before .before .loop in
+    let s = c .before .before .before .before .before .before .before in
+    let l = c .before .before .before .loop in
     (l .inv .2, omega (arith, room (s .pre .1 .compact) _ _ (s .pre .1 .right) (l .inv .0) (l .n) (l .order) (l .ready) (l .waiting) (l .inv .4 _ (s .pre .1 .right)), s .pre .1 .right .few))
 
 without-requires : tie.Need-without-requires Inv-loop μ-loop
 without-requires c κs = tt
 
-slice-aggregate-united : tie.Need-slice-aggregate-united Inv-loop μ-loop
-slice-aggregate-united c = search needs
-
-united-requires : tie.Need-united-requires Inv-loop μ-loop
-united-requires c κs = omega (arith, c .before .before .before .before .before .before .before .put-children .ensures .long)
-
 ready-in-requires : tie.Need-ready-in-requires Inv-loop μ-loop
 ready-in-requires c κs =
     let s = c .before .before .before .before .before .before .before .before .before .before .before in
     let l = c .before .before .before .before .before .before .before .loop in
-    let a = c .before .before .before .before .append .ensures in
+    let a = c .before .before .before .append .ensures .placed in
     ((a .long ∙ l .inv .2, omega (arith, a .count, room (s .pre .1 .compact) _ _ (s .pre .1 .right) (l .inv .0) (l .n) (l .order) (l .ready) (l .waiting) (l .inv .4 _ (s .pre .1 .right)), s .pre .1 .right .few)), appended-placed (l .order) _ (l .n) (l .ready) _ (l .inv .3) a)
 
 loop-less : tie.Need-loop-less Inv-loop μ-loop
 loop-less c =
     let s = c .before .before .before .before .before .before .before .before .before .before .before .before in
     let l = c .before .before .before .before .before .before .before .before .loop in
-    let a = c .before .before .before .before .before .append .ensures in
+    let a = c .before .before .before .before .append .ensures .placed in
     let r = room (s .pre .1 .compact) _ _ (s .pre .1 .right) (l .inv .0) (l .n) (l .order) (l .ready) (l .waiting) (l .inv .4 _ (s .pre .1 .right)) in
     omega (arith, a .count, r, s .pre .1 .right .few, some-member (l .ready) (l .inv .3) (c .before .before .before .before .before .before .before .loop-test .taken))
 
 loop-again : tie.Need-loop-again Inv-loop μ-loop
 loop-again c =
     let l = c .before .before .before .before .before .before .before .before .loop in
-    let a = c .before .before .before .before .before .append .ensures in
+    let a = c .before .before .before .before .append .ensures in
     (
       suc (l .inv .0),
-      omega (arith, a .count, l .inv .1, some-member (l .ready) (l .inv .3) (c .before .before .before .before .before .before .before .loop-test .taken)),
-      a .long ∙ l .inv .2,
+      omega (arith, a .placed .count, l .inv .1, some-member (l .ready) (l .inv .3) (c .before .before .before .before .before .before .before .loop-test .taken)),
+      a .placed .long ∙ l .inv .2,
       omega arith,
       λ p q.
-          stage-more p _ _ q (l .inv .0) (l .n) _ (l .order) _ _ _ (l .ready) (l .waiting) _ _ _ (l .inv .4 p q) a (c .before .before .before .before .without .ensures)
-          (c .before .before .before .before .before .before .before .before .before .before .put-children .ensures) (c .before .before .united .ensures) (c .ready-in .ensures),
+          stage-more p _ _ q (l .inv .0) (l .n) _ (l .order) _ _ _ (l .ready) (l .waiting) _ _ _ (l .inv .4 p q) (a .placed) (c .before .before .before .without .ensures)
+          (c .before .before .before .before .before .before .before .before .before .before .put-children .ensures) (a .near) (c .ready-in .ensures),
     )
 
 returns : tie.Need-returns Inv-loop μ-loop
@@ -95,8 +88,6 @@ place-all-spec =
     loop-holds
     append-requires
     without-requires
-    slice-aggregate-united
-    united-requires
     ready-in-requires
     loop-less
     loop-again
