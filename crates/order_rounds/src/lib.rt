@@ -130,12 +130,7 @@ pub fn place_all(t: &[u64; 1544], count: usize, order: &mut [u64; 64]) -> usize
 }
 
 // The order of the types, if there is one. `whole` says that each listed parent is declared, and none is `self`.
-pub fn organize_type_map(
-    t: &[u64; 1544],
-    count: usize,
-    whole: bool,
-    order: &mut [u64; 64],
-) -> bool
+pub fn organize_type_map(t: &[u64; 1544], count: usize, whole: bool, order: &mut [u64; 64]) -> bool
     requires { ⌜ length (now order) ≡ 64 ⌝ }
     requires { ⌜ Asked (now t) count whole ⌝ }
     ensures { λ r. ⌜ Organized (now (t .entry)) count whole (now (order .exit)) r ⌝ }

@@ -18,8 +18,7 @@ returns : tie.Need-returns
 unfolding keyIn
 returns c =
     let s = c .before .before .before in
-    let n = c .before .before .parent-count-at .ensures in
-    (
+    let n = c .before .before .parent-count-at .ensures in (
       c .parent-at .ensures ∙ sym (rw (lt-ltb (s .args .k) (parentCountAt (s .args .d .now) (s .args .row)) (omega (arith, n .0, c .before .if1 .taken)))),
       omega (arith, c .parent-at .ensures, s .pre .1 .keys (s .args .k) (omega (arith, n .0, c .before .if1 .taken))),
     )

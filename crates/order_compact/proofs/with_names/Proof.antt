@@ -69,8 +69,7 @@ loop-again c =
     let s = c .before .before .before .before .before .before .before in
     let l = c .before .before .before .before .before .before .loop in
     let f = c .before .before .before .key-at .ensures in
-    let small : l .a < 64 = omega (arith, s .pre .few) in
-    (
+    let small : l .a < 64 = omega (arith, s .pre .few) in (
       omega arith,
       simp length-set (l .inv .1),
       simp length-set (l .inv .2),

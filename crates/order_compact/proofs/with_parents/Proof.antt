@@ -71,8 +71,7 @@ loop-again c =
     let s = c .before .before .before .before .before .before .before in
     let l = c .before .before .before .before .before .before .loop in
     let f = c .before .before .before .parent-of .ensures .0 in
-    let small : l .at < 512 = omega (arith, s .pre .few) in
-    (
+    let small : l .at < 512 = omega (arith, s .pre .few) in (
       omega arith,
       simp length-set (l .inv .1),
       simp length-set (l .inv .2),

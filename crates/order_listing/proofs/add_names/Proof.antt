@@ -36,8 +36,7 @@ add-requires c κs =
     let l = c .before .before .before .before .before .loop in
     let h = c .name-field .ensures .0 in
     let k = c .before .before .key-at in
-    let e = names-next (a .t .now) (a .order .now) (a .n) (l .i) (k .result) (k .ensures) (omega arith) in
-    (
+    let e = names-next (a .t .now) (a .order .now) (a .n) (l .i) (k .result) (k .ensures) (omega arith) in (
       h .full,
       room-as (sym (h .bits))
           (pending-room 0 0 (nameBits (nameOfKey (k .result))) (namesFrom (a .t .now) (a .order .now) (a .n) (l .i + 1)) e refl (l .inv .1) (room-as (names-all (a .t .now) (a .order .now) (a .n)) (s .pre .1))),
@@ -54,8 +53,7 @@ loop-again c =
     let a = c .before .before .before .before .before .before .before .before .before .before .args in
     let l = c .before .before .before .before .before .before .before .before .loop in
     let k = c .before .before .before .before .before .key-at in
-    let e = names-next (a .t .now) (a .order .now) (a .n) (l .i) (k .result) (k .ensures) (omega arith) in
-    (
+    let e = names-next (a .t .now) (a .order .now) (a .n) (l .i) (k .result) (k .ensures) (omega arith) in (
       omega arith,
       pending-less 0 0 (nameBits (nameOfKey (k .result))) (namesFrom (a .t .now) (a .order .now) (a .n) (l .i + 1)) e refl (l .inv .1) (adds-as (c .before .before .before .name-field .ensures .0 .bits) (c .before .before .add .ensures)),
     )

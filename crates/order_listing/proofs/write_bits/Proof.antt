@@ -19,8 +19,7 @@ add-requires c κs =
 
 add-names-requires : tie.Need-add-names-requires
 add-names-requires c κs =
-    let s = c .before .before .before .before .before .before .before .before in
-    (
+    let s = c .before .before .before .before .before .before .before .before in (
       s .pre .0,
       room-names (s .args .buf .now) (s .args .t .now) (s .args .order .now) (s .args .n) (s .pre .0 .few) (s .pre .1) _ (c .before .before .before .before .before .start .ensures) (adds-as (c .before .before .before .before .number .ensures .bits) (c .before .before .before .add .ensures)),
     )

@@ -49,8 +49,7 @@ loop-again : tie.Need-loop-again Inv-loop μ-loop
 loop-again c =
     let s = c .before .before .before .before .before in
     let l = c .before .before .before .before .loop in
-    let k = c .before .before .lowest in
-    (
+    let k = c .before .before .lowest in (
       append-more (s .args .order .now) (s .args .n) (s .args .types) (l .order) (l .at) (l .left) (k .result) (c .rest .result) (k .ensures) (c .rest .ensures)
           (omega (arith, room (c .before .before), l .inv .0 .long, s .pre .0)) (l .inv .0),
       united-more (s .args .types) (s .args .children .now) (l .near) (l .left) (k .result) (c .rest .result) (l .inv .1) (k .ensures) (c .rest .ensures),

@@ -57,8 +57,7 @@ loop-less c =
 loop-again : tie.Need-loop-again Inv-loop μ-loop
 loop-again c =
     let l = c .before .before .before .before .before .before .before .before .loop in
-    let a = c .before .before .before .before .append .ensures in
-    (
+    let a = c .before .before .before .before .append .ensures in (
       suc (l .inv .0),
       omega (arith, a .placed .count, l .inv .1, some-member (l .ready) (l .inv .3) (c .before .before .before .before .before .before .before .loop-test .taken)),
       a .placed .long ∙ l .inv .2,
