@@ -2,7 +2,7 @@
 use mathlib.Core.Bool.{Bool, true, false}
 use mathlib.Core.List.{List, [], _∷_}
 use mathlib.Core.Path.{_≡_, refl, sym, ap, _∙_, subst}
-use Prim.Native.Nat.{ℕ, zero, suc, _+_, _<_}
+use Prim.Native.Nat.{ℕ, zero, suc, _+_, _<_, _≤_}
 use native.Mathlib.Omega.{arith}
 use borrow.Author.Tests.{eqb-true, eqb-false, ne-eqb}
 use lib.Dec.{eqb}
@@ -12,6 +12,8 @@ use Rattle.lists.specs.Tests.{by, never, or-elim}
 use Rattle.lists.specs.Appending.{any-append}
 use Rattle.emitting.specs.Emitting as emitting
 use Rattle.definitions.specs.Comparisons.{sameName}
+use Rattle.definitions.specs.Packing.{rowBytes}
+use Rattle.definitions.specs.Synthesis.{listedParents, interpretType}
 use Rattle.definitions.specs.Map.{TypeMap, typeMapOf}
 use Rattle.types.specs.declared.Types.{Types}
 use Rattle.rows.specs.RowLaws.{bit-none}
@@ -20,13 +22,14 @@ use Rattle.ordering.specs.Reading.{typeAt, Reads}
 use Rattle.ordering.specs.declared.Parents.{Parents}
 use Rattle.table.specs.declared.Table.{Table}
 use Rattle.interpretation.specs.Emit.{emit}
-use Rattle.visit_laws.specs.Trail.{Reached, seenIn, playAll, nothingPlayed}
+use Rattle.visit_laws.specs.Trail as visit
+use Rattle.visit_laws.specs.Trail.{Reached, seenIn, flagsOf, gotFrom, play, playAll, nothingPlayed}
 use Rattle.visiting.specs.Trails.{itemAt, reachedAt, TrailOf}
 use Rattle.visiting.specs.declared.Trail.{Trail}
 use Rattle.handing.specs.Handing.{Stored, StoredParents}
 use Rattle.handing.specs.Keeping.{stored-parents}
 use Rattle.synthesis.specs.Going.{Going}
-use Rattle.synthesis.specs.GoingLaws.{same-name}
+use Rattle.synthesis.specs.GoingLaws.{same-name, play-last}
 use Rattle.synthesis.specs.Playing.{Turn, Plays, AllReady, PlayedTo, AllPlayed}
 use Rattle.synthesis.specs.declared.Played.{Played}
 
@@ -103,6 +106,36 @@ module _ (tb : Table) (ts : Types) (p : Parents) (old : List ℕ) (r : Trail) wh
           room = record { store = omega (arith, a .room .store, e); most = omega (arith, a .room .most, e); slice = omega (arith, a .room .slice, f) };
           stored = parents-stored (typeMapOf (a .sheet)) st (g .stored (a .sheet) (a .extensions) (a .held));
         }
+
+  -- one past the limit the rows of the types that follow are not written
+  full-stays : (m : TypeMap) (g : ℕ → Reached) (i n : ℕ) (b : List ℕ) → i ≤ n
+      → _≡_ {A = emitting.State} (b, 257) (emit 256 (old, 0) (playAll m nothingPlayed (tab g i) .rows))
+      → _≡_ {A = emitting.State} (b, 257) (emit 256 (old, 0) (playAll m nothingPlayed (tab g n) .rows))
+  unfolding play
+  full-stays m g i zero b h e = subst (λ (k : ℕ). _≡_ {A = emitting.State} (b, 257) (emit 256 (old, 0) (playAll m nothingPlayed (tab g k) .rows))) (let z : i ≡ 0 = omega (arith, h) in z) e
+  full-stays m g i (suc n) b h e =
+      by (eqb i (suc n))
+      (λ q. subst (λ (k : ℕ). _≡_ {A = emitting.State} (b, 257) (emit 256 (old, 0) (playAll m nothingPlayed (tab g k) .rows))) (eqb-true i (suc n) q) e)
+      (λ q.
+      let d = playAll m nothingPlayed (tab g n) in
+      let P = g n .type in
+      let rs = interpretType m P (gotFrom m (flagsOf (d .told) (g n .fresh) (listedParents m P)) (listedParents m P)) .rows in
+      sym (emitting.emit-full rowBytes 256 b rs)
+      ∙ ap (λ (s : emitting.State). emit 256 s rs) (full-stays m g i n b (omega (arith, h, eqb-false i (suc n) q)) e)
+      ∙ sym (emitting.emit-append rowBytes 256 (old, 0) (d .rows) rs)
+      ∙ ap (λ (x : visit.Played). emit 256 (old, 0) (x .rows)) (sym (play-last m nothingPlayed (tab g n) (g n))))
+
+  pub played-full : (i : ℕ) (st b : List ℕ) (d : Played) → i ≤ r .count → 256 < d .rows → PlayedTo tb ts p old r i st b d → AllPlayed tb ts p old r b (d .rows)
+  played-full i st b d l f g =
+      record {
+        emits = λ s es h o.
+            let m = typeMapOf s in
+            let e = g .going s es h o .emits in
+            let k : d .rows ≡ 257 =
+            omega (arith, f, ap (λ (x : emitting.State). x .1) e, emitting.emit-most rowBytes 256 (old, 0) (playAll m nothingPlayed (tab (reachedAt p m r) i) .rows) (omega arith)) in
+            ap (λ (n : ℕ). (b, n)) k
+            ∙ full-stays m (reachedAt p m r) i (r .count) b l (ap (λ (n : ℕ). (b, n)) (sym k) ∙ e);
+      }
 
   pub played-all : (i : ℕ) (st b : List ℕ) (d : Played) → i ≡ r .count → PlayedTo tb ts p old r i st b d → AllPlayed tb ts p old r b (d .rows)
   played-all i st b d e g =

@@ -80,7 +80,8 @@ fn inherit_annotations(
     }
 }
 
-// The types in the order in which they are reached: the count of rows.
+// The types in the order in which they are reached: the count of rows. One past the limit it stays as it is, and so does what
+// is written, so that no type more is played.
 fn play_all(
     table: Table,
     types: Types,
@@ -98,6 +99,9 @@ fn play_all(
     let mut d = Played { ok: 0, rows: 0 };
     let mut i: usize = 0;
     while i < count {
+        if 256 < d.rows {
+            return d.rows;
+        }
         let t = items[i] as usize;
         let fresh = flags[i];
         let info = types.items[t];
