@@ -2,25 +2,19 @@
 use mathlib.Core.Bool.{Bool, true, false, cond}
 use mathlib.Core.List.{List, [], _∷_}
 use mathlib.Core.Path.{_≡_, refl, sym, ap, _∙_, subst}
-use Prim.Native.Nat.{ℕ, _≤_}
-use native.Mathlib.Omega.{arith}
-use lib.ListN.{length, getD, length-append}
+use Prim.Native.Nat.{ℕ}
+use lib.ListN.{getD}
 use Rattle.lists.specs.Lists.{null, filter, firstOf}
 use Rattle.lists.specs.Tests.{never}
 use Rattle.rows.specs.declared.Row.{Row}
-use Rattle.definitions.specs.Records.{Name, Mark, Item, synthesized, extension}
-use Rattle.definitions.specs.Map.{LineMap, LineType}
-use Rattle.definitions.specs.Making.{extensionParents, createSyntheticResource}
+use Rattle.definitions.specs.Records.{Name, Item}
+use Rattle.definitions.specs.Map.{LineType}
 use Rattle.definitions.specs.Packing.{rowBytes}
 use Rattle.definitions.specs.Synthesis.{Verdict, unknownClasses, ends, noResource, duplicate, makes, judge, classRow, isDuplicate}
 use Rattle.fields.specs.Fields.{twoWords}
-use Rattle.making.specs.Making as making
-use Rattle.making.specs.Making.{itemOf}
-use Rattle.making.specs.MakingLaws.{length-parentsOf, length-marksOf}
-use Rattle.making.specs.declared.Making.{Making}
 use Rattle.table.specs.declared.Table.{Table}
-use Rattle.table.specs.Table.{nameAt, declarationAt, tableMap}
-use Rattle.synthetic.specs.Made.{classesOf, firstsOf, Fits, created}
+use Rattle.table.specs.Table.{declarationAt, tableMap}
+use Rattle.synthetic.specs.Made.{classesOf, created}
 use Rattle.interpretation.specs.Emit.{emitBytes, emit, name-bytes}
 use Rattle.interpretation.specs.Judged.{isUnknown, isOther}
 use Rattle.interpretation.specs.JudgedLaws.{row-bytes}
@@ -70,36 +64,6 @@ module _ (t : Table) (T r : ℕ) (doms : Row) (ps : ℕ) (f : Bool) (is : List I
   unfolding verdictOf
   verdict-last twice e p q d = judge-last f (filter (isUnknown t) (classesOf doms r)) (firstOf (isOther t) (classesOf doms r)) (isDuplicate (tableMap t) (declarationAt t T) r (created t T r doms ps) is) e p q ∙ ap (λ b. cond b duplicate makes) (sym d)
 
--- ---- the making's counts
-
-abbrev parentsIn : Item → List Name
-parentsIn (synthesized n r v ps ms) = ps
-parentsIn (extension n v t r) = []
-
-abbrev marksIn : Item → List Mark
-marksIn (synthesized n r v ps ms) = ms
-marksIn (extension n v t r) = []
-
-abbrev wordIn : Item → ℕ
-wordIn (synthesized n r v ps ms) = r
-wordIn (extension n v t r) = 0
-
-pub record Counted (new : Making) (r : ℕ) : Type 0 where
-  pub word : new .word ≡ r
-  pub parents : new .parents .count ≤ 17
-  pub marks : new .marks .count ≤ 448
-
-pub counted : (t : Table) (T r : ℕ) (doms : Row) (ps : ℕ) (new : Making) → Fits t T r doms ps → itemOf new ≡ created t T r doms ps → Counted new r
-unfolding created createSyntheticResource declarationAt
-counted t T r doms ps new f e =
-    let a = ap (λ x. length (parentsIn x)) e in
-    let b = ap (λ x. length (marksIn x)) e in
-    record {
-      word = ap wordIn e;
-      parents = omega (arith, a, length-parentsOf (new .parents), length-append (firstsOf t doms ps r) ((tableMap t .resource ∷ []) ∷ extensionParents (tableMap t) (nameAt t T) r), f .firsts, f .added);
-      marks = omega (arith, b, length-marksOf (new .marks), f .marks);
-    }
-
 -- ---- rows 5 and 6
 
 pub row-one : (limit kind : ℕ) (D : LineType) (w f s a b : ℕ) (c : Name) (st st′ : State) → D .name ≡ twoWords f s → c ≡ twoWords a b →
@@ -124,8 +88,3 @@ named-at t T = refl
 pub by-verdict : {t : Table} {T r : ℕ} {doms : Row} {ps limit : ℕ} {s : Reached} {b : List ℕ} {p : Reached} {b′ : List ℕ} {v w : Verdict} → v ≡ w →
     SteppedBy t T r doms ps limit s b p b′ w → SteppedBy t T r doms ps limit s b p b′ v
 by-verdict {t} {T} {r} {doms} {ps} {limit} {s} {b} {p} {b′} e x = subst (λ z. SteppedBy t T r doms ps limit s b p b′ z) (sym e) x
-
--- the test on the making is the test on its item
-pub duplicate-same : (m : LineMap) (D : LineType) (w w′ : ℕ) (x x′ : Item) (is : List Item) (r b : Bool) → r ≡ isDuplicate m D w x is → w ≡ w′ → x ≡ x′ → r ≡ b →
-    b ≡ isDuplicate m D w′ x′ is
-duplicate-same m D w w′ x x′ is r b e p q f = sym f ∙ e ∙ (λ i. isDuplicate m D (p i) (q i) is)

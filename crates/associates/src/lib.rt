@@ -52,8 +52,7 @@ fn interpret_known(
             made: count,
         };
     }
-    let new = synthetic::create_synthetic_resource(t, place, word, doms, parents);
-    if duplicates::is_duplicate(t, place, new, made, count) {
+    if duplicates::is_duplicate(t, place, word, doms, parents, made, count) {
         let none = Name {
             first: 255,
             second: 255,

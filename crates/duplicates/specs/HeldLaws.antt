@@ -1,5 +1,5 @@
 -- Laws of held makings.
-use mathlib.Core.Bool.{Bool, true, false, _&&_, _||_, not, or-false, and-false}
+use mathlib.Core.Bool.{Bool, true, false, _&&_, _||_, not, Bool·beq, or-false, and-false}
 use mathlib.Core.List.{List, [], _∷_, _++_}
 use mathlib.Core.Path.{_≡_, refl, sym, ap, _∙_}
 use Prim.Native.Nat.{ℕ, zero, suc, _+_, _*_, _≤_, _<_}
@@ -7,22 +7,25 @@ use native.Mathlib.Numerals.{add-one}
 use native.Mathlib.Omega.{arith}
 use borrow.Author.Tests.{ne-eqb, eqb-true, eqb-false}
 use lib.Dec.{eqb, ltb}
-use lib.ListN.{length, getD, set, length-set}
+use lib.ListN.{length, getD, set, length-set, length-append}
 use lib.Seq
-use Rattle.lists.specs.Lists.{any, null, keep}
-use Rattle.lists.specs.Tests.{by}
+use Rattle.lists.specs.Lists.{any, null, keep, sameList}
+use Rattle.lists.specs.Tests.{by, never, and-left, and-right, and-both}
 use Rattle.lists.specs.Appending.{any-append}
 use Rattle.rows.specs.declared.Row.{Row}
 use Rattle.definitions.specs.Records.{Name, Mark, Item, synthesized, extension}
 use Rattle.definitions.specs.Comparisons.{sameName, lookUp, dotted}
 use Rattle.definitions.specs.Map.{LineType}
-use Rattle.definitions.specs.Making.{declared, createSyntheticResource, extensionLine, sameItem}
+use Rattle.definitions.specs.Making.{declared, allVirtual, extensionParents, createSyntheticResource, extensionLine, sameItem}
 use Rattle.definitions.specs.Synthesis.{withMaking}
 use Rattle.fields.specs.Fields.{optional, twoWords}
+use Rattle.making.specs.Making.{itemOf}
+use Rattle.making.specs.MakingLaws.{length-parentsOf, length-marksOf}
+use Rattle.making.specs.declared.Making.{Making}
 use Rattle.table.specs.declared.Table.{Table}
 use Rattle.table.specs.Table.{nameAt, declarationAt, tableMap, Sound, Finds}
 use Rattle.table.specs.TableLaws.{declared-at, none-there}
-use Rattle.synthetic.specs.Made.{Fits, created}
+use Rattle.synthetic.specs.Made.{classesOf, firstsOf, Fits, created}
 use Rattle.store.specs.Store.{rowAt, putRow}
 use Rattle.store.specs.StoreLaws.{row-long, row-keeps, row-there, row-same}
 use Rattle.duplicates.specs.Held.{Makings, makingsIn, wordAt, domsAt, parentsAt, heldItems, Holding, Keeps}
@@ -78,6 +81,80 @@ module _ (t : Table) (T : ℕ) (h : Makings) (n : Name) (r : ℕ) (v : Bool) (ps
   pub unlike-word : (w : ℕ) (doms : Row) (qs : ℕ) → (w ≡ r → ⊥) → sameItem x (created t T w doms qs) ≡ false
   unfolding created createSyntheticResource sameItem
   unlike-word w doms qs e = rw (ne-eqb r w (λ z. e (sym z))) (and-false (sameName n (declarationAt t T .name)))
+
+-- likewise for the making of a word
+module _ (t : Table) (T : ℕ) (h : Makings) (r : ℕ) (doms : Row) (ps : ℕ) where
+  abbrev new : Item
+  new = created t T r doms ps
+
+  pub new-start : any (sameItem new) (heldItems t T h 0) ≡ false
+  unfolding created createSyntheticResource
+  new-start = held-start t T h _ _ _ _ _
+
+  pub new-next : (i : ℕ) → any (sameItem new) (heldItems t T h i) ≡ false → sameItem new (created t T (wordAt h i) (domsAt h i) (parentsAt h i)) ≡ false →
+      any (sameItem new) (heldItems t T h (i + 1)) ≡ false
+  unfolding created createSyntheticResource
+  new-next i p q = held-next t T h _ _ _ _ _ i p q
+
+  pub new-found : (i j : ℕ) → i < j → sameItem new (created t T (wordAt h i) (domsAt h i) (parentsAt h i)) ≡ true → any (sameItem new) (heldItems t T h j) ≡ true
+  unfolding created createSyntheticResource
+  new-found i j l q = held-found t T h _ _ _ _ _ i j l q
+
+  pub new-unlike : (w : ℕ) (e : Row) (qs : ℕ) → (w ≡ r → ⊥) → sameItem new (created t T w e qs) ≡ false
+  unfolding created createSyntheticResource
+  new-unlike w e qs l = unlike-word t T h _ _ _ _ _ w e qs l
+
+-- ---- makings of one word
+
+same-long : {A : Type 0} (same : A → A → Bool) (a b : List A) → sameList same a b ≡ true → length a ≡ length b
+same-long same [] [] e = refl
+same-long same [] (y ∷ b) e = never e refl
+same-long same (x ∷ a) [] e = never e refl
+same-long same (x ∷ a) (y ∷ b) e = ap suc (same-long same a b (and-right (same x y) (sameList same a b) e))
+
+-- lists that go on alike and are the same begin alike
+same-begin : {A : Type 0} (same : A → A → Bool) (a b k : List A) → sameList same (a ++ k) (b ++ k) ≡ true → sameList same a b ≡ true
+same-begin same [] [] k e = refl
+same-begin same [] (y ∷ b) k e = absurd (omega (arith, same-long same k (y ∷ b ++ k) e, length-append b k))
+same-begin same (x ∷ a) [] k e = absurd (omega (arith, same-long same (x ∷ a ++ k) k e, length-append a k))
+same-begin same (x ∷ a) (y ∷ b) k e =
+    and-both (and-left (same x y) (sameList same (a ++ k) (b ++ k)) e) (same-begin same a b k (and-right (same x y) (sameList same (a ++ k) (b ++ k)) e))
+
+-- behind the first parents the parents are those of T and r: where the first ones differ, the makings do
+pub firsts-unlike : (t : Table) (T r : ℕ) (d : Row) (ps : ℕ) (e : Row) (qs : ℕ) → sameList sameName (firstsOf t d ps r) (firstsOf t e qs r) ≡ false →
+    sameItem (created t T r d ps) (created t T r e qs) ≡ false
+unfolding created createSyntheticResource sameItem
+firsts-unlike t T r d ps e qs h =
+    let k = (tableMap t .resource ∷ []) ∷ extensionParents (tableMap t) (declarationAt t T .name) r in
+    let n = sameName (declarationAt t T .name) (declarationAt t T .name) in
+    let l : sameList sameName (firstsOf t d ps r ++ k) (firstsOf t e qs r ++ k) ≡ false =
+    by (sameList sameName (firstsOf t d ps r ++ k) (firstsOf t e qs r ++ k)) (λ y. never (same-begin sameName (firstsOf t d ps r) (firstsOf t e qs r) k y) h) (λ y. y) in
+    rw (l, and-false (Bool·beq (declarationAt t T .virtual && allVirtual (tableMap t) (classesOf d r)) (declarationAt t T .virtual && allVirtual (tableMap t) (classesOf e r))), and-false (eqb r r)) (and-false n)
+
+-- ---- the making's counts
+
+abbrev parentsIn : Item → List Name
+parentsIn (synthesized n r v ps ms) = ps
+parentsIn (extension n v t r) = []
+
+abbrev marksIn : Item → List Mark
+marksIn (synthesized n r v ps ms) = ms
+marksIn (extension n v t r) = []
+
+-- a making as the code holds it is within its arrays
+pub record Counted (new : Making) : Type 0 where
+  pub parents : new .parents .count ≤ 17
+  pub marks : new .marks .count ≤ 448
+
+pub counted : (t : Table) (T r : ℕ) (doms : Row) (ps : ℕ) (new : Making) → Fits t T r doms ps → itemOf new ≡ created t T r doms ps → Counted new
+unfolding created createSyntheticResource declarationAt
+counted t T r doms ps new f e =
+    let a = ap (λ x. length (parentsIn x)) e in
+    let b = ap (λ x. length (marksIn x)) e in
+    record {
+      parents = omega (arith, a, length-parentsOf (new .parents), length-append (firstsOf t doms ps r) ((tableMap t .resource ∷ []) ∷ extensionParents (tableMap t) (nameAt t T) r), f .firsts, f .added);
+      marks = omega (arith, b, length-marksOf (new .marks), f .marks);
+    }
 
 -- ---- one more
 

@@ -1,17 +1,16 @@
 // Whether a making is a duplicate: the type T.r is declared, or the same resource was made before (FORMAT 4.9).
 use fields::Name;
-use making::Making;
 use rows::Row;
 use table::Table;
 ghost use mathlib.Core.Bool.{not};
 ghost use mathlib.Core.Path.{_≡_};
-ghost use Prim.Native.Nat.{_+_, _<_, _≤_};
+ghost use Prim.Native.Nat.{_+_, _<_};
 ghost use Rattle.lists.specs.Lists.{any, null};
 ghost use Rattle.definitions.specs.Making.{declared, sameItem};
 ghost use Rattle.definitions.specs.Comparisons.{dotted};
 ghost use Rattle.definitions.specs.Synthesis.{isDuplicate};
-ghost use Rattle.making.specs.Making.{itemOf};
 ghost use Rattle.table.specs.Table.{nameAt, declarationAt, tableMap, Sound};
+ghost use Rattle.synthetic.specs.Made.{Fits, created};
 ghost use Rattle.duplicates.specs.Held.{makingsIn, heldItems, Holding, Keeps};
 
 // The makings of one type are lent as numbers, as they were made, six to a making: its word, the four of its doms, and the
@@ -46,23 +45,45 @@ pub fn is_declared(t: Table, place: usize, word: u8) -> bool
     p < count
 }
 
-// Whether an earlier making of the type is identical. Only those of the same word are made again.
-pub fn is_made(t: Table, place: usize, new: Making, made: &[u64; 2280], count: usize) -> bool
+// Whether two makings of a type and a word are identical, by their doms and the direct parents that they come from. Most
+// differ in their first parents, and then nothing else is looked up.
+fn is_same(t: Table, place: usize, word: u8, d: Row, ps: u64, e: Row, qs: u64) -> bool
     requires { ⌜ Sound t ⌝ }
-    requires { ⌜ Holding t place (makingsIn (now made) count) ⌝ }
-    requires { ⌜ (new .parents .count ≤ 17) × (new .marks .count ≤ 448) ⌝ }
-    ensures { λ r. ⌜ r ≡ any (sameItem (itemOf new)) (heldItems t place (makingsIn (now (made .entry)) count) count) ⌝ }
+    requires { ⌜ Fits t place word d ps × Fits t place word e qs ⌝ }
+    ensures { λ r. ⌜ r ≡ sameItem (created t place word d ps) (created t place word e qs) ⌝ }
 {
-    let word = new.word;
+    let p = synthetic::first_parents(&t.firsts, &t.seconds, t.count, d, ps, word);
+    let q = synthetic::first_parents(&t.firsts, &t.seconds, t.count, e, qs, word);
+    if !identical::same_parents(p, q) {
+        return false;
+    }
+    let new = synthetic::create_synthetic_resource(t, place, word, d, ps);
+    let old = synthetic::create_synthetic_resource(t, place, word, e, qs);
+    identical::same_item(new, old)
+}
+
+// Whether an earlier making of the type is identical to that of a word. Only those of the same word are compared.
+pub fn is_made(
+    t: Table,
+    place: usize,
+    word: u8,
+    doms: Row,
+    parents: u64,
+    made: &[u64; 2280],
+    count: usize,
+) -> bool
+    requires { ⌜ Sound t ⌝ }
+    requires { ⌜ Holding t place (makingsIn (now made) count) × Fits t place word doms parents ⌝ }
+    ensures { λ r. ⌜ r ≡ any (sameItem (created t place word doms parents)) (heldItems t place (makingsIn (now (made .entry)) count) count) ⌝ }
+{
     let number = word as u64;
     let mut i: usize = 0;
     while i < count {
         let at = 6 * i;
         if made[at] == number {
-            let d = store::row_at(made, at + 1);
-            let ps = made[at + 5];
-            let old = synthetic::create_synthetic_resource(t, place, word, d, ps);
-            if identical::same_item(new, old) {
+            let e = store::row_at(made, at + 1);
+            let qs = made[at + 5];
+            if is_same(t, place, word, doms, parents, e, qs) {
                 return true;
             }
         }
@@ -72,15 +93,21 @@ pub fn is_made(t: Table, place: usize, new: Making, made: &[u64; 2280], count: u
 }
 
 // Kind 6 (FORMAT 8.10): T.r is declared, or an earlier making is identical.
-pub fn is_duplicate(t: Table, place: usize, new: Making, made: &[u64; 2280], count: usize) -> bool
+pub fn is_duplicate(
+    t: Table,
+    place: usize,
+    word: u8,
+    doms: Row,
+    parents: u64,
+    made: &[u64; 2280],
+    count: usize,
+) -> bool
     requires { ⌜ Sound t ⌝ }
-    requires { ⌜ Holding t place (makingsIn (now made) count) ⌝ }
-    requires { ⌜ (place < t .count) × (new .word < 255) × (new .parents .count ≤ 17) × (new .marks .count ≤ 448) ⌝ }
-    ensures { λ r. ⌜ r ≡ isDuplicate (tableMap t) (declarationAt t place) (new .word) (itemOf new) (heldItems t place (makingsIn (now (made .entry)) count) count) ⌝ }
+    requires { ⌜ Holding t place (makingsIn (now made) count) × Fits t place word doms parents ⌝ }
+    ensures { λ r. ⌜ r ≡ isDuplicate (tableMap t) (declarationAt t place) word (created t place word doms parents) (heldItems t place (makingsIn (now (made .entry)) count) count) ⌝ }
 {
-    let word = new.word;
     if is_declared(t, place, word) {
         return true;
     }
-    is_made(t, place, new, made, count)
+    is_made(t, place, word, doms, parents, made, count)
 }

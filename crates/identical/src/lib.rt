@@ -55,7 +55,7 @@ fn parent_at(t: Parents, i: usize) -> Parent
     }
 }
 
-fn same_parents(a: Parents, b: Parents) -> bool
+pub fn same_parents(a: Parents, b: Parents) -> bool
     requires { ⌜ a .count ≤ 17 ⌝ }
     ensures { λ r. ⌜ r ≡ sameList sameName (parentsOf a) (parentsOf b) ⌝ }
 {

@@ -12,6 +12,7 @@ use Rattle.lists.specs.Tests.{by, never}
 use Rattle.emitting.specs.Emitting as emitting
 use Rattle.rows.specs.declared.Row.{Row}
 use Rattle.rows.specs.Rows.{has}
+use Rattle.rows.specs.Next.{First}
 use Rattle.definitions.specs.Records.{Name}
 use Rattle.definitions.specs.Making.{declared, isResourceVariant}
 use Rattle.definitions.specs.Map.{LineType}
@@ -23,7 +24,7 @@ use Rattle.table.specs.declared.Table.{Table}
 use Rattle.table.specs.Table.{declarationAt, Sound}
 use Rattle.table.specs.TableLaws.{declared-at}
 use Rattle.synthetic.specs.Made.{ClassAt, classesOf}
-use Rattle.synthetic.specs.MadeLaws.{between-step, between-end, class-names}
+use Rattle.synthetic.specs.MadeLaws.{between-step, between-end, rest-next, class-names}
 use Rattle.interpretation.specs.Emit.{emitBytes, emit, name-bytes}
 use Rattle.interpretation.specs.Judged.{className, isUnknown, isOther, classesWith}
 
@@ -50,6 +51,11 @@ module _ (f : Name → Bool) (doms : Row) (word k : ℕ) (h : k < 201) where
 pub classes-end : (f : Name → Bool) (doms : Row) (word k : ℕ) → 201 ≤ k → classesWith f doms word k (201 - k) ≡ []
 unfolding classesWith
 classes-end f doms word k h = rw (between-end (has doms) k 201 h)
+
+-- a walk to the next dom of the row passes no class
+pub classes-walk : (f : Name → Bool) (doms : Row) (word from k : ℕ) → First (has doms) 256 from k → classesWith f doms word from (201 - from) ≡ classesWith f doms word k (201 - k)
+unfolding classesWith
+classes-walk f doms word from k h = ap (λ l. filter f (map (className word) l)) (rest-next (has doms) 256 from k 201 h)
 
 -- the first of which f holds is the first that is kept
 pub first-with : (f : Name → Bool) (l : List Name) (c : Name) (k : List Name) → filter f l ≡ c ∷ k → firstOf f l ≡ c ∷ []
@@ -108,6 +114,9 @@ before-start f doms word = record { left = classes-with f doms word }
 pub before-next : (f : Name → Bool) (doms : Row) (word k : ℕ) → k < 201 → (has doms k && f (className word k)) ≡ false → Before f doms word k → Before f doms word (k + 1)
 before-next f doms word k h e b = record { left = sym (class-without f doms word k h e) ∙ b .left }
 
+pub before-walk : (f : Name → Bool) (doms : Row) (word from k : ℕ) → First (has doms) 256 from k → Before f doms word from → Before f doms word k
+before-walk f doms word from k h b = record { left = sym (classes-walk f doms word from k h) ∙ b .left }
+
 pub before-found : (f : Name → Bool) (doms : Row) (word k : ℕ) → k < 201 → (has doms k && f (className word k)) ≡ true → Before f doms word k →
     filter f (classesOf doms word) ≡ className word k ∷ classesWith f doms word (k + 1) (201 - (k + 1))
 before-found f doms word k h e b = sym (b .left) ∙ class-with f doms word k h e
@@ -150,6 +159,13 @@ module _ (t : Table) (place : ℕ) (doms : Row) (word limit : ℕ) (buf₀ : Lis
       record {
         same = w .same;
         rows = ap (λ l. emit limit (buf, n) (map (classRow 4 (declarationAt t place) word) l)) (sym (class-without (isUnknown t) doms word k h e)) ∙ w .rows;
+      }
+
+  pub written-walk : (from k : ℕ) (buf : List ℕ) (n : ℕ) → First (has doms) 256 from k → Written t place doms word limit from buf₀ n₀ buf n → Written t place doms word limit k buf₀ n₀ buf n
+  written-walk from k buf n h w =
+      record {
+        same = w .same;
+        rows = ap (λ l. emit limit (buf, n) (map (classRow 4 (declarationAt t place) word) l)) (sym (classes-walk (isUnknown t) doms word from k h)) ∙ w .rows;
       }
 
   pub written-one : (k : ℕ) (buf : List ℕ) (n : ℕ) → k < 201 → (has doms k && isUnknown t (className word k)) ≡ true → (buf′ : List ℕ) (n′ a b : ℕ) →

@@ -70,13 +70,13 @@ pub fn all_known(t: Table, doms: Row, word: u8) -> bool
     ensures { λ r. ⌜ r ≡ null (filter (isUnknown t) (classesOf doms word)) ⌝ }
 {
     let count = t.count;
-    let mut k: usize = 0;
+    let mut k = rows::next(doms, 0);
     while k < 201 {
         let p = synthetic::class_place(&t.firsts, &t.seconds, count, doms, k, word);
         if is_unknown(doms, k, p, count) {
             return false;
         }
-        k += 1;
+        k = rows::next(doms, k + 1);
     }
     true
 }
@@ -88,15 +88,15 @@ pub fn first_other(t: Table, doms: Row, word: u8) -> usize
     ensures { λ r. ⌜ (firstOf (isOther t) (classesOf doms word) ≡ classIf word r) × (r ≤ 201) ⌝ }
 {
     let count = t.count;
-    let mut k: usize = 0;
+    let mut k = rows::next(doms, 0);
     while k < 201 {
         let p = synthetic::class_place(&t.firsts, &t.seconds, count, doms, k, word);
         if is_other(p, count, t.variants[p]) {
             return k;
         }
-        k += 1;
+        k = rows::next(doms, k + 1);
     }
-    k
+    201
 }
 
 // A row of kind 4 for each unknown class, with the class as the other name (FORMAT 8.10).
@@ -119,14 +119,14 @@ pub fn unknown_rows(
         second: t.seconds[place],
     };
     let mut rows = n;
-    let mut k: usize = 0;
+    let mut k = rows::next(doms, 0);
     while k < 201 {
         let p = synthetic::class_place(&t.firsts, &t.seconds, count, doms, k, word);
         if is_unknown(doms, k, p, count) {
             let other = table::class_name(k, word);
             rows = put_row(buf, limit, rows, 4, subject, other, word);
         }
-        k += 1;
+        k = rows::next(doms, k + 1);
     }
     rows
 }

@@ -2,7 +2,7 @@
 use mathlib.Core.Bool.{Bool, true, false, _&&_, _||_, not, cond, or-false}
 use mathlib.Core.List.{List, [], _∷_, _++_, map}
 use mathlib.Core.Path.{_≡_, refl, sym, ap, _∙_}
-use Prim.Native.Nat.{ℕ, zero, suc, _+_, _-_, _≤_, _<_}
+use Prim.Native.Nat.{ℕ, zero, suc, _+_, _-_, _≤_, _<_, min}
 use native.Mathlib.Numerals.{add-one}
 use native.Mathlib.Omega.{arith}
 use borrow.Author.Tests.{eqb-true, eqb-false, not-true}
@@ -13,6 +13,7 @@ use Rattle.lists.specs.Tests.{by, never, and-left, and-right}
 use Rattle.rows.specs.declared.Row.{Row}
 use Rattle.rows.specs.Rows.{has}
 use Rattle.rows.specs.Lists.{between}
+use Rattle.rows.specs.Next.{First}
 use Rattle.definitions.specs.Records.{Name, AssociatedResource, Item}
 use Rattle.definitions.specs.Map.{LineType}
 use Rattle.definitions.specs.Synthesis.{judge, isDuplicate, Interpreted, interpreted, behindRows, interpretWords}
@@ -24,7 +25,7 @@ use Rattle.dedup.specs.ReadingLaws.{at}
 use Rattle.table.specs.declared.Table.{Table}
 use Rattle.table.specs.Table.{declarationAt, tableMap}
 use Rattle.synthetic.specs.Made.{classesOf, namesIn, firstsOf, created}
-use Rattle.synthetic.specs.MadeLaws.{between-step, between-end}
+use Rattle.synthetic.specs.MadeLaws.{between-step, between-end, rest-next}
 use Rattle.interpretation.specs.Emit.{emit}
 use Rattle.interpretation.specs.Judged.{isUnknown, isOther}
 use Rattle.duplicates.specs.Held.{Holding}
@@ -68,6 +69,20 @@ from-skipped D r w h e = rw (between-step (has r) w 200 h, e)
 from-end : (D : ℕ → Row) (r : Row) (w : ℕ) → 200 ≤ w → resourcesFrom D r w ≡ []
 unfolding resourcesFrom
 from-end D r w h = rw (between-end (has r) w 200 h)
+
+-- a walk to the next word passes none; behind the last it stands at 200
+first-below : (f : ℕ → Bool) (from k : ℕ) → from ≤ 200 → First f 256 from k → First f 200 from (min 200 k)
+first-below f from k l h =
+    record {
+      least = omega (arith, h .least);
+      most = omega arith;
+      none = λ i p q. h .none i p (omega arith);
+      some = λ q. let e : min 200 k ≡ k = omega arith in rw e (h .some (omega arith));
+    }
+
+from-walk : (D : ℕ → Row) (r : Row) (w k : ℕ) → w ≤ 200 → First (has r) 256 w k → resourcesFrom D r w ≡ resourcesFrom D r (min 200 k)
+unfolding resourcesFrom
+from-walk D r w k l h = ap (map (at D)) (rest-next (has r) 200 w (min 200 k) 200 (first-below (has r) w k l h))
 
 -- ---- a verdict fails where it adds a row, or where the annotation had failed
 
@@ -121,6 +136,13 @@ module _ (t : Table) (T : ℕ) (e : Entry) (doms : List Row) where
       (ap (λ us. interpretWords (tableMap t) (declarationAt t T) (namesIn t (e .parents)) us (p .failed) (itemsHeld t T (p .made)))
       (from-skipped (tableOf doms) (e .words) w h (by (has (e .words) w) (λ y. never (rw (y, x)) q) (λ y. y)))))
 
+  left-walk : (w k : ℕ) (p : Reached) → w ≤ 200 → First (has (e .words)) 256 w k → leftOf t T e doms w p ≡ leftOf t T e doms (min 200 k) p
+  unfolding leftOf
+  left-walk w k p l h =
+      by (p .ended)
+      (λ x. rw x)
+      (λ x. rw x (ap (λ us. interpretWords (tableMap t) (declarationAt t T) (namesIn t (e .parents)) us (p .failed) (itemsHeld t T (p .made))) (from-walk (tableOf doms) (e .words) w k l h)))
+
   left-taken : (limit w : ℕ) (p : Reached) (b : List ℕ) (q : Reached) (b′ : List ℕ) → w < 200 → has (e .words) w ≡ true → p .ended ≡ false →
       Stepped t T w (tableOf doms w) (e .parents) limit p b q b′ →
       leftOf t T e doms w p
@@ -161,6 +183,18 @@ module _ (t : Table) (T : ℕ) (e : Entry) (doms : List Row) where
           failed = ap (λ (i : Interpreted). p .failed || not (null (i .rows))) x ∙ o .failed;
           holding = o .holding;
           count = omega (arith, o .count, many-upto (has (e .words)) w (w + 1) (omega arith));
+        }
+
+    pub onward-walk : (k : ℕ) → w ≤ 200 → First (has (e .words)) 256 w k → Onward t T e doms limit s b (min 200 k) p b′
+    onward-walk k l h =
+        let x = sym (left-walk w k p l h) in
+        record {
+          same = o .same;
+          rows = ap (λ (i : Interpreted). emit limit (b′, p .rows) (i .rows)) x ∙ o .rows;
+          items = ap (λ (i : Interpreted). i .items) x ∙ o .items;
+          failed = ap (λ (i : Interpreted). p .failed || not (null (i .rows))) x ∙ o .failed;
+          holding = o .holding;
+          count = omega (arith, o .count, many-upto (has (e .words)) w (min 200 k) (omega (arith, h .least)));
         }
 
     pub onward-taken : (q : Reached) (b″ : List ℕ) → w < 200 → (has (e .words) w && not (p .ended)) ≡ true → length b″ ≡ length b′ →

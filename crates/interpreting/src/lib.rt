@@ -63,13 +63,13 @@ pub fn interpret_associate(
         rows: s.rows,
         made: s.made,
     };
-    let mut w: usize = 0;
+    let mut w = rows::next(words, 0);
     while w < 200 {
         if is_due(words, w, p.ended) {
             let d = doms[w];
             p = associates::interpret_word(t, place, w as u8, d, parents, p, made, buf, limit);
         }
-        w += 1;
+        w = rows::next(words, w + 1);
     }
     p
 }

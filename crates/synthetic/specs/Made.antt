@@ -16,6 +16,7 @@ use Rattle.definitions.specs.Comparisons.{sameName, dotted}
 use Rattle.definitions.specs.Map.{LineType}
 use Rattle.definitions.specs.Making.{declared, classNames, extensionParents, marksOf, allVirtual, createSyntheticResource}
 use Rattle.definitions.specs.Synthesis.{firstParents}
+use Rattle.fields.specs.Fields.{twoWords}
 use Rattle.making.specs.Making as making
 use Rattle.types.specs.Extensions.{zeroExtension}
 use Rattle.types.specs.declared.Extensions.{Extensions}
@@ -43,6 +44,13 @@ namesIn t ps = map (nameAt t) (below (hasBit ps) (t .count))
 -- the first parents: the classes of an own making; of an inherited one, P.r for the direct parents P in the row
 unfoldable pub firstsOf : Table → Row → ℕ → ℕ → List Name
 firstsOf t doms ps word = firstParents (namesIn t ps) (classesOf doms word) word
+
+-- both out of the names alone, as arrays of their words
+unfoldable pub namesAmong : List ℕ → List ℕ → ℕ → ℕ → List Name
+namesAmong firsts seconds count ps = map (λ i. twoWords (getD firsts i 0) (getD seconds i 0)) (below (hasBit ps) count)
+
+unfoldable pub firstsAmong : List ℕ → List ℕ → ℕ → Row → ℕ → ℕ → List Name
+firstsAmong firsts seconds count doms ps word = firstParents (namesAmong firsts seconds count ps) (classesOf doms word) word
 
 -- what the classes give
 pub record Gathers (t : Table) (doms : Row) (word : ℕ) (r : Gathered) : Type 0 where

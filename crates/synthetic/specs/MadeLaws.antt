@@ -2,11 +2,11 @@
 use mathlib.Core.Bool.{Bool, true, false, _&&_, and-assoc, and-true}
 use mathlib.Core.List.{List, [], _∷_, _++_, map, append-nil, append-assoc}
 use mathlib.Core.Path.{_≡_, refl, sym, ap, _∙_, subst}
-use Prim.Native.Nat.{ℕ, zero, suc, _+_, _-_, _/_, _%_, _≤_, _<_}
+use Prim.Native.Nat.{ℕ, zero, suc, _+_, _-_, _≤_, _<_}
 use native.Mathlib.Numerals.{add-one}
 use native.Mathlib.Omega.{arith}
-use borrow.Author.Tests.{lt-ltb, le-ltb, eq-eqb, ne-eqb, eqb-true, eqb-false}
-use lib.Dec.{eqb}
+use borrow.Author.Tests.{lt-ltb, le-ltb, ltb-true, ltb-false, eq-eqb, ne-eqb, eqb-true, eqb-false}
+use lib.Dec.{eqb, ltb}
 use lib.ListN.{length, getD, length-append, length-map}
 use Rattle.lists.specs.Lists.{all, each, filter}
 use Rattle.lists.specs.Tests.{by}
@@ -14,7 +14,9 @@ use Rattle.lists.specs.Appending.{each-append, each-each, all-append, all-each,
 use Rattle.lists.specs.Tabulating.{tabulate, tabulate-more}
 use Rattle.rows.specs.declared.Row.{Row}
 use Rattle.rows.specs.Rows.{has, hasBit}
-use Rattle.rows.specs.Lists.{between, below, between-same, between-none}
+use Rattle.rows.specs.Lists.{between, below, between-none}
+use Rattle.rows.specs.Next.{First}
+use Rattle.rows.specs.NextLaws.{from-next, from-all}
 use Rattle.rows.specs.RowLaws.{bit-none}
 use Rattle.annotations.specs.Reading.{domAt, domsOf}
 use Rattle.definitions.specs.Records.{Name}
@@ -23,7 +25,7 @@ use Rattle.definitions.specs.Comparisons.{sameName, dotted}
 use Rattle.definitions.specs.Map.{LineType}
 use Rattle.definitions.specs.Making.{declared, extensionParents, marksOf, allVirtual, createSyntheticResource}
 use Rattle.definitions.specs.Synthesis.{firstParents}
-use Rattle.fields.specs.Fields.{nameOf, ofNames}
+use Rattle.fields.specs.Fields.{twoWords, nameOf, ofNames}
 use Rattle.records.specs.Marks.{ofMarks}
 use Rattle.records.specs.MarkLaws.{length-ofMarks}
 use Rattle.types.specs.Extensions.{extensionOf, ofExtensions}
@@ -31,7 +33,7 @@ use Rattle.types.specs.declared.Extension.{Extension}
 use Rattle.table.specs.declared.Table.{Table}
 use Rattle.table.specs.Table.{nameAt, declarationAt, tableMap, zeroMarks, Sound, Finds, typeAt}
 use Rattle.table.specs.TableLaws.{declared-at}
-use Rattle.synthetic.specs.Made.{ClassAt, classTypes, classesOf, namesIn, firstsOf, givenBy, created}
+use Rattle.synthetic.specs.Made.{ClassAt, classTypes, classesOf, namesIn, firstsOf, namesAmong, firstsAmong, givenBy, created}
 
 -- ---- lists
 
@@ -43,6 +45,13 @@ between-step f k n h = let e : n - k ≡ suc (n - (k + 1)) = omega arith in rw (
 pub between-end : (f : ℕ → Bool) (k n : ℕ) → n ≤ k → between f k (n - k) ≡ []
 unfolding between
 between-end f k n h = let e : n - k ≡ 0 = omega arith in rw e
+
+-- a walk from a number to the next of which f holds passes nothing
+pub rest-next : (f : ℕ → Bool) (top from k n : ℕ) → First f top from k → between f from (n - from) ≡ between f k (n - k)
+rest-next f top from k n h =
+    by (ltb n k)
+    (λ e. from-all f top from k n h (omega (arith, ltb-true n k e)) ∙ sym (between-end f k n (omega (arith, ltb-true n k e))))
+    (λ e. from-next f top from k n h (omega (arith, ltb-false n k e)))
 
 -- no parents
 pub names-none : (t : Table) → namesIn t 0 ≡ []
@@ -141,6 +150,16 @@ module _ (t : Table) (s : Sound t) (doms : Row) (word k r : ℕ) (h : k < 201) (
         length-ofMarks (getD (t .marks) r zeroMarks),
       )
 
+pub stage-next : (t : Table) (doms : Row) (word from k : ℕ) (ms : List records.Mark) (v : Bool) → First (has doms) 256 from k → Stage t doms word from ms v → Stage t doms word k ms v
+unfolding classTypes
+stage-next t doms word from k ms v h g =
+    let e : classTypes t doms word from (201 - from) ≡ classTypes t doms word k (201 - k) =
+    ap (λ l. each (declared (tableMap t)) (map (λ d. dotted (domAt d) word) l)) (rest-next (has doms) 256 from k 201 h) in
+    record {
+      marks = ap (λ x. ms ++ each (λ (D : LineType). D .marks) x) (sym e) ∙ g .marks;
+      flag = ap (λ x. v && all (λ (D : LineType). D .virtual) x) (sym e) ∙ g .flag;
+    }
+
 pub stage-end : (t : Table) (doms : Row) (word k : ℕ) (ms : List records.Mark) (v : Bool) → 201 ≤ k → Stage t doms word k ms v
     → (ms ≡ marksOf (tableMap t) (classesOf doms word)) × (v ≡ allVirtual (tableMap t) (classesOf doms word))
 stage-end t doms word k ms v h g =
@@ -175,22 +194,23 @@ module _ {A : Type 0} (g : ℕ → A) (f : ℕ → Bool) (n k : ℕ) (acc : List
       let z = left-taken h e (acc ++ (g k ∷ [])) refl l .rest in
       omega (arith, simp length-append at (ap length z))
 
+pub left-next : {A : Type 0} (g : ℕ → A) (f : ℕ → Bool) (top from k n : ℕ) (acc : List A) → First f top from k → Left g f n from acc → Left g f n k acc
+left-next g f top from k n acc h l = record { rest = ap (λ x. acc ++ map g x) (sym (rest-next f top from k n h)) ∙ l .rest }
+
 -- ---- names
 
 pub finds-named : {firsts seconds : List ℕ} {count : ℕ} {a b : Name} {r : ℕ} → a ≡ b → Finds firsts seconds count a r → Finds firsts seconds count b r
 finds-named {firsts} {seconds} {count} {a} {b} {r} e f = subst (λ n. Finds firsts seconds count n r) e f
 
--- a row of 64 as a row
-has-places : (ps k : ℕ) → k < 64 → has (record { a = ps; b = 0; c = 0; d = 0 }) k ≡ hasBit ps k
-unfolding has hasBit
-has-places ps k h = let p : k / 64 ≡ 0 = omega arith in let q : k % 64 ≡ k = omega arith in rw (p, q)
+pub inherited-names : (firsts seconds : List ℕ) (count ps word : ℕ)
+    → map (λ i. dotted (twoWords (getD firsts i 0) (getD seconds i 0)) word) (below (hasBit ps) count) ≡ map (λ P. dotted P word) (namesAmong firsts seconds count ps)
+unfolding namesAmong
+inherited-names firsts seconds count ps word = sym (map-map (λ P. dotted P word) (λ i. twoWords (getD firsts i 0) (getD seconds i 0)) (below (hasBit ps) count))
 
-pub inherited-names : (t : Table) (ps word : ℕ) → t .count ≤ 64 →
-    map (λ i. dotted (nameAt t i) word) (below (has (record { a = ps; b = 0; c = 0; d = 0 })) (t .count)) ≡ map (λ P. dotted P word) (namesIn t ps)
-unfolding namesIn
-inherited-names t ps word h =
-    ap (map (λ i. dotted (nameAt t i) word)) (between-same _ (hasBit ps) 0 (t .count) (λ k a b. has-places ps k (omega arith)))
-    ∙ sym (map-map (λ P. dotted P word) (nameAt t) (below (hasBit ps) (t .count)))
+-- the names of a table
+pub firsts-in : (t : Table) (doms : Row) (ps word : ℕ) → firstsOf t doms ps word ≡ firstsAmong (t .firsts) (t .seconds) (t .count) doms ps word
+unfolding firstsOf firstsAmong namesIn namesAmong
+firsts-in t doms ps word = refl
 
 pub class-names : (doms : Row) (word : ℕ) → map (λ d. dotted (domAt d) word) (below (has doms) 201) ≡ classesOf doms word
 unfolding domsOf

@@ -22,7 +22,7 @@ ghost use Rattle.definitions.specs.Comparisons.{dotted};
 ghost use Rattle.records.specs.Marks.{ofMarks};
 ghost use Rattle.types.specs.Extensions.{extensionOf, ofExtensions};
 ghost use Rattle.table.specs.Table.{tableMap, Sound, typeAt};
-ghost use Rattle.synthetic.specs.Made.{ClassAt, classesOf, namesIn, firstsOf, givenBy, Short, Gathers, Fits, created};
+ghost use Rattle.synthetic.specs.Made.{ClassAt, classesOf, namesAmong, firstsAmong, firstsOf, givenBy, Short, Gathers, Fits, created};
 
 // What the classes of a making give it: whether all are virtual, and their marks.
 pub struct Gathered {
@@ -102,7 +102,7 @@ pub fn gather(t: Table, doms: Row, word: u8) -> Gathered
         all_virtual: true,
         marks: none,
     };
-    let mut k: usize = 0;
+    let mut k = rows::next(doms, 0);
     while k < 201 {
         let p = class_place(&t.firsts, &t.seconds, count, doms, k, word);
         if p < count {
@@ -110,7 +110,7 @@ pub fn gather(t: Table, doms: Row, word: u8) -> Gathered
             let m = t.marks[p];
             g = with_class(g, v, m);
         }
-        k += 1;
+        k = rows::next(doms, k + 1);
     }
     g
 }
@@ -121,52 +121,55 @@ fn class_parents(doms: Row, word: u8) -> Parents
     ensures { λ r. ⌜ parentsOf r ≡ classesOf doms word ⌝ }
 {
     let mut r = making::no_parents();
-    let mut k: usize = 0;
+    let mut k = rows::next(doms, 0);
     while k < 201 {
-        if rows::holds(doms, k) {
-            let n = table::class_name(k, word);
-            let p = making::named(n);
-            r = making::with_parent(r, p);
-        }
-        k += 1;
+        let n = table::class_name(k, word);
+        let p = making::named(n);
+        r = making::with_parent(r, p);
+        k = rows::next(doms, k + 1);
     }
     r
 }
 
 // The first parents of an inherited resource: P.r for the types P of the row, in name order (FORMAT 4.4).
-fn inherited_parents(t: Table, parents: u64, word: u8) -> Parents
-    requires { ⌜ (t .count ≤ 64) × (word < 255) × (length (namesIn t parents) ≤ 8) ⌝ }
-    ensures { λ r. ⌜ parentsOf r ≡ map (λ P. dotted P word) (namesIn t parents) ⌝ }
+fn inherited_parents<'a>(
+    firsts: &'a [u8; 65],
+    seconds: &'a [u8; 65],
+    count: usize,
+    parents: u64,
+    word: u8,
+) -> Parents
+    requires { ⌜ (count ≤ 64) × (word < 255) × (length (namesAmong (now firsts) (now seconds) count parents) ≤ 8) ⌝ }
+    ensures { λ r. ⌜ parentsOf r ≡ map (λ P. dotted P word) (namesAmong (now (firsts .entry)) (now (seconds .entry)) count parents) ⌝ }
 {
-    let count = t.count;
-    let places = Row {
-        a: parents,
-        b: 0,
-        c: 0,
-        d: 0,
-    };
     let mut r = making::no_parents();
-    let mut i: usize = 0;
+    let mut i = rows::next_type(parents, 0);
     while i < count {
-        if rows::holds(places, i) {
-            let n = Name {
-                first: t.firsts[i],
-                second: t.seconds[i],
-            };
-            let p = making::resource_of(n, word);
-            r = making::with_parent(r, p);
-        }
-        i += 1;
+        let n = Name {
+            first: firsts[i],
+            second: seconds[i],
+        };
+        let p = making::resource_of(n, word);
+        r = making::with_parent(r, p);
+        i = rows::next_type(parents, i + 1);
     }
     r
 }
 
-// An own making has none of the inherited ones.
-fn first_parents(t: Table, doms: Row, parents: u64, word: u8) -> Parents
-    requires { ⌜ (t .count ≤ 64) × (word < 255) × (length (firstsOf t doms parents word) ≤ 8) ⌝ }
-    ensures { λ r. ⌜ parentsOf r ≡ firstsOf t doms parents word ⌝ }
+// The first parents. An own making has none of the inherited ones. The names are lent, since there is a call for each
+// comparison.
+pub fn first_parents<'a>(
+    firsts: &'a [u8; 65],
+    seconds: &'a [u8; 65],
+    count: usize,
+    doms: Row,
+    parents: u64,
+    word: u8,
+) -> Parents
+    requires { ⌜ (count ≤ 64) × (word < 255) × (length (firstsAmong (now firsts) (now seconds) count doms parents word) ≤ 8) ⌝ }
+    ensures { λ r. ⌜ parentsOf r ≡ firstsAmong (now (firsts .entry)) (now (seconds .entry)) count doms parents word ⌝ }
 {
-    let p = inherited_parents(t, parents, word);
+    let p = inherited_parents(firsts, seconds, count, parents, word);
     if p.count == 0 {
         return class_parents(doms, word);
     }
@@ -234,7 +237,7 @@ fn parents_of(t: Table, n: Name, doms: Row, parents: u64, word: u8) -> Parents
     requires { ⌜ (word < 255) × (length (firstsOf t doms parents word) ≤ 8) × (length (extensionParents (tableMap t) (nameOf n) word) ≤ 8) ⌝ }
     ensures { λ r. ⌜ parentsOf r ≡ firstsOf t doms parents word ++ (t .resource ∷ []) ∷ extensionParents (tableMap t) (nameOf n) word ⌝ }
 {
-    let firsts = first_parents(t, doms, parents, word);
+    let firsts = first_parents(&t.firsts, &t.seconds, t.count, doms, parents, word);
     let one = Name {
         first: t.resource,
         second: 255,

@@ -9,7 +9,7 @@ use Rattle.synthetic.specs.Made.{classesOf}
 use Rattle.interpretation.specs.Judged.{className, isOther}
 use Rattle.associates.specs.Step.{itemsHeld}
 use Rattle.duplicates.specs.Held.{makingsIn}
-use Rattle.associates.specs.StepLaws.{verdict-other, verdict-last, counted, row-one, row-none, no-rows, named-at, by-verdict, duplicate-same}
+use Rattle.associates.specs.StepLaws.{verdict-other, verdict-last, row-one, row-none, no-rows, named-at, by-verdict}
 use borrow.Author.Needs.{needs}
 use Rattle.associates.proofs.interpret_known.Statement.{statement}
 use Rattle.associates.proofs.interpret_known.Tie as tie
@@ -19,34 +19,26 @@ use Rattle.duplicates.proofs.is_duplicate.Reads as is-duplicate-reads
 use Rattle.duplicates.proofs.put_making.Reads as put-making-reads
 use Rattle.interpretation.proofs.first_other.Reads as first-other-reads
 use Rattle.interpretation.proofs.put_row.Reads as put-row-reads
-use Rattle.synthetic.proofs.create_synthetic_resource.Reads as create-synthetic-resource-reads
 use Rattle.table.proofs.class_name.Reads as class-name-reads
 
--- src/lib.rt:30:16
-element-copy-out-t22 : tie.Need-element-copy-out-t22
-element-copy-out-t22 c = search needs
+element-copy-out-t21 : tie.Need-element-copy-out-t21
+element-copy-out-t21 c = search needs
 
--- src/lib.rt:31:17
-element-copy-out-t25 : tie.Need-element-copy-out-t25
-element-copy-out-t25 c = search needs
+element-copy-out-t24 : tie.Need-element-copy-out-t24
+element-copy-out-t24 c = search needs
 
--- src/lib.rt:33:9
 first-other-requires : tie.Need-first-other-requires
 first-other-requires c κs = search needs
 
--- src/lib.rt:35:13
 class-name-requires : tie.Need-class-name-requires
 class-name-requires c κs = search needs
 
--- src/lib.rt:36:13
 put-row-requires : tie.Need-put-row-requires
 put-row-requires c κs = search needs
 
--- src/lib.rt:37:9
 same-length : tie.Need-same-length
 same-length c = search needs
 
--- src/lib.rt:37:9
 returns : tie.Need-returns
 returns c =
     let s = c .before .before .before .before .before .before .before .before .before .before in
@@ -65,40 +57,25 @@ returns c =
       count = omega arith;
     })
 
--- src/lib.rt:44:9
-create-synthetic-resource-requires : tie.Need-create-synthetic-resource-requires
-create-synthetic-resource-requires c κs = search needs
-
--- src/lib.rt:45:8
 is-duplicate-requires : tie.Need-is-duplicate-requires
-is-duplicate-requires c κs =
-    let s = c .before .before .before .before .before .before .before in
-    let a = s .args in
-    let f = s .pre .0 .fits in
-    let k = counted (a .t1) (a .place) (a .word) (a .doms) (a .parents) (c .before .create-synthetic-resource .result) f (c .before .create-synthetic-resource .ensures) in
-    (s .pre .0 .sound, (s .pre .0 .holding, (f .place, omega (arith, k .word, f .word), k .parents, k .marks)))
+is-duplicate-requires c κs = search needs
 
--- src/lib.rt:50:13
 put-row-requires-2 : tie.Need-put-row-requires-2
 put-row-requires-2 c κs = search needs
 
--- src/lib.rt:51:9
 same-length-2 : tie.Need-same-length-2
 same-length-2 c = search needs
 
--- src/lib.rt:51:9
 returns-2 : tie.Need-returns-2
 returns-2 c =
-    let s = c .before .before .before .before .before .before .before .before .before .before .before .before .before in
+    let s = c .before .before .before .before .before .before .before .before .before .before .before .before in
     let a = s .args in
-    let n = c .before .before .before .before .before .before .before .create-synthetic-resource in
-    let o = c .before .before .before .before .before .before .before .before .before .first-other in
-    let k = counted (a .t1) (a .place) (a .word) (a .doms) (a .parents) (n .result) (s .pre .0 .fits) (n .ensures) in
+    let o = c .before .before .before .before .before .before .before .before .first-other in
     let q : firstOf (isOther (a .t1)) (classesOf (a .doms) (a .word)) ≡ [] =
-    o .ensures .0 ∙ ap (λ b. cond b (className (a .word) (o .result) ∷ []) []) (le-ltb (o .result) 201 (c .before .before .before .before .before .before .before .before .if1 .left)) in
+    o .ensures .0 ∙ ap (λ b. cond b (className (a .word) (o .result) ∷ []) []) (le-ltb (o .result) 201 (c .before .before .before .before .before .before .before .if1 .left)) in
     by-verdict
     (verdict-last (a .t1) (a .place) (a .word) (a .doms) (a .parents) (a .s .failed) (itemsHeld (a .t1) (a .place) (makingsIn (a .made .now) (a .s .made))) true (s .pre .1 .0) (s .pre .1 .1) q
-    (duplicate-same _ _ _ _ _ _ _ _ _ (c .before .before .before .before .before .is-duplicate .ensures) (k .word) (n .ensures) (c .before .before .before .before .if2 .taken)))
+    (sym (c .before .before .before .before .if2 .taken) ∙ c .before .before .before .before .before .is-duplicate .ensures))
     (record {
       rows = row-none (a .limit) 6 (declarationAt (a .t1) (a .place)) (a .word) _ _ _ _ (named-at (a .t1) (a .place)) (c .before .before .put-row2 .ensures);
       ended = refl;
@@ -108,26 +85,22 @@ returns-2 c =
       count = omega arith;
     })
 
--- src/lib.rt:58:9
 put-making-requires : tie.Need-put-making-requires
 put-making-requires c κs = search needs
 
-add-t36 : tie.Need-add-t36
-add-t36 c = search needs
+add-t35 : tie.Need-add-t35
+add-t35 c = search needs
 
--- src/lib.rt:22:1
 returns-3 : tie.Need-returns-3
 returns-3 c =
-    let s = c .before .before .before .before .before .before .before .before .before .before .before in
+    let s = c .before .before .before .before .before .before .before .before .before .before in
     let a = s .args in
-    let n = c .before .before .before .before .before .create-synthetic-resource in
-    let o = c .before .before .before .before .before .before .before .first-other in
-    let k = counted (a .t1) (a .place) (a .word) (a .doms) (a .parents) (n .result) (s .pre .0 .fits) (n .ensures) in
+    let o = c .before .before .before .before .before .before .first-other in
     let q : firstOf (isOther (a .t1)) (classesOf (a .doms) (a .word)) ≡ [] =
-    o .ensures .0 ∙ ap (λ b. cond b (className (a .word) (o .result) ∷ []) []) (le-ltb (o .result) 201 (c .before .before .before .before .before .before .if1 .left)) in
+    o .ensures .0 ∙ ap (λ b. cond b (className (a .word) (o .result) ∷ []) []) (le-ltb (o .result) 201 (c .before .before .before .before .before .if1 .left)) in
     by-verdict
     (verdict-last (a .t1) (a .place) (a .word) (a .doms) (a .parents) (a .s .failed) (itemsHeld (a .t1) (a .place) (makingsIn (a .made .now) (a .s .made))) false (s .pre .1 .0) (s .pre .1 .1) q
-    (duplicate-same _ _ _ _ _ _ _ _ _ (c .before .before .before .is-duplicate .ensures) (k .word) (n .ensures) (c .before .before .if2 .left)))
+    (sym (c .before .before .if2 .left) ∙ c .before .before .before .is-duplicate .ensures))
     (record {
       rows = no-rows (a .limit) _;
       ended = refl;
@@ -141,18 +114,17 @@ pub interpret-known-spec : {M : Type 1} → statement M
 interpret-known-spec =
     tie.close
     (tie.spec
-    element-copy-out-t22
-    element-copy-out-t25
+    element-copy-out-t21
+    element-copy-out-t24
     first-other-requires
     class-name-requires
     put-row-requires
     same-length
     returns
-    create-synthetic-resource-requires
     is-duplicate-requires
     put-row-requires-2
     same-length-2
     returns-2
     put-making-requires
-    add-t36
+    add-t35
     returns-3)

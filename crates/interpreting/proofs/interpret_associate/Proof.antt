@@ -1,60 +1,67 @@
 use mathlib.Core.Logic.{⊎-elim}
-use mathlib.Core.Path.{sym, _∙_}
-use Prim.Native.Nat.{ℕ, _-_, _≤_, _<_}
+use mathlib.Core.List.{List}
+use mathlib.Core.Path.{_≡_, sym, _∙_, subst}
+use Prim.Native.Nat.{ℕ, _-_, _≤_, _<_, min}
 use native.Mathlib.Omega.{arith}
 use borrow.Author.Needs.{needs}
 use Rattle.lists.specs.Tests.{and-left}
 use Rattle.rows.specs.declared.Row.{Row}
 use Rattle.dedup.specs.declared.Entry.{Entry}
-use Rattle.associates.specs.Step.{reached}
+use Rattle.table.specs.declared.Table.{Table}
+use Rattle.associates.specs.Step.{Reached, reached}
 use Rattle.interpreting.specs.Entry.{interpretEntry}
-use Rattle.interpreting.specs.EntryLaws.{Onward, onward-start, onward-skipped, onward-taken, onward-room, onward-end}
+use Rattle.interpreting.specs.EntryLaws.{Onward, onward-start, onward-skipped, onward-walk, onward-taken, onward-room, onward-end}
 use Rattle.interpreting.proofs.interpret_associate.Statement.{statement}
 use Rattle.interpreting.proofs.interpret_associate.Tie as tie
 use Rattle.interpreting.proofs.interpret_associate.Reads as reads
 use Rattle.interpreting.proofs.interpret_associate.Lts as lts
 use Rattle.associates.proofs.interpret_word.Reads as interpret-word-reads
 use Rattle.interpreting.proofs.is_due.Reads as is-due-reads
+use Rattle.rows.proofs.next.Reads as next-reads
 
 -- an entry of these words and parents: what comes of it does not depend on its kind
 abbrev entry : Row → ℕ → Entry
 entry words parents = record { kind = 1; words = words; parents = parents }
 
+-- before a word that is below 200
+at-word : (t : Table) (T : ℕ) (e : Entry) (doms : List Row) (limit : ℕ) (s : Reached) (b : List ℕ) (w : ℕ) (p : Reached) (b′ : List ℕ) → w < 200
+    → Onward t T e doms limit s b (min 200 w) p b′ → Onward t T e doms limit s b w p b′
+at-word t T e doms limit s b w p b′ h o = let z : min 200 w ≡ w = omega arith in subst (λ (n : ℕ). Onward t T e doms limit s b n p b′) z o
+
 abbrev Inv-loop : tie.InvT-loop
 Inv-loop t place made₀ buf₀ limit doms words parents p₀ w₀ made buf p w =
-    (w ≤ 200) × Onward t place (entry words parents) doms limit (reached p₀ made₀) buf₀ w (reached p made) buf
+    (w ≤ 256) × Onward t place (entry words parents) doms limit (reached p₀ made₀) buf₀ (min 200 w) (reached p made) buf
 
 abbrev μ-loop : tie.MeasureT-loop
-μ-loop t place made₀ buf₀ limit doms words parents p₀ w₀ made buf p w = 200 - w
+μ-loop t place made₀ buf₀ limit doms words parents p₀ w₀ made buf p w = 256 - w
 
--- src/lib.rt:67:5
+next-requires : tie.Need-next-requires Inv-loop μ-loop
+next-requires c κs = search needs
+
 loop-holds : tie.Need-loop-holds Inv-loop μ-loop
-loop-holds c = (omega arith, onward-start _ _ _ _ _ _ _ (c .before .before .pre .holding))
+loop-holds c =
+    let n = c .next .ensures in
+    (n .most, onward-walk _ _ _ _ _ _ _ 0 _ _ (onward-start _ _ _ _ _ _ _ (c .before .before .before .pre .holding)) _ (omega arith) n)
 
--- src/lib.rt:68:12
 is-due-requires : tie.Need-is-due-requires Inv-loop μ-loop
 is-due-requires c κs = search needs
 
--- src/lib.rt:69:21
 mul-d : tie.Need-mul-d Inv-loop μ-loop
 mul-d c = search needs
 
--- src/lib.rt:69:21
 array-copy-out-d : tie.Need-array-copy-out-d Inv-loop μ-loop
 array-copy-out-d c = search needs
 
--- src/lib.rt:70:54
 cast-interpret-word : tie.Need-cast-interpret-word Inv-loop μ-loop
 cast-interpret-word c = search needs
 
--- src/lib.rt:70:13
 interpret-word-requires : tie.Need-interpret-word-requires Inv-loop μ-loop
 interpret-word-requires c κs =
-    let s = c .before .before .before .before .before .before .before .before .before in
+    let s = c .before .before .before .before .before .before .before .before .before .before in
     let a = s .args in
     let l = c .before .before .before .before .before .before .loop in
-    let o = l .inv .1 in
     let h : l .w < 200 = omega arith in
+    let o = at-word _ _ _ _ _ _ _ (l .w) _ _ h (l .inv .1) in
     let z = sym (c .before .before .before .before .is-due .ensures) ∙ c .before .before .before .if1 .taken in
     record {
       sound = s .pre .sound;
@@ -65,45 +72,49 @@ interpret-word-requires c κs =
       few = s .pre .few;
     }
 
--- src/lib.rt:72:9
-add-w : tie.Need-add-w Inv-loop μ-loop
-add-w c = search needs
+add-next : tie.Need-add-next Inv-loop μ-loop
+add-next c = search needs
 
--- src/lib.rt:67:5
+next-requires-2 : tie.Need-next-requires-2 Inv-loop μ-loop
+next-requires-2 c κs = search needs
+
 loop-less : tie.Need-loop-less Inv-loop μ-loop
 loop-less c = search needs
 
--- src/lib.rt:67:5
 loop-again : tie.Need-loop-again Inv-loop μ-loop
 loop-again c =
-    let s = c .before .before .before .before .before .before in
+    let s = c .before .before .before .before .before .before .before .before in
     let a = s .args in
-    let l = c .before .before .before .loop in
+    let l = c .before .before .before .before .loop in
     let h : l .w < 200 = omega arith in
+    let o = at-word _ _ _ _ _ _ _ (l .w) _ _ h (l .inv .1) in
+    let n = c .next2 .ensures in
     ⊎-elim
     (λ w.
     rw (w .7, w .8, w .9) (
-      omega arith,
-      onward-taken (a .t) (a .place) (entry (a .e .words) (a .e .parents)) (a .t4) (a .limit) _ (a .buf .now) (l .w) (reached (l .p) (l .made)) (l .buf) (l .inv .1) _ _ h (sym (c .before .is-due .ensures) ∙ w .0 .taken) (w .4 .kept .1 .1 .1 .1 .1 .1 .1 .0) (w .4 .ensures),
+      n .most,
+      onward-walk _ _ _ _ _ _ _ _ _ _
+          (onward-taken (a .t) (a .place) (entry (a .e .words) (a .e .parents)) (a .t4) (a .limit) _ (a .buf .now) (l .w) (reached (l .p) (l .made)) (l .buf) o _ _ h (sym (c .before .before .is-due .ensures) ∙ w .0 .taken) (w .4 .kept .1 .1 .1 .1 .1 .1 .1 .0) (w .4 .ensures))
+          _ (omega arith) n,
     ))
     (λ w.
     rw (w .1, w .2, w .3) (
-      omega arith,
-      onward-skipped (a .t) (a .place) (entry (a .e .words) (a .e .parents)) (a .t4) (a .limit) _ (a .buf .now) (l .w) (reached (l .p) (l .made)) (l .buf) (l .inv .1) h (sym (c .before .is-due .ensures) ∙ w .0 .left),
+      n .most,
+      onward-walk _ _ _ _ _ _ _ _ _ _
+          (onward-skipped (a .t) (a .place) (entry (a .e .words) (a .e .parents)) (a .t4) (a .limit) _ (a .buf .now) (l .w) (reached (l .p) (l .made)) (l .buf) o h (sym (c .before .before .is-due .ensures) ∙ w .0 .left))
+          _ (omega arith) n,
     ))
-    (c .if1 .came)
+    (c .before .if1 .came)
 
--- src/lib.rt:45:1
 same-length : tie.Need-same-length Inv-loop μ-loop
 same-length c = c .before .loop .inv .1 .same
 
--- src/lib.rt:45:1
 returns : tie.Need-returns Inv-loop μ-loop
 unfolding interpretEntry
 returns c =
-    let s = c .before .before .before .before in
+    let s = c .before .before .before .before .before in
     let l = c .before .loop in
-    let d = onward-end (s .args .t) (s .args .place) (entry (s .args .e .words) (s .args .e .parents)) (s .args .t4) (s .args .limit) _ (s .args .buf .now) (l .w) (reached (l .p) (l .made)) (l .buf) (l .inv .1) (omega arith) (l .inv .0) in
+    let d = onward-end (s .args .t) (s .args .place) (entry (s .args .e .words) (s .args .e .parents)) (s .args .t4) (s .args .limit) _ (s .args .buf .now) (min 200 (l .w)) (reached (l .p) (l .made)) (l .buf) (l .inv .1) (omega arith) (omega arith) in
     record { rows = d .rows; items = d .items; failed = d .failed; holding = d .holding; count = d .count }
 
 pub interpret-associate-spec : {M : Type 1} → statement M
@@ -112,13 +123,15 @@ interpret-associate-spec =
     (tie.spec
     Inv-loop
     μ-loop
+    next-requires
     loop-holds
     is-due-requires
     mul-d
     array-copy-out-d
     cast-interpret-word
     interpret-word-requires
-    add-w
+    add-next
+    next-requires-2
     loop-less
     loop-again
     same-length

@@ -4,7 +4,7 @@ use native.Mathlib.Omega.{arith}
 use lib.ListN.{length}
 use Rattle.definitions.specs.Comparisons.{dotted}
 use Rattle.making.specs.MakingLaws.{length-parentsOf}
-use Rattle.synthetic.specs.Made.{classesOf, namesIn, firstsOf}
+use Rattle.synthetic.specs.Made.{classesOf, namesAmong, firstsAmong}
 use Rattle.synthetic.specs.MadeLaws.{firsts-room, firsts-own, firsts-inherited}
 use Rattle.synthetic.proofs.first_parents.Statement.{statement}
 use Rattle.synthetic.proofs.first_parents.Tie as tie
@@ -13,34 +13,30 @@ use Rattle.synthetic.proofs.first_parents.Lts as lts
 use Rattle.synthetic.proofs.class_parents.Reads as class-parents-reads
 use Rattle.synthetic.proofs.inherited_parents.Reads as inherited-parents-reads
 
--- src/lib.rt:161:9
 inherited-parents-requires : tie.Need-inherited-parents-requires
-unfolding firstsOf
-inherited-parents-requires c κs = let a = c .args in (omega arith, omega arith, firsts-room (namesIn (a .t) (a .parents)) (classesOf (a .doms) (a .word)) (a .word) (c .pre .2))
+unfolding firstsAmong
+inherited-parents-requires c κs = let a = c .args in (omega arith, omega arith, firsts-room (namesAmong (a .firsts .now) (a .seconds .now) (a .count) (a .parents)) (classesOf (a .doms) (a .word)) (a .word) (c .pre .2))
 
--- src/lib.rt:163:9
 class-parents-requires : tie.Need-class-parents-requires
-unfolding firstsOf
+unfolding firstsAmong
 class-parents-requires c κs =
     let a = c .before .before .before .args in
-    let z : length (map (λ P. dotted P (a .word)) (namesIn (a .t) (a .parents))) ≡ 0 = sym (ap length (c .before .before .inherited-parents .ensures)) ∙ length-parentsOf _ ∙ c .if1 .taken in
-    (omega arith, omega (arith, c .before .before .before .pre .2, ap length (firsts-own (namesIn (a .t) (a .parents)) (classesOf (a .doms) (a .word)) (a .word) z)))
+    let z : length (map (λ P. dotted P (a .word)) (namesAmong (a .firsts .now) (a .seconds .now) (a .count) (a .parents))) ≡ 0 = sym (ap length (c .before .before .inherited-parents .ensures)) ∙ length-parentsOf _ ∙ c .if1 .taken in
+    (omega arith, omega (arith, c .before .before .before .pre .2, ap length (firsts-own (namesAmong (a .firsts .now) (a .seconds .now) (a .count) (a .parents)) (classesOf (a .doms) (a .word)) (a .word) z)))
 
--- src/lib.rt:163:9
 returns : tie.Need-returns
-unfolding firstsOf
+unfolding firstsAmong
 returns c =
     let a = c .before .before .before .before .args in
-    let z : length (map (λ P. dotted P (a .word)) (namesIn (a .t) (a .parents))) ≡ 0 = sym (ap length (c .before .before .before .inherited-parents .ensures)) ∙ length-parentsOf _ ∙ c .before .if1 .taken in
-    c .class-parents .ensures ∙ sym (firsts-own (namesIn (a .t) (a .parents)) (classesOf (a .doms) (a .word)) (a .word) z)
+    let z : length (map (λ P. dotted P (a .word)) (namesAmong (a .firsts .now) (a .seconds .now) (a .count) (a .parents))) ≡ 0 = sym (ap length (c .before .before .before .inherited-parents .ensures)) ∙ length-parentsOf _ ∙ c .before .if1 .taken in
+    c .class-parents .ensures ∙ sym (firsts-own (namesAmong (a .firsts .now) (a .seconds .now) (a .count) (a .parents)) (classesOf (a .doms) (a .word)) (a .word) z)
 
--- src/lib.rt:157:1
 returns-2 : tie.Need-returns-2
-unfolding firstsOf
+unfolding firstsAmong
 returns-2 c =
     let a = c .before .before .before .args in
     c .before .before .inherited-parents .ensures
-    ∙ firsts-inherited (namesIn (a .t) (a .parents)) (classesOf (a .doms) (a .word)) (a .word) (λ z. c .if1 .left (sym (length-parentsOf _) ∙ ap length (c .before .before .inherited-parents .ensures) ∙ z))
+    ∙ firsts-inherited (namesAmong (a .firsts .now) (a .seconds .now) (a .count) (a .parents)) (classesOf (a .doms) (a .word)) (a .word) (λ z. c .if1 .left (sym (length-parentsOf _) ∙ ap length (c .before .before .inherited-parents .ensures) ∙ z))
 
 pub first-parents-spec : {M : Type 1} → statement M
 first-parents-spec =
