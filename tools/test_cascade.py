@@ -10,8 +10,8 @@ sys.path.insert(0, os.path.dirname(os.path.abspath(__file__)))
 
 import cascade_map
 import cascade_text
-import random_maps
 import sheetlib
+from maps import drawn
 from places import Problems
 from sheet_records import DERIVE, MAKE_LIST, NEST_ASSOCIATE, Annotation, TypeRecord
 from testing import EXAMPLES, command, found_in, printed, told
@@ -273,7 +273,7 @@ class CascadeText(unittest.TestCase):
         met = set()
         for seed in range(1500):
             rng = random.Random(seed)
-            given = random_maps.random_map(rng, rng.choice([4, 8, 12]), rng.choice([0, 0.02, 0.1]))
+            given = drawn.random_map(rng, rng.choice([4, 8, 12]), rng.choice([0, 0.02, 0.1]))
             if rng.random() < 0.8:
                 given = sayable(rng, given)
             problems, again = Problems(), Problems()

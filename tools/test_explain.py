@@ -23,8 +23,8 @@ import explain_layout
 import explain_page
 import map_lines
 import model
-import random_maps
 import sheetlib
+from maps import drawn
 from testing import BUILT, EXAMPLES, NOT_BUILT, ROOT, InFolder, command, found_in, printed
 
 
@@ -124,7 +124,7 @@ class Explain(InFolder):
         """Every line and every row has a reason."""
         for seed in range(700):
             rng = random.Random(seed)
-            given = random_maps.random_map(rng, rng.choice([4, 8, 12]), rng.choice([0, 0.02, 0.1, 0.3]))
+            given = drawn.random_map(rng, rng.choice([4, 8, 12]), rng.choice([0, 0.02, 0.1, 0.3]))
             explained = self.explained(sheetlib.to_text(given))
             self.assertEqual([why.line for why in explained.whys], printed(sheetlib.encode(given)), seed)
             self.assertTrue(all(why.because for why in explained.whys), seed)
@@ -165,7 +165,7 @@ class Explain(InFolder):
     def test_layout(self):
         """No two types of a row overlap, and rounds go downwards."""
         for seed in range(60):
-            given = random_maps.random_map(random.Random(seed), 12, 0.1)
+            given = drawn.random_map(random.Random(seed), 12, 0.1)
             layout = explain_layout.Layout(map_lines.MapView(given))
             for row in layout.rows:
                 for one, other in zip(row, row[1:]):

@@ -23,12 +23,12 @@ sys.path.insert(0, HERE)
 
 import building
 import gidzelma
-import large_maps
 import model
 import program
 import refusals
 import sheetlib
 import test_programs as programs
+from maps import large
 from test_programs import BASE, BASE_TEXT, CALLS, Folder
 
 HEADER = os.path.join(ROOT, "include", "gidzelma.h")
@@ -68,7 +68,7 @@ def ran(words, **more):
 def sheets():
     """The listed cases, and maps at the limits."""
     return {**programs.listed_sheets(),
-            **{name: sheetlib.encode(make()) for name, make in large_maps.MAPS.items()}}
+            **{name: sheetlib.encode(make()) for name, make in large.MAPS.items()}}
 
 
 def model_of(call, sheet, listing=LARGEST):
@@ -215,7 +215,7 @@ class Linked(Folder):
         for name in ("docs/LINKING.md", "rust/src/lib.rs"):
             self.assertIn(f"up to {said} MB", text_of(name))
         ring = "\n".join(f"domain t{at:02} : t{(at + 1) % 64:02}" for at in range(64))
-        tried = [sheetlib.sheet_of(ring), *(sheetlib.encode(make()) for make in large_maps.MAPS.values())]
+        tried = [sheetlib.sheet_of(ring), *(sheetlib.encode(make()) for make in large.MAPS.values())]
         for call, most in (("schedule", 1e6 * said), ("order", 0.5e6)):
             stack = self.build("bench/stack.c", f"-DCALL=gidzelma_{call}", "-pthread")
             for sheet in tried:
@@ -277,7 +277,7 @@ class Python(unittest.TestCase):
 
     def test_threads(self):
         """Several threads at the same time, with the stack that is advised."""
-        crowd = sheetlib.encode(large_maps.MAPS["crowd"]())
+        crowd = sheetlib.encode(large.MAPS["crowd"]())
         want, got = self.library.schedule(crowd), []
         before = threading.stack_size(gidzelma.STACK_LEN)
         try:
@@ -684,9 +684,7 @@ class Tables(Folder):
         copy = self.path("copy")
         os.mkdir(copy)
         copy_of_repository(copy)
-        for name in ("fuzz", "oracle", "bench"):
-            shutil.copytree(os.path.join(ROOT, name), os.path.join(copy, name),
-                            ignore=shutil.ignore_patterns("target", "__pycache__"))
+        shutil.copytree(os.path.join(ROOT, "fuzz"), os.path.join(copy, "fuzz"))
         page = os.path.join(copy, "fuzz", "README.md")
         before = text_of("fuzz", "README.md")
         words = [os.path.join(copy, "fuzz", "run"), "--sheets", "40", "--valgrind", "0"]

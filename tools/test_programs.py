@@ -26,12 +26,12 @@ sys.path.insert(0, HERE)
 import building
 import case_texts
 import gidzelma
-import large_maps
 import model
 import printed
 import proved
 import refusals
 import sheetlib
+from maps import large
 
 CALLS = ("schedule", "order")
 EXAMPLES = os.path.join(ROOT, "examples")
@@ -354,7 +354,7 @@ class Words(Folder):
         for number, sheet in {1: bytes(40961), 3: b"", 4: b"\x20", 7: sheetlib.sheet_of("") + b"\0",
                               5: sheetlib.sheet_of("words! self resource"),
                               6: sheetlib.sheet_of("domain a\ndomain a"),
-                              10: sheetlib.encode(large_maps.MAPS["crowd"]())}.items():
+                              10: sheetlib.encode(large.MAPS["crowd"]())}.items():
             out = run("schedule", "--explain", given=sheet)[1].decode()
             self.assertTrue(out.startswith(f"refused {number}\nrefused {number}: "
                                            f"{refusals.meaning_of(number)}\n"), out)
@@ -450,7 +450,7 @@ class Json(Folder):
         value = json.loads(run("schedule", "--json", "--size", BASE)[1])
         self.assertEqual((value["size"], value["W"]), (16, 4))
         self.assertNotIn("size", json.loads(run("schedule", "--json", "--size", given=b"")[1]))
-        crowd = sheetlib.encode(large_maps.MAPS["crowd"]())
+        crowd = sheetlib.encode(large.MAPS["crowd"]())
         status, out, _ = run("schedule", "--json", "--size", given=crowd)
         self.assertEqual((status, json.loads(out)["refusal"]["number"], json.loads(out)["size"]),
                          (1, 10, 239675))
@@ -463,7 +463,7 @@ class Packed(Folder):
     def test_bytes(self):
         """The bytes of the listed cases and of the largest schedule are the model's."""
         library = gidzelma.load(building.shared_object(ROOT, self.fail))
-        for sheet in [sheetlib.encode(large_maps.MAPS["crowd"]()), *listed_sheets().values()]:
+        for sheet in [sheetlib.encode(large.MAPS["crowd"]()), *listed_sheets().values()]:
             for call in CALLS:
                 answer = getattr(model, call)(sheet, bytes(1 << 18), bytes(1536))
                 packed = answer.listing[:answer.size]
@@ -512,7 +512,7 @@ class Packed(Folder):
         self.assertEqual(run("schedule", "--size", BASE), (0, b"size 16 W 4\n", ""))
         self.assertEqual(run("order", "--size", BASE), (0, b"size 5 W 4\n", ""))
         self.assertEqual(run("schedule", "--size", given=sheetlib.sheet_of("")), (0, b"size 3 W 2\n", ""))
-        crowd = sheetlib.encode(large_maps.MAPS["crowd"]())
+        crowd = sheetlib.encode(large.MAPS["crowd"]())
         self.assertEqual(run("schedule", given=crowd), (1, b"refused 10\n", ""))
         self.assertEqual(run("schedule", "--size", given=crowd), (0, b"size 239675 W 67\n", ""))
         status, out, _ = run("schedule", "--size", BASE, "-", given=b"")

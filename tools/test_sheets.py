@@ -17,8 +17,8 @@ sys.path.insert(0, HERE)
 import cascade_text
 import map_files
 import map_lines
-import random_maps
 import sheetlib
+from maps import changed, drawn
 from places import Problems
 from sheet_checks import check
 from sheet_records import ASSOCIATE, DERIVE, MAKE_LIST, NEST_ASSOCIATE, Annotation, TypeRecord
@@ -200,7 +200,7 @@ class Agreement(unittest.TestCase):
         met = set()
         for seed in range(1200):
             rng = random.Random(seed)
-            given = random_maps.random_map(rng, rng.choice([4, 8, 12]), rng.choice([0, 0.02, 0.1, 0.3]))
+            given = drawn.random_map(rng, rng.choice([4, 8, 12]), rng.choice([0, 0.02, 0.1, 0.3]))
             sheet = sheetlib.encode(given)
             problems = found_in(sheetlib.to_text(given))[1]
             numbers = [problem.number for problem in problems.of("error")]
@@ -212,7 +212,7 @@ class Agreement(unittest.TestCase):
         """The lines with their reasons are those of the model, in its order."""
         for seed in range(600):
             rng = random.Random(seed)
-            given = random_maps.random_map(rng, 12, 0.02)
+            given = drawn.random_map(rng, 12, 0.02)
             sheet = sheetlib.encode(given)
             if answer(sheet) == 0:
                 view = map_lines.MapView(given)
@@ -226,7 +226,7 @@ class Agreement(unittest.TestCase):
         met = set()
         for seed in range(800):
             rng = random.Random(seed)
-            given = random_maps.random_map(rng, 8, 0.05)
+            given = drawn.random_map(rng, 8, 0.05)
             for _ in range(rng.choice([0, 1, 1, 2])):
                 spoil(rng, given)
             try:
@@ -488,10 +488,8 @@ class Garbage(unittest.TestCase):
             rng = random.Random(seed)
             data = garbage(rng)
             if rng.random() < 0.5:
-                data = bytearray(sheetlib.encode(random_maps.random_map(rng)))
-                bit = rng.randrange(8 * len(data))
-                data[bit // 8] ^= 128 >> bit % 8
-                data = bytes(data)
+                data = sheetlib.encode(drawn.random_map(rng))
+                data = changed.flipped(data, rng.randrange(8 * len(data)))
             with self.subTest(seed=seed):
                 problems = Problems()
                 type_map = map_files.read_sheet(data, problems)

@@ -12,11 +12,9 @@ import unittest
 HERE = os.path.dirname(os.path.abspath(__file__))
 sys.path.insert(0, HERE)
 
-import large_maps
-import limits
 import model
-import random_maps
 import sheetlib
+from maps import changed, drawn, large
 from sheetlib import sheet_of
 
 LISTING, DIAGNOSIS = b"\xa5" * 65536, b"\x5a" * 1600
@@ -531,26 +529,11 @@ class RustSynthesis(model.Synthesis):
                 for kind, payload in info.annotations + [e.annotation for e in inherited]]
 
 
-def relisted(rng, type_map):
-    """The map with its records in another order, and the parents of each in another
-    order and with other repeats."""
-    text = sheetlib.to_text(type_map)
-    out = sheetlib.parse_text(text)
-    rng.shuffle(out.types)
-    for record in out.types:
-        names = list(dict.fromkeys(record.parents))
-        rng.shuffle(names)
-        record.parents = names + [rng.choice(names) for _ in range(rng.randint(0, 2)) if names]
-        record.parents = record.parents[:8]
-        rng.shuffle(record.parents)
-    return out
-
-
 def check_random_map(case, seed):
     """One random map: round trips, the model's assertions, the word-for-word
     transcriptions, relisting. Returns the number of the answer."""
     rng = random.Random(seed)
-    type_map = random_maps.random_map(rng, rng.choice([4, 8, 12]), rng.choice([0, 0.02, 0.1, 0.3]))
+    type_map = drawn.random_map(rng, rng.choice([4, 8, 12]), rng.choice([0, 0.02, 0.1, 0.3]))
     sheet = sheetlib.encode(type_map)
     case.assertEqual(sheetlib.sheet_of(sheetlib.to_text(type_map)), sheet)
     case.assertEqual(sheetlib.sheet_of(sheetlib.text_of(sheet)), sheet)
@@ -568,7 +551,7 @@ def check_random_map(case, seed):
     written = b"".join(model.row_bytes(row) for row in rows[:256])
     case.assertEqual(result.diagnosis, written + DIAGNOSIS[len(written):], seed)
     case.assertEqual(result.flag, int(len(rows) > 256))
-    other = model.schedule(sheetlib.encode(relisted(rng, type_map)), LISTING, DIAGNOSIS)
+    other = model.schedule(sheetlib.encode(changed.relisted(rng, type_map)), LISTING, DIAGNOSIS)
     case.assertEqual(other.number, result.number, seed)
     case.assertEqual(other.listing, result.listing, seed)
     return result.number
@@ -587,11 +570,8 @@ class RandomMaps(unittest.TestCase):
         """Flipped bits are answered, and what is readable reads as the tool reads it."""
         rng = random.Random(1)
         for _ in range(300):
-            sheet = bytearray(sheetlib.encode(random_maps.random_map(rng)))
-            for _ in range(rng.choice([1, 1, 2])):
-                bit = rng.randrange(8 * len(sheet))
-                sheet[bit // 8] ^= 128 >> bit % 8
-            sheet = bytes(sheet)
+            sheet = sheetlib.encode(drawn.random_map(rng))
+            sheet = changed.flipped(sheet, *(rng.randrange(8 * len(sheet)) for _ in range(rng.choice([1, 1, 2]))))
             result = model.schedule(sheet, LISTING, DIAGNOSIS)
             self.assertIn(result.number, (0, 3, 4, 5, 6, 7, 8, 9))
             if result.number in (3, 7):
@@ -606,17 +586,17 @@ class LargeMaps(unittest.TestCase):
     def test_answers(self):
         for name, size, answer in [("largest", 33939, 8), ("ordered", 33922, 0), ("acyclic", 1008, 0),
                                    ("ring", 1009, 8), ("undeclared", 1012, 8), ("chain", 512, 0)]:
-            sheet = sheetlib.encode(large_maps.MAPS[name]())
+            sheet = sheetlib.encode(large.MAPS[name]())
             self.assertEqual((len(sheet), number(sheet, "order")), (size, answer), name)
 
     def test_schedules(self):
         for name, answer in [("doubled", 0), ("layers", 0), ("crowd", 10), ("lists", 9)]:
-            sheet = sheetlib.encode(large_maps.MAPS[name]())
+            sheet = sheetlib.encode(large.MAPS[name]())
             self.assertEqual(number(sheet, "schedule"), answer, name)
 
     def test_largest(self):
         """Each count and each length is at its limit, so that no readable sheet is longer."""
-        largest = large_maps.largest()
+        largest = large.largest()
         self.assertEqual((len(largest.words), len(largest.types), len(largest.extensions)), (200, 64, 32))
         self.assertEqual(sorted(map(len, largest.words))[:3], [len("self"), len("resource"), 31])
         for record in largest.types:
@@ -631,7 +611,7 @@ class Limits(unittest.TestCase):
 
     def test_largest_schedule(self):
         """Written, and read back by another part of the model."""
-        sheet = sheet_of(limits.largest_schedule())
+        sheet = sheetlib.encode(large.largest_schedule())
         result = model.schedule(sheet, bytes(1 << 18), DIAGNOSIS)
         self.assertEqual(result[:4], (0, 239675, 0, 0))
         kinds = [line[0] for line in model.printed(sheet, result, True)]
@@ -640,7 +620,7 @@ class Limits(unittest.TestCase):
 
     def test_rows_of_nine(self):
         for count, rows, more in [(255, 255, 0), (256, 256, 0), (257, 256, 1)]:
-            result = model.schedule(sheet_of(limits.rows_of_nine(count)), LISTING, DIAGNOSIS)
+            result = model.schedule(sheetlib.encode(large.rows_of_nine(count)), LISTING, DIAGNOSIS)
             self.assertEqual(result[:4], (9, 0, rows, more))
 
 

@@ -1,26 +1,19 @@
 """The maps to measure on, by family and number of types."""
 
-import os
 import random
-import sys
 
-sys.path.insert(0, os.path.join(os.path.dirname(os.path.abspath(__file__)), "..", "tools"))
+from maps.records import associate, record
+from maps.shapes import crowd, eight_before, layer_before, numbered
+from sheet_records import DOMAIN, RESOURCE, Extension, TypeMap, TypeRecord
 
-from sheetlib import ASSOCIATE, Annotation, Extension, TypeMap, TypeRecord  # noqa: E402
-
-DOMAIN, RESOURCE = 0, 1
 CLASSES = ["file", "dir", "log", "conf", "socket", "pipe", "tmp", "lib", "device", "key", "lock",
            "cache", "data", "home", "mail", "queue", "run", "spool", "state", "unit"]
 
 
-def associate(*words):
-    return Annotation(ASSOCIATE, [(word, None) for word in words])
-
-
 def resources(words):
     """`resource`, and a resource under it for each word."""
-    return [TypeRecord(("resource",), RESOURCE)] + [
-        TypeRecord((word,), RESOURCE, True, False, [("resource",)], [], [None]) for word in words]
+    return [record("resource", RESOURCE)] + [
+        record(word, RESOURCE, ["resource"], (), [None], True) for word in words]
 
 
 def ordinary(types, seed=0):
@@ -52,6 +45,7 @@ class Draws:
         self.state = seed
 
     def draw(self, below):
+        """A number below the given one."""
         self.state = self.state + 2654435769 & 0xFFFFFFFF
         return (self.state ^ self.state >> 15) % below
 
@@ -64,27 +58,36 @@ def s13(seed, domains=None):
     acyclic = domains is not None
     if acyclic:
         count = domains
-    out = resources(f"r{n}" for n in range(8))
-    for own in out:
-        own.is_virtual, own.marks = False, []
+    out = [record("resource", RESOURCE)] + [record(f"r{n}", RESOURCE, ["resource"]) for n in range(8)]
     for at in range(count):
-        record = TypeRecord((f"t{at:02}",))
+        own = record(f"t{at:02}")
         for _ in range(draws.draw(4)):
             among = at if acyclic else count
             drawn = draws.draw(max(among, 1))
             if among:
-                record.parents.append((f"t{drawn:02}",))
+                own.parents.append((f"t{drawn:02}",))
         words = draws.draw(3)
         if words:
             first = draws.draw(8)
-            record.annotations.append(associate(*(f"r{(first + n) % 8}" for n in range(words))))
-        out.append(record)
+            own.annotations.append(associate(*(f"r{(first + n) % 8}" for n in range(words))))
+        out.append(own)
     words = [f"r{n}" for n in range(8)] + ["resource", "self"] + [f"t{n:02}" for n in range(55)]
     return TypeMap(out, words=words)
 
 
+def over_file(numbers, parents_of):
+    """Types of these numbers beside the resource `file`, which those without parents associate."""
+    return TypeMap(resources(["file"]) + numbered(
+        numbers, parents_of, lambda at: [] if parents_of(at) else [associate("file")]))
+
+
+def chained(types, times):
+    """Each type under the one before it, listed so many times, against the order of names; the first associates."""
+    return over_file(range(63, 65 - types, -1), lambda at: [at + 1] * times if at < 63 else [])
+
+
 def chain(types):
-    """Each type under the one before it, against the order of names; the first associates a word."""
+    """A chain of types."""
     return chained(types, 1)
 
 
@@ -93,43 +96,14 @@ def doubled(types):
     return chained(types, 2)
 
 
-def chained(types, times):
-    out = resources(["file"])
-    for at in range(types - len(out)):
-        parents = [(f"t{64 - at:02}",)] * times if at else []
-        out.append(TypeRecord((f"t{63 - at:02}",), DOMAIN, False, False, parents,
-                              [] if at else [associate("file")]))
-    return TypeMap(out)
-
-
 def diamonds(types, width=4):
     """Layers of `width` types, each under all of the layer before; the first layer associates."""
-    out = resources(["file"])
-    for at in range(types - len(out)):
-        layer = at // width
-        parents = [(f"t{width * (layer - 1) + n:02}",) for n in range(width)] if layer else []
-        out.append(TypeRecord((f"t{at:02}",), DOMAIN, False, False, parents,
-                              [] if layer else [associate("file")]))
-    return TypeMap(out)
-
-
-def crowd(types, parents_of):
-    """Resources of two words that all associate each other's words: most lines for their number."""
-    words = [f"w{n:02}" for n in range(types)]
-    out = []
-    for at, word in enumerate(words):
-        out.append(TypeRecord(
-            ("d", word), RESOURCE, False, False, [("d", words[p]) for p in parents_of(at)],
-            [Annotation(ASSOCIATE, [(w, "d") for w in words[first:first + 15]])
-             for first in range(0, types, 15)], [7] * 7))
-    last = out[-1].name
-    extensions = [Extension(last, w, [last] * 8) for w in words[:32]] if types > 1 else []
-    return TypeMap(out, extensions)
+    return over_file(range(types - 2), lambda at: layer_before(at, width))
 
 
 def largest(types):
     """With 64 types the largest schedule found, 239,675 bytes: each under the eight before it."""
-    return crowd(types, lambda at: range(max(0, at - 8), at))
+    return crowd(types, eight_before)
 
 
 def star(types):

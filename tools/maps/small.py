@@ -1,0 +1,65 @@
+"""All small maps of a family."""
+
+import itertools
+
+from maps.records import associate, nest, record
+from sheet_records import DOMAIN, RESOURCE, TypeMap
+
+
+def listings(names, longest):
+    """All lists of names up to a length."""
+    for size in range(longest + 1):
+        yield from itertools.product(names, repeat=size)
+
+
+def small_orders():
+    """Three types, up to two parents each, `self` and an undeclared name among them."""
+    for declared, names in (("a b c", "a b c self zz"), ("a b self", "a b self zz")):
+        some = list(listings(names.split(), 2))
+        for parents in itertools.product(some, repeat=3):
+            yield TypeMap([record(n, parents=p) for n, p in zip(declared.split(), parents)])
+    for count in range(3):
+        for parents in itertools.product(list(listings(["a", "b", "self", "zz"], 3)), repeat=count):
+            yield TypeMap([record(n, parents=p) for n, p in zip("ab", parents)])
+
+
+def small_makings():
+    """A parent and a child around one word: each way to associate and declare."""
+    ways = [[], [associate("f")], [associate("p.f")], [associate("q.f")], [nest("p.f")],
+            [nest("q.f")], [associate("f"), nest("p.f")], [associate("f"), associate("f", "g")]]
+    for above, own in itertools.product(ways, repeat=2):
+        for parents in ((), ("p",), ("p", "p")):
+            for f, pf, qf in itertools.product((None, DOMAIN, RESOURCE), (None, RESOURCE),
+                                               (None, RESOURCE)):
+                for tf, strong in itertools.product((False, True), repeat=2):
+                    out = [record("t", DOMAIN, parents, own, (), True),
+                           record("p", DOMAIN, (), above, (), True), record("g", RESOURCE)]
+                    if f is not None:
+                        out.append(record("f", f, is_virtual=True))
+                    if pf is not None:
+                        out.append(record("p.f", pf, (), (), (None, 7) if strong else (), True))
+                    if qf is not None:
+                        out.append(record("q.f", qf, is_virtual=not strong))
+                    if tf:
+                        out.append(record("t.f", RESOURCE))
+                    yield TypeMap(out)
+
+
+def small_diamonds():
+    """`d` under `b` and `c`, both under `a`: each way to associate two words."""
+    ways = [[], [associate("f")], [associate("x.f")], [associate("f", "g")], [nest("x.f", "g")]]
+    for some in itertools.product(ways, repeat=4):
+        for parents in (("b", "c"), ("c", "b"), ("c", "a", "b")):
+            for f, xf in ((RESOURCE, RESOURCE), (RESOURCE, None), (DOMAIN, RESOURCE), (None, None)):
+                out = [record(n, DOMAIN, p, w) for n, p, w in
+                       zip("abcd", ((), ("a",), ("a",), parents), some)]
+                out.append(record("g", RESOURCE))
+                if f is not None:
+                    out.append(record("f", f))
+                if xf is not None:
+                    out.append(record("x.f", xf, marks=(3,)))
+                yield TypeMap(out)
+
+
+EXHAUSTIVE = {"small orders": small_orders, "small makings": small_makings,
+              "small diamonds": small_diamonds}
