@@ -26,13 +26,13 @@ class Writer:
         """Appends a field of the given width."""
         if not 0 <= value < 1 << width:
             raise SheetError(f"{what}: {value} does not fit {width} bits")
-        self.bits += [value >> at & 1 for at in reversed(range(width))]
+        self.bits.append(f"{int(value):0{width}b}")
 
     def data(self):
         """The bytes, zero bits filling the last one."""
-        bits = self.bits + [0] * (-len(self.bits) % 8)
-        return bytes(int("".join(map(str, bits[at:at + 8])), 2)
-                     for at in range(0, len(bits), 8))
+        bits = "".join(self.bits)
+        size = (len(bits) + 7) // 8
+        return int(bits.ljust(8 * size, "0") or "0", 2).to_bytes(size, "big")
 
 
 class Packing:
@@ -171,6 +171,8 @@ class Decoding:
         self.take, self.strict = self.source.take, strict
         self.map = TypeMap(version=self.take(4, "version", 1, 1))
         self.map.words = [self.listed() for _ in range(self.take(8, "words: count", 2, WORDS))]
+        # What each number stands for: a word at its first place, else the number itself.
+        self.named = [word if self.map.words.index(word) == at else at for at, word in enumerate(self.map.words)]
         for at in range(self.take(7, "types: count", 0, TYPES)):
             self.map.types.append(self.record(f"type {at + 1}"))
         for at in range(self.take(6, "extensions: count", 0, EXTENSIONS)):
@@ -191,10 +193,8 @@ class Decoding:
 
     def word(self, what):
         """A word by its number."""
-        words = self.map.words
-        at = self.take(8, what + ": word", 0, len(words) - 1)
-        known = at < len(words) and words.index(words[at]) == at
-        return words[at] if known else at
+        at = self.take(8, what + ": word", 0, len(self.named) - 1)
+        return self.named[at] if at < len(self.named) else at
 
     def name(self, what):
         """A name of one or two words."""

@@ -333,7 +333,7 @@ class Synthesis(unittest.TestCase):
         """The types that are refused (FORMAT 4.9)."""
         types = model.read_sheet(sheet_of(text))
         names = model.items_of(types, model.organize_type_map(types))[1]
-        return {".".join(types.words[w].decode() for w in name) for name in names}
+        return {".".join(types.words[w] for w in name) for name in names}
 
     def test_failed_parents(self):
         """A call that fails passes nothing at that listing, and everything when listed again;
@@ -427,7 +427,7 @@ class Synthesis(unittest.TestCase):
 
     def test_dedup(self):
         def entry(words, parent):
-            return model.Inherited((model.ASSOCIATE, tuple((w, 1) for w in words)),
+            return model.Inherited((sheetlib.ASSOCIATE, tuple((w, 1) for w in words)),
                                    frozenset([parent]))
         out = model.dedup_inherited_annotations([entry([1, 2, 3], "p"), entry([2, 5], "q"),
                                                  entry([3, 5, 6], "r")])
@@ -519,7 +519,7 @@ class RustSynthesis(model.Synthesis):
             before = len(self.rows)
             own = [model.Inherited(ann, frozenset()) for ann in info.annotations]
             for entry in own + inherited:
-                if entry.annotation[0] == model.ASSOCIATE:
+                if entry.annotation[0] == sheetlib.ASSOCIATE:
                     self.interpret_associate(info, entry)
             fails = fails or len(self.rows) > before
         if fails:
