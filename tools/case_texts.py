@@ -52,6 +52,11 @@ DOCUMENT = {
 GOOD = "domain a\n  associate f\nresource f"
 
 
+def sheet_in(case):
+    """The sheet of a case."""
+    return case["bytes"] if "bytes" in case else sheet_of(case["text"])
+
+
 def fields(*pairs):
     """A sheet of fields, each a width and a value."""
     out = Writer()

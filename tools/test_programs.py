@@ -67,7 +67,7 @@ def shell(line, *args, root=ROOT, **more):
 
 def listed_sheets():
     """The sheets of the listed cases, by name."""
-    return {name: case["bytes"] if "bytes" in case else sheetlib.sheet_of(case["text"])
+    return {name: case_texts.sheet_in(case)
             for name, case in [*case_texts.DOCUMENT.items(), *case_texts.CORNERS.items()]}
 
 

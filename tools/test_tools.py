@@ -14,6 +14,7 @@ sys.path.insert(0, HERE)
 
 import model
 import sheetlib
+from case_texts import fields
 from maps import changed, drawn, large
 from sheetlib import sheet_of
 
@@ -175,33 +176,27 @@ class RefusalTable(unittest.TestCase):
 class Reading(unittest.TestCase):
     """Corners of reading a sheet."""
 
-    def bits(self, *fields):
-        out = sheetlib.Writer()
-        for width, value in fields:
-            out.put(width, value)
-        return out.data()
-
     def test_first_field_decides(self):
         head = [(4, 1), (8, 2), (5, 31)]
-        self.assertEqual(number(self.bits(*head, (8, ord("!")))), 4)
-        self.assertEqual(number(self.bits(*head, (8, ord("a")))), 3)
-        self.assertEqual(number(self.bits((4, 1), (8, 201))), 4)
-        self.assertEqual(number(self.bits((4, 1), (8, 1))), 4)
-        self.assertEqual(number(self.bits((4, 1), (8, 200))), 3)
-        self.assertEqual(number(self.bits((4, 1), (8, 2), (5, 0))), 4)
+        self.assertEqual(number(fields(*head, (8, ord("!")))), 4)
+        self.assertEqual(number(fields(*head, (8, ord("a")))), 3)
+        self.assertEqual(number(fields((4, 1), (8, 201))), 4)
+        self.assertEqual(number(fields((4, 1), (8, 1))), 4)
+        self.assertEqual(number(fields((4, 1), (8, 200))), 3)
+        self.assertEqual(number(fields((4, 1), (8, 2), (5, 0))), 4)
         two = [(4, 1), (8, 2), (5, 1), (8, 97), (5, 1), (8, 98)]
-        self.assertEqual(number(self.bits(*two, (7, 65))), 4)
-        self.assertEqual(number(self.bits(*two, (7, 64))), 3)
-        self.assertEqual(number(self.bits(*two, (7, 1), (8, 2))), 4)
-        self.assertEqual(number(self.bits(*two, (7, 0), (6, 33))), 4)
+        self.assertEqual(number(fields(*two, (7, 65))), 4)
+        self.assertEqual(number(fields(*two, (7, 64))), 3)
+        self.assertEqual(number(fields(*two, (7, 1), (8, 2))), 4)
+        self.assertEqual(number(fields(*two, (7, 0), (6, 33))), 4)
         record = [*two, (7, 1), (8, 0), (1, 0)]
-        self.assertEqual(number(self.bits(*record, (2, 3))), 4)
-        self.assertEqual(number(self.bits(*record, (2, 0), (2, 0), (4, 9))), 4)
-        self.assertEqual(number(self.bits(*record, (2, 0), (2, 0), (4, 0), (4, 13))), 4)
-        self.assertEqual(number(self.bits(*record, (2, 0), (2, 0), (4, 0), (4, 1), (3, 7))), 4)
+        self.assertEqual(number(fields(*record, (2, 3))), 4)
+        self.assertEqual(number(fields(*record, (2, 0), (2, 0), (4, 9))), 4)
+        self.assertEqual(number(fields(*record, (2, 0), (2, 0), (4, 0), (4, 13))), 4)
+        self.assertEqual(number(fields(*record, (2, 0), (2, 0), (4, 0), (4, 1), (3, 7))), 4)
         pair = [*two, (7, 1), (8, 0), (1, 1), (8, 1), (2, 0), (2, 0), (4, 0), (4, 1)]
-        self.assertEqual(number(self.bits(*pair, (3, 2))), 4)
-        self.assertEqual(number(self.bits(*pair, (3, 1))), 3)
+        self.assertEqual(number(fields(*pair, (3, 2))), 4)
+        self.assertEqual(number(fields(*pair, (3, 1))), 3)
 
     def test_values(self):
         for text, want in [
