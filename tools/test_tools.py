@@ -1,6 +1,8 @@
 #!/usr/bin/env python3
 """Tests of the tools, of the model, and of the pages. Run: python3 tools/test_tools.py"""
 
+import hashlib
+import itertools
 import os
 import random
 import re
@@ -15,8 +17,8 @@ sys.path.insert(0, HERE)
 import model
 import sheetlib
 from case_texts import fields
-from maps import changed, drawn, large
-from sheetlib import sheet_of
+from maps import changed, drawn, flavours, large, loads, small
+from sheetlib import encode, sheet_of
 
 LISTING, DIAGNOSIS = b"\xa5" * 65536, b"\x5a" * 1600
 CALLS = {"schedule": model.schedule, "order": model.order}
@@ -573,6 +575,40 @@ class RandomMaps(unittest.TestCase):
                 self.assertRaises(sheetlib.SheetError, sheetlib.decode, sheet)
             elif result.number != 4:
                 self.assertEqual(sheetlib.sheet_of(sheetlib.text_of(sheet)), sheet)
+
+
+class Generators(unittest.TestCase):
+    """For one seed the maps of tools/maps stay what they are, since stored cases were drawn with them."""
+
+    def check(self, digest, sheets):
+        """The first digits of the sheets' SHA-256."""
+        self.assertEqual(hashlib.sha256(b"".join(sheets)).hexdigest()[:16], digest)
+
+    def test_drawn(self):
+        self.check("184dfbbf6e2a7083", (encode(drawn.random_map(random.Random(seed), 12, 0.2)) for seed in range(60)))
+
+    def test_flavours(self):
+        rng = random.Random(1)
+        self.check("5b89a44e404391f7", (encode(flavours.random_map(rng, name)) for name in list(flavours.FLAVOURS) * 2))
+
+    def test_small(self):
+        for digest, family in zip(("266c523bbcf61906", "7f3a9e1d1370a11b", "212fd6f395d0f3b9"), small.EXHAUSTIVE.values()):
+            self.check(digest, (encode(given) for given in itertools.islice(family(), 0, None, 500)))
+
+    def test_changed(self):
+        rng = random.Random(2)
+        given = [drawn.random_map(rng) for _ in range(60)]
+        self.check("7ab8bbd7cd61a1ec", (encode(changed.relisted(rng, one)) for one in given))
+        self.check("5f6a107bb7e288c5", (encode(changed.rebuilt(rng, one)) for one in given))
+        self.check("88d60d734a1ca338", (changed.damaged(rng, encode(one)) for one in given))
+
+    def test_loads(self):
+        families = (loads.ordinary, loads.s13, loads.chain, loads.doubled, loads.diamonds, loads.star, loads.largest)
+        self.check("939a3e4a31a8d808", (encode(family(count)) for family in families for count in (4, 20, 62)))
+        self.check("2f8b2b0900d6b2c5", (encode(loads.s13(count, count)) for count in (10, 55)))
+
+    def test_large(self):
+        self.check("81348165807c2a3c", (encode(make()) for make in large.MAPS.values()))
 
 
 class LargeMaps(unittest.TestCase):
