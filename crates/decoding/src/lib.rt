@@ -46,7 +46,7 @@ pub fn turned_back(number: usize) -> Decoded
 }
 
 // The number of a fault in a sheet (FORMAT 7.2).
-fn number_of(fault: Fault) -> usize
+pub fn number_of(fault: Fault) -> usize
     ensures { λ r. ⌜ r ≡ sheetFault (faultOf fault) ⌝ }
 {
     match fault {

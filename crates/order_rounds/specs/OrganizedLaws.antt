@@ -25,7 +25,7 @@ use Rattle.ordering.specs.Compact.{compactOf, Within, compact-reads}
 use Rattle.ordering.specs.Names.{place-same, self-lists, order-found, order-is, whole-order, no-self}
 use Rattle.ordering.specs.Rounds.{listsSelf, placed, final, count-full}
 use Rattle.ordering.specs.declared.Parents.{Parents}
-use Rattle.ancestry.specs.Earlier.{at-below, parent-earlier, all-below}
+use Rattle.parent_laws.specs.Earlier.{at-below, parent-earlier, all-below}
 use Rattle.law_classes.specs.Numbers.{place-of}
 use Rattle.item_spread.specs.Spread.{Ordered}
 use Rattle.catalogue.specs.Layout.{parentsAt}

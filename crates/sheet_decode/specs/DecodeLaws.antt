@@ -14,6 +14,8 @@ use Rattle.definitions.specs.Reading.{sheet}
 use Rattle.definitions.specs.Checks.{resourceBytes, selfBytes, badFill, badWords, somethingTwice}
 use Rattle.definitions.specs.Map.{numberOf}
 use Rattle.definitions.specs.Records.{TypeInfo, Sheet}
+use Rattle.definitions.specs.Answer.{sheetFault}
+use Rattle.fields.specs.Fields.{faultOf}
 use Rattle.line_laws.specs.Reading.{read-is-within}
 use Rattle.decoding.specs.Decoding.{turnedBack, tested, decoded}
 use Rattle.decoding.specs.DecodingLaws.{was-read, not-read, seven, five, six}
@@ -69,12 +71,12 @@ module _ (bytes d t : List ℕ) (l : Lists) (e : ofLists (bitsOf bytes) d t l �
           }
       go (refused r) q f = let z : _≡_ {A = ℕ} 0 1 = cc in absurd (omega arith)
 
-  pub not-listed : l .ok ≡ false → decoded bytes ≡ turnedBack (l .refusal)
+  pub not-listed : l .ok ≡ false → decoded bytes ≡ turnedBack (sheetFault (faultOf (l .fault)))
   not-listed ok = go (sheet (bitsOf bytes)) refl (rw ok at e)
     where
-      go : (x : Parsed Sheet) → sheet (bitsOf bytes) ≡ x → refused (l .refusal) ≡ seen x → decoded bytes ≡ turnedBack (l .refusal)
+      go : (x : Parsed Sheet) → sheet (bitsOf bytes) ≡ x → refused (faultOf (l .fault)) ≡ seen x → decoded bytes ≡ turnedBack (sheetFault (faultOf (l .fault)))
       go (done s rest) q f = let z : _≡_ {A = ℕ} 0 1 = cc in absurd (omega arith)
-      go (refused r) q f = let w : l .refusal ≡ r = cc in not-read bytes r q ∙ ap turnedBack (sym w)
+      go (refused r) q f = let w : faultOf (l .fault) ≡ r = cc in not-read bytes r q ∙ ap (λ f. turnedBack (sheetFault f)) (sym w)
 
 -- ---- keys
 

@@ -6,9 +6,12 @@ use Prim.Native.Nat.{ℕ, _≤_, _<_}
 use native.Mathlib.Omega.{arith}
 use lib.Dec.{eqb}
 use lib.ListN.{length, drop}
+use Rattle.definitions.specs.Parse as parse
 use Rattle.definitions.specs.Parse.{Parsed, done, refused, next, _>>=_, pure, counted}
 use Rattle.definitions.specs.Reading.{word, typeInfo, extension, sheet}
 use Rattle.definitions.specs.Records.{TypeInfo, Extension, Sheet}
+use Rattle.fields.specs.declared.Fault.{Fault}
+use Rattle.fields.specs.Fields.{faultOf}
 use Rattle.sheet.specs.declared.Opening.{Opening}
 use Rattle.sheet.specs.Sheets.{version, lists, ofOpening}
 use Rattle.sheet.specs.SheetLaws.{sheet-parts}
@@ -49,11 +52,11 @@ sheet-seen bs = ap seen (sheet-parts bs) ∙ go (version bs)
 
 -- where the version, or a word, is refused; and where they are read
 module _ (bs : List Bool) (o : Opening) (e : ofOpening bs o ≡ version bs) where
-  pub no-version : eqb (o .refusal) 0 ≡ false → refused (o .refusal) ≡ seen (sheet bs)
+  pub no-version : o .ok ≡ false → refused (faultOf (o .fault)) ≡ seen (sheet bs)
   no-version q = sym (sheet-seen bs ∙ rw (← e, q))
 
-  module _ (q : eqb (o .refusal) 0 ≡ true) (w : WordsRead) (f : ofWordsRead bs w ≡ told (counted 8 2 200 word (drop (o .next .at) bs))) where
-    pub no-words : w .ok ≡ false → refused (w .refusal) ≡ seen (sheet bs)
+  module _ (q : o .ok ≡ true) (w : WordsRead) (f : ofWordsRead bs w ≡ told (counted 8 2 200 word (drop (o .next .at) bs))) where
+    pub no-words : w .ok ≡ false → refused (faultOf (w .fault)) ≡ seen (sheet bs)
     no-words b = sym (sheet-seen bs ∙ rw (← e, q, ← f, b))
 
     pub words-read : w .ok ≡ true → {x : Parsed Seen} → x ≡ records (tellingIn w) (drop (w .at) bs) → x ≡ seen (sheet bs)
@@ -61,12 +64,12 @@ module _ (bs : List Bool) (o : Opening) (e : ofOpening bs o ≡ version bs) wher
 
 -- the same of the lists behind
 module _ (w : Telling) (cs : List Bool) where
-  pub no-types : (n : ℕ) → refused n ≡ counted 7 0 64 (typeInfo (w .count)) cs → refused n ≡ records w cs
+  pub no-types : (n : parse.Fault) → refused n ≡ counted 7 0 64 (typeInfo (w .count)) cs → refused n ≡ records w cs
   unfolding records
   no-types n e = sym (rw (← e))
 
   module _ (ts : List TypeInfo) (rest : List Bool) (e : done ts rest ≡ counted 7 0 64 (typeInfo (w .count)) cs) where
-    pub no-extensions : (n : ℕ) → refused n ≡ counted 6 0 32 (extension (w .count)) rest → refused n ≡ records w cs
+    pub no-extensions : (n : parse.Fault) → refused n ≡ counted 6 0 32 (extension (w .count)) rest → refused n ≡ records w cs
     unfolding records
     no-extensions n f = sym (rw (← e, ← f))
 
@@ -77,13 +80,13 @@ module _ (w : Telling) (cs : List Bool) where
 
 -- ---- nothing read
 
-abbrev Nothing : Lists → ℕ → Type 0
-Nothing r number = (r .ok ≡ false) × (r .refusal ≡ number) × (r .width ≡ 0) × (r .count ≡ 0) × (r .extensions ≡ 0)
+abbrev Nothing : Lists → Fault → Type 0
+Nothing r f = (r .ok ≡ false) × (r .fault ≡ f) × (r .width ≡ 0) × (r .count ≡ 0) × (r .extensions ≡ 0)
 
-pub unread-is : (bs : List Bool) (d t : List ℕ) (r : Lists) (n : ℕ) → Nothing r n → ofLists bs d t r ≡ refused n
+pub unread-is : (bs : List Bool) (d t : List ℕ) (r : Lists) (n : Fault) → Nothing r n → ofLists bs d t r ≡ refused (faultOf n)
 unread-is bs d t r n h = rw (h .0, h .1)
 
-pub unread-kept : (bs : List Bool) (d t : List ℕ) (r : Lists) (n : ℕ) → Nothing r n → Tables d t → Kept bs d t r
+pub unread-kept : (bs : List Bool) (d t : List ℕ) (r : Lists) (n : Fault) → Nothing r n → Tables d t → Kept bs d t r
 unread-kept bs d t r n h k = record {
   tables = k;
   width = omega (arith, h .2);

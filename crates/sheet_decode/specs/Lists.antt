@@ -7,6 +7,7 @@ use lib.ListN.{length, drop}
 use Rattle.definitions.specs.Parse.{Parsed, done, refused, Parser, next, _>>=_, pure, counted}
 use Rattle.definitions.specs.Reading.{typeInfo, extension}
 use Rattle.definitions.specs.Records.{TypeInfo, Extension, Sheet}
+use Rattle.fields.specs.Fields.{faultOf}
 use Rattle.sheet_draft.specs.Draft.{typesIn}
 use Rattle.sheet_types.specs.Rows.{NotesRead}
 use Rattle.sheet_extensions.specs.Records.{recordsIn}
@@ -51,7 +52,7 @@ ofLists bs d t r =
       extensions = recordsIn t (r .extensions);
     })
     (drop (r .at) bs))
-    (refused (r .refusal))
+    (refused (faultOf (r .fault)))
 
 -- Tables keep their sizes, the counts are those that a sheet can have, and annotations and marks can be read again.
 pub record Kept (bs : List Bool) (d t : List ℕ) (r : Lists) : Type 0 where

@@ -1,5 +1,6 @@
 // The decoder: tests 3 to 7 of a sheet, its types put into a draft and its extension records into the catalogue.
 use bits::Cursor;
+use fields::Fault;
 use sheet_repeats::Sizes;
 use sheet_words::WordsRead;
 ghost use mathlib.Core.Bool.{false};
@@ -11,10 +12,10 @@ ghost use Rattle.definitions.specs.Reading.{sheet};
 ghost use Rattle.sheet_decode.specs.Lists.{Tables, tellingIn, records, seen, ofLists, Kept};
 ghost use Rattle.sheet_decode.specs.Decodes.{Decodes};
 
-// ok: how many words, types and extension records there are, the place behind the last field, and what the words tell. Else a refusal.
+// ok: how many words, types and extension records there are, the place behind the last field, and what the words tell. Else a fault.
 pub struct Lists {
     pub ok: bool,
-    pub refusal: usize,
+    pub fault: Fault,
     pub at: usize,
     pub width: usize,
     pub count: usize,
@@ -35,12 +36,12 @@ pub struct Decoding {
     pub own: u8,
 }
 
-fn unread(number: usize) -> Lists
-    ensures { λ r. ⌜ (r .ok ≡ false) × (r .refusal ≡ number) × (r .width ≡ 0) × (r .count ≡ 0) × (r .extensions ≡ 0) ⌝ }
+fn unread(f: Fault) -> Lists
+    ensures { λ r. ⌜ (r .ok ≡ false) × (r .fault ≡ f) × (r .width ≡ 0) × (r .count ≡ 0) × (r .extensions ≡ 0) ⌝ }
 {
     Lists {
         ok: false,
-        refusal: number,
+        fault: f,
         at: 0,
         width: 0,
         count: 0,
@@ -58,15 +59,17 @@ fn read_records(s: &[u8], w: WordsRead, d: &mut [u64; 704], t: &mut [u64; 1544])
 {
     let ts = sheet_types::read_types(s, Cursor { at: w.at }, w.count, d);
     if !ts.ok {
-        return unread(ts.refusal);
+        let fault = ts.fault;
+        return unread(fault);
     }
     let es = sheet_extensions::read_extensions(s, Cursor { at: ts.at }, w.count, t);
     if !es.ok {
-        return unread(es.refusal);
+        let fault = es.fault;
+        return unread(fault);
     }
     Lists {
         ok: true,
-        refusal: 0,
+        fault: Fault::Past,
         at: es.at,
         width: w.count,
         count: ts.count,
@@ -83,12 +86,14 @@ fn read_lists(s: &[u8], d: &mut [u64; 704], t: &mut [u64; 1544]) -> Lists
     ensures { λ r. ⌜ (ofLists (bitsOf (now (s .entry))) (now (d .exit)) (now (t .exit)) r ≡ seen (sheet (bitsOf (now (s .entry))))) × Kept (bitsOf (now (s .entry))) (now (d .exit)) (now (t .exit)) r ⌝ }
 {
     let o = sheet::read_version(s, Cursor { at: 0 });
-    if o.refusal != 0 {
-        return unread(o.refusal);
+    if !o.ok {
+        let fault = o.fault;
+        return unread(fault);
     }
     let w = sheet_words::read_words(s, o.next);
     if !w.ok {
-        return unread(w.refusal);
+        let fault = w.fault;
+        return unread(fault);
     }
     read_records(s, w, d, t)
 }
@@ -119,7 +124,8 @@ pub fn decode(
 {
     let l = read_lists(s, d, t);
     if !l.ok {
-        return turned_back(l.refusal);
+        let fault = l.fault;
+        return turned_back(decoding::number_of(fault));
     }
     if sheet::is_bad_fill(s, Cursor { at: l.at }) {
         return turned_back(7);

@@ -13,7 +13,7 @@ use Rattle.lists.specs.Tabulating.{tabulate, tabulate-same, length-tabulate, ge
 use Rattle.lists.specs.Appending.{repeats-map}
 use Rattle.definitions.specs.Bits.{num}
 use Rattle.definitions.specs.Checks.{resourcesOf, sameAnnotation}
-use Rattle.definitions.specs.Parse.{Parsed, done, refused, Parser, next, _>>=_, pure, refuse, choose, field, allowed, between, repeatOnto, repeat, counted}
+use Rattle.definitions.specs.Parse.{Parsed, done, refused, Parser, next, _>>=_, pure, refuse, choose, field, allowed, between, repeatOnto, repeat, counted, notAllowed}
 use Rattle.definitions.specs.Reading.{name, annotation}
 use Rattle.definitions.specs.Records.{Resource, Annotation, AnnotationOf}
 use Rattle.bits.specs.NumberLaws.{num-lt}
@@ -137,13 +137,13 @@ module _ (W : ℕ) (bs : List Bool) (p w : ℕ) (l : p + 11 ≤ length bs) (e : 
         rowed kind (done rows left) h = (rows, left, refl, sym (done-of h))
         rowed kind (refused r) h = let z : _≡_ {A = ℕ} 0 1 = cc in absurd (omega arith)
 
-        picked : (b : Bool) (kind : ℕ) (cs : List Bool) → next (choose b (refuse 4) (rowsFor W kind >>= λ rows. pure (annotationAs kind rows)) cs) (λ y. pure (y ∷ [])) ≡ done as′ rest
+        picked : (b : Bool) (kind : ℕ) (cs : List Bool) → next (choose b (refuse notAllowed) (rowsFor W kind >>= λ rows. pure (annotationAs kind rows)) cs) (λ y. pure (y ∷ [])) ≡ done as′ rest
             → (rows : List (List ℕ)) × (left : List Bool) × (rowsFor W kind cs ≡ done rows left) × (as′ ≡ annotationAs kind rows ∷ [])
         picked true kind cs h = let z : _≡_ {A = ℕ} 0 1 = cc in absurd (omega arith)
         picked false kind cs h = rowed kind (rowsFor W kind cs) h
 
         kinds : (b : Bool) (k : ℕ) (cs : List Bool)
-            → next (next (choose b (pure k) (refuse 4) cs) (λ kind. choose (eqb kind 2 && not one) (refuse 4) (rowsFor W kind >>= λ rows. pure (annotationAs kind rows)))) (λ y. pure (y ∷ [])) ≡ done as′ rest
+            → next (next (choose b (pure k) (refuse notAllowed) cs) (λ kind. choose (eqb kind 2 && not one) (refuse notAllowed) (rowsFor W kind >>= λ rows. pure (annotationAs kind rows)))) (λ y. pure (y ∷ [])) ≡ done as′ rest
             → (rows : List (List ℕ)) × (left : List Bool) × (rowsFor W k cs ≡ done rows left) × (as′ ≡ annotationAs k rows ∷ [])
         kinds true k cs h = picked (eqb k 2 && not one) k cs h
         kinds false k cs h = let z : _≡_ {A = ℕ} 0 1 = cc in absurd (omega arith)
