@@ -2,3 +2,4 @@ pub mod Compact
 pub mod Reading
 pub mod ReadingLaws
 pub mod SheetLaws
+pub mod Instance

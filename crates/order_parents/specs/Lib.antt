@@ -3,3 +3,4 @@ pub mod Known
 pub mod PutLaws
 pub mod MapLaws
 pub mod SheetLaws
+pub mod Instance

@@ -134,3 +134,11 @@ module _ (m : TypeMap) (d entries : List ℕ) (n own : ℕ) (old new : List ℕ)
       q .whole
       ∙ all-tab-same (λ a. a) (λ a. all (knownKey old own) (keysIn d (rowOf entries a))) (typeAt m) (λ (T : TypeInfo). all (known m) (T .parents)) n known-at
       ∙ ap (all (λ (T : TypeInfo). all (known m) (T .parents))) types-are
+
+-- the sets stay where the parents in the table do
+pub sets-kept : (m : TypeMap) (t u : List ℕ) → ((a : ℕ) → a < length (m .types) → parentsAt u a ≡ parentsAt t a) → ParentSets m t → ParentSets m u
+sets-kept m t u e p = record {
+  most = λ a h. rw (e a h) (p .most a h);
+  bits = λ a b h k. ap (λ (x : ℕ). hasBit x b) (e a h) ∙ p .bits a b h k;
+  within = λ a b h k. ap (λ (x : ℕ). hasBit x b) (e a h) ∙ p .within a b h k;
+}

@@ -4,3 +4,5 @@ pub mod Organized
 pub mod StepLaws
 pub mod StageLaws
 pub mod OrganizedLaws
+pub mod HoldsLaws
+pub mod Instance
