@@ -1,18 +1,17 @@
 -- The compact form reads the map of the draft: the proof.
-use mathlib.Core.Bool.{Bool, true, false, _&&_, cond}
+use mathlib.Core.Bool.{Bool, true, false}
 use mathlib.Core.List.{List, [], _∷_, map}
-use mathlib.Core.Path.{_≡_, refl, sym, ap, ap₂, _∙_, subst}
-use Prim.Native.Nat.{ℕ, zero, suc, _+_, _*_, _-_, _/_, _%_, _≤_, _<_}
+use mathlib.Core.Path.{_≡_, refl, sym, ap, _∙_, subst}
+use Prim.Native.Nat.{ℕ, zero, suc, _+_, _*_, _/_, _%_, _≤_, _<_}
 use native.Mathlib.Omega.{arith}
 use borrow.Author.Tests.{eqb-true, eqb-false, lt-ltb, ltb-true}
 use lib.Dec.{eqb, ltb}
 use lib.ListN.{length, getD}
-use Rattle.lists.specs.Lists.{any, all, placeOf}
-use Rattle.lists.specs.Tests.{by, never, not-so, and-left, and-right}
+use Rattle.lists.specs.Lists.{placeOf}
+use Rattle.lists.specs.Tests.{by, and-left}
 use Rattle.rows.specs.Rows.{hasBit}
 use Rattle.rows.specs.RowLaws.{bit-none}
-use Rattle.bitsets.specs.Bitsets.{Lowest}
-use Rattle.definitions.specs.Records.{Name, TypeInfo}
+use Rattle.definitions.specs.Records.{TypeInfo}
 use Rattle.definitions.specs.Comparisons.{sameName}
 use Rattle.definitions.specs.Map.{TypeMap}
 use Rattle.ordering.specs.Lists.{tab, tab-same, map-tab}
@@ -22,7 +21,7 @@ use Rattle.ordering.specs.declared.Parents.{Parents}
 use Rattle.sheet_keys.specs.Keys.{nameOfKey}
 use Rattle.sheet_draft.specs.Draft.{keyAt, parentCountAt, parentAt}
 use Rattle.order_parents.specs.Parents.{looked, rowOf}
-use Rattle.order_parents.specs.Known.{Looks, Rows}
+use Rattle.order_parents.specs.Known.{Looks}
 use Rattle.order_compact.specs.Compact.{secondOf, keyIn, PlaceIs, Named, Filled}
 use Rattle.order_compact.specs.Reading.{Drawn, Compacts}
 

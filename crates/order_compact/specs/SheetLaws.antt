@@ -1,11 +1,11 @@
 -- What the compact form asks of the draft and the catalogue follows from what these are of a sheet.
 use mathlib.Core.Bool.{Bool}
 use mathlib.Core.List.{List}
-use mathlib.Core.Path.{_≡_, refl, ap, _∙_, subst}
-use Prim.Native.Nat.{ℕ, _*_, _/_, _<_}
+use mathlib.Core.Path.{_≡_, refl, ap, subst}
+use Prim.Native.Nat.{ℕ, _*_, _<_}
 use native.Mathlib.Omega.{arith}
 use lib.ListN.{length}
-use Rattle.definitions.specs.Records.{Name, TypeInfo, Sheet}
+use Rattle.definitions.specs.Records.{TypeInfo, Sheet}
 use Rattle.definitions.specs.Map.{TypeMap, typeMapOf}
 use Rattle.line_laws.specs.Within as line
 use Rattle.ordering.specs.Reading.{typeAt}

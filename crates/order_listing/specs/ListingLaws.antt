@@ -2,7 +2,7 @@
 use mathlib.Core.Bool.{Bool, true, false}
 use mathlib.Core.List.{List, [], _∷_, _++_, append-nil}
 use mathlib.Core.Path.{_≡_, refl, sym, ap, ap₂, _∙_, subst}
-use Prim.Native.Nat.{ℕ, zero, suc, _+_, _*_, _-_, _/_, _%_, _^_, _≤_, _<_}
+use Prim.Native.Nat.{ℕ, zero, suc, _+_, _*_, _-_, _/_, _%_, _≤_, _<_}
 use native.Mathlib.Numerals.{add-one}
 use native.Mathlib.Omega.{arith}
 use borrow.Author.Tests.{eqb-true, eqb-false}
@@ -12,7 +12,6 @@ use Rattle.lists.specs.Lists.{each}
 use Rattle.lists.specs.Tabulating.{tabulate, length-tabulate, each-next}
 use Rattle.lists.specs.Tests.{by}
 use Rattle.definitions.specs.Bits.{toBits}
-use Rattle.definitions.specs.Records.{Name}
 use Rattle.definitions.specs.Packing.{nameBits, orderBits}
 use Rattle.bits.specs.NumberLaws.{length-toBits}
 use Rattle.bits.specs.Writing.{put, Wrote}

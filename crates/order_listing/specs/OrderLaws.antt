@@ -4,13 +4,12 @@ use mathlib.Core.List.{List, map}
 use mathlib.Core.Path.{_≡_, refl, sym, ap, _∙_}
 use Prim.Native.Nat.{ℕ, _≤_, _<_}
 use native.Mathlib.Omega.{arith}
-use lib.ListN.{length, getD, take}
-use Rattle.lists.specs.Tabulating.{tabulate, tabulate-same, map-tabulate, taken}
-use Rattle.definitions.specs.Records.{Sheet, TypeInfo}
+use lib.ListN.{getD}
+use Rattle.lists.specs.Tabulating.{tabulate-same, map-tabulate, taken}
+use Rattle.definitions.specs.Records.{Sheet}
 use Rattle.definitions.specs.Map.{LineType, typeMapOf, lineTypeOf}
 use Rattle.definitions.specs.Order.{organizeTypeMap}
 use Rattle.definitions.specs.Packing.{orderBits}
-use Rattle.line_laws.specs.Statements.{lineMap}
 use Rattle.ordering.specs.Reading.{typeAt}
 use Rattle.catalogue.specs.Layout.{keyAt}
 use Rattle.catalogue.specs.Catalogue.{nameOfKey, Listed}

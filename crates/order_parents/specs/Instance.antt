@@ -1,13 +1,13 @@
 -- A draft, a catalogue and the map that they are of, computed: type `b` inherits `a`. The numbers of `a` and `b` are 2 and 3.
-use mathlib.Core.Bool.{Bool, true, false, _&&_}
+use mathlib.Core.Bool.{Bool, false, _&&_}
 use mathlib.Core.List.{List, [], _∷_, _++_}
 use mathlib.Core.Path.{_≡_, refl, sym, ap, _∙_}
-use Prim.Native.Nat.{ℕ, zero, suc, _+_, _*_, _^_, _≤_, _<_}
+use Prim.Native.Nat.{ℕ, zero, suc, _+_, _*_, _^_, _<_}
 use native.Mathlib.Nat.{not-suc-le-zero}
 use native.Mathlib.Omega.{arith}
 use borrow.Author.Tests.{ne-eqb, le-ltb}
-use lib.Dec.{eqb, ltb}
-use lib.ListN.{length, replicate}
+use lib.Dec.{ltb}
+use lib.ListN.{replicate}
 use Rattle.rows.specs.Rows.{hasBit}
 use Rattle.rows.specs.RowLaws.{bit-one, bit-none}
 use Rattle.definitions.specs.Records.{Name, domain, TypeInfo}

@@ -1,20 +1,20 @@
 -- What was put, for the map that the draft has: sets of parents, the types that are a parent, whether each parent is known.
-use mathlib.Core.Bool.{Bool, true, false, _&&_, _||_, not, and-false, and-true}
+use mathlib.Core.Bool.{Bool, true, false, _&&_, not, and-false}
 use mathlib.Core.List.{List, [], _∷_}
 use mathlib.Core.Path.{_≡_, refl, sym, ap, ap₂, _∙_}
-use Prim.Native.Nat.{ℕ, zero, suc, _+_, _*_, _-_, _/_, _%_, _≤_, _<_}
+use Prim.Native.Nat.{ℕ, zero, suc, _*_, _/_, _%_, _≤_, _<_}
 use native.Mathlib.Omega.{arith}
 use borrow.Author.Tests.{eq-eqb, ne-eqb, eqb-true, eqb-false, ltb-true, lt-ltb, le-ltb}
 use lib.Dec.{eqb, ltb}
-use lib.ListN.{length, getD}
-use Rattle.lists.specs.Lists.{In, any, all}
-use Rattle.lists.specs.Tests.{by, never, same-test, and-left, and-right, any-in, any-of}
+use lib.ListN.{length}
+use Rattle.lists.specs.Lists.{any, all}
+use Rattle.lists.specs.Tests.{by, never, and-left, and-right, any-in, any-of}
 use Rattle.lists.specs.Appending.{all-append}
 use Rattle.lists.specs.Places.{getD-in}
 use Rattle.rows.specs.Rows.{hasBit}
 use Rattle.rows.specs.RowLaws.{bit-none}
 use Rattle.bitsets.specs.BitLaws.{some-bit}
-use Rattle.definitions.specs.Records.{Name, TypeInfo}
+use Rattle.definitions.specs.Records.{TypeInfo}
 use Rattle.definitions.specs.Comparisons.{sameName, elemName}
 use Rattle.definitions.specs.Map.{TypeMap}
 use Rattle.definitions.specs.Order.{isSelf}

@@ -2,12 +2,12 @@
 use mathlib.Core.Bool.{Bool, true, _&&_, _||_, not}
 use mathlib.Core.List.{List, [], _∷_}
 use mathlib.Core.Path.{_≡_, refl, sym, ap, ap₂, _∙_}
-use Prim.Native.Nat.{ℕ, _+_, _/_, _%_, _^_, _≤_, _<_}
+use Prim.Native.Nat.{ℕ, _+_, _^_, _<_}
 use native.Mathlib.Omega.{arith}
 use borrow.Author.Tests.{eqb-true, eqb-false}
 use lib.Bits.{bitOr, bitAnd}
 use lib.Dec.{eqb}
-use lib.ListN.{length, getD, set}
+use lib.ListN.{length, set}
 use lib.Seq.{getD-set-same, getD-set-other}
 use Rattle.lists.specs.Lists.{any, all}
 use Rattle.lists.specs.Tests.{by}
@@ -15,7 +15,6 @@ use Rattle.rows.specs.Rows.{hasBit}
 use Rattle.rows.specs.RowLaws.{bit-either, bit-none}
 use Rattle.ordering.specs.Lists.{tab, any-tab-step, all-tab-step}
 use Rattle.sheet_draft.specs.Draft.{parentCountAt, parentAt}
-use Rattle.catalogue.specs.Layout.{parentsAt, firstAt, secondAt}
 use Rattle.catalogue.specs.Kept.{KeptOutside, kept-none, kept-set, kept-more}
 use Rattle.order_parents.specs.Parents.{looked, knownKey, rowOf, keysIn, ParentsOf, ParentsPut}
 use Rattle.order_parents.specs.declared.Found.{Found}

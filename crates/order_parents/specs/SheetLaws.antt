@@ -1,27 +1,27 @@
 -- What the parents ask of the draft and the catalogue follows from what these are of a sheet; and what was put, in the catalogue's words.
-use mathlib.Core.Bool.{Bool, true, false, _&&_, not, cond, and-true}
+use mathlib.Core.Bool.{Bool, true, false, _&&_, cond, and-true}
 use mathlib.Core.List.{List, [], _∷_, map, List·Memᴰ·head, List·Memᴰ·tail}
 use mathlib.Core.Path.{_≡_, refl, sym, ap, ap₂, _∙_, subst}
-use Prim.Native.Nat.{ℕ, zero, suc, _+_, _*_, _-_, _/_, _%_, _^_, _≤_, _<_}
+use Prim.Native.Nat.{ℕ, zero, suc, _+_, _*_, _-_, _/_, _%_, _≤_, _<_}
 use native.Mathlib.Omega.{arith}
-use borrow.Author.Tests.{eq-eqb, ne-eqb, eqb-true, eqb-false, ltb-true, ltb-false, lt-ltb, le-ltb}
-use lib.Bits.{bitAnd, and-le-r}
+use borrow.Author.Tests.{eqb-true, eqb-false, ltb-true, ltb-false}
+use lib.Bits.{and-le-r}
 use lib.Dec.{eqb, ltb}
 use lib.ListN.{length, getD, take, length-map, List·getD-map}
 use lib.Seq.{getD-take, length-take-le}
-use Rattle.lists.specs.Lists.{In, any, sort}
+use Rattle.lists.specs.Lists.{In, sort}
 use Rattle.lists.specs.Tests.{by, eqb-flip}
 use Rattle.lists.specs.Appending.{any-map}
 use Rattle.lists.specs.Places.{getD-in}
 use Rattle.lists.specs.Sorting.{sort-is}
-use Rattle.lists.specs.Tabulating.{tabulate, getD-tabulate, tabulate-in}
+use Rattle.lists.specs.Tabulating.{tabulate, tabulate-in}
 use Rattle.rows.specs.Rows.{hasBit}
 use Rattle.bitsets.specs.BitLaws.{bit-both}
 use Rattle.definitions.specs.Records.{Name, TypeInfo, Sheet}
-use Rattle.definitions.specs.Comparisons.{sameName, elemName, nameBefore}
-use Rattle.definitions.specs.Map.{TypeMap, LineType, typeMapOf, lineTypeOf, lineMapOf}
+use Rattle.definitions.specs.Comparisons.{sameName, nameBefore}
+use Rattle.definitions.specs.Map.{LineType, typeMapOf, lineTypeOf, lineMapOf}
 use Rattle.line_laws.specs.Statements.{lineMap}
-use Rattle.line_laws.specs.Within.{WordsWithin, NameWithin, TypeWithin, Within}
+use Rattle.line_laws.specs.Within.{NameWithin, TypeWithin, Within}
 use Rattle.ordering.specs.Lists.{tab, getD-any}
 use Rattle.ordering.specs.Reading.{noType, typeAt}
 use Rattle.law_classes.specs.Sets as lines
@@ -29,10 +29,10 @@ use Rattle.law_classes.specs.Sets.{some, oneWord, SetIs}
 use Rattle.law_classes.specs.Numbers.{Fits}
 use Rattle.sheet_keys.specs.Keys.{nameOfKey, namesFrom}
 use Rattle.sheet_draft.specs.Draft.{parentCountAt, parentAt, typeIn, typesIn}
-use Rattle.sheet_draft.specs.Drafted.{Drafted, Entered}
+use Rattle.sheet_draft.specs.Drafted.{Drafted}
 use Rattle.catalogue.specs.Layout.{parentsAt, firstAt, secondAt}
 use Rattle.catalogue.specs.Catalogue.{firstIs, secondIs, Listed}
-use Rattle.order_parents.specs.Parents.{looked, rowOf, KeysOf, Prepared}
+use Rattle.order_parents.specs.Parents.{looked, rowOf, Prepared}
 use Rattle.order_parents.specs.Known.{Looks, Rows, ParentSets, Childed}
 
 -- the types of the draft by name, by the entries

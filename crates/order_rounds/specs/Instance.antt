@@ -1,7 +1,7 @@
 -- What the order asks is no empty demand: the map of two types, of which one inherits the other.
 use mathlib.Core.Bool.{true}
 use mathlib.Core.Path.{_≡_, refl}
-use Prim.Native.Nat.{ℕ, zero, suc, _≤_, _<_}
+use Prim.Native.Nat.{_≤_}
 use native.Mathlib.Omega.{arith}
 use lib.ListN.{length}
 use Rattle.lists.specs.Lists.{all}
@@ -10,7 +10,7 @@ use Rattle.ordering.specs.Reading.{typeAt, isName}
 use Rattle.ordering.specs.Compact.{Within}
 use Rattle.order_parents.specs.Known.{known, allKnown}
 use Rattle.order_parents.specs.Instance.{pair, sets, pair-sets, below-two}
-use Rattle.order_rounds.specs.Organized.{Holds, Asked}
+use Rattle.order_rounds.specs.Organized.{Asked}
 
 pub pair-within : Within pair
 pair-within = record {

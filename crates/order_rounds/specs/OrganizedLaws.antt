@@ -2,34 +2,34 @@
 use mathlib.Core.Bool.{Bool, true, false, _&&_, _||_, not, cond}
 use mathlib.Core.List.{List, [], _∷_, map}
 use mathlib.Core.Path.{_≡_, refl, sym, ap, ap₂, _∙_, subst}
-use Prim.Native.Nat.{ℕ, zero, suc, _+_, _≤_, _<_}
+use Prim.Native.Nat.{ℕ, zero, suc, _<_}
 use native.Mathlib.Nat.{le-of-suc-le-suc, not-suc-le-zero}
 use native.Mathlib.Omega.{arith}
-use borrow.Author.Tests.{eq-eqb, ne-eqb, eqb-true, ltb-true, ltb-false, lt-ltb, not-true}
+use borrow.Author.Tests.{ne-eqb, eqb-true, ltb-true, ltb-false, lt-ltb, not-true}
 use lib.Dec.{eqb, ltb}
 use lib.ListN.{length, getD, take}
 use lib.Seq.{getD-take, take-take}
 use Rattle.lists.specs.Lists.{In, any, all, placeOf}
-use Rattle.lists.specs.Tests.{by, never, not-so, and-left, and-right, and-both, any-in, any-of, any-not, any-none, all-in, all-of}
+use Rattle.lists.specs.Tests.{by, never, not-so, and-left, and-right, and-both, any-of, any-not, any-none, all-in, all-of}
 use Rattle.lists.specs.Appending.{any-map, all-map}
 use Rattle.lists.specs.Places.{getD-in}
 use Rattle.lists.specs.Tabulating.{tabulate, getD-tabulate}
 use Rattle.rows.specs.Rows.{hasBit}
 use Rattle.definitions.specs.Records.{Name, TypeInfo}
-use Rattle.definitions.specs.Comparisons.{sameName, elemName}
+use Rattle.definitions.specs.Comparisons.{sameName}
 use Rattle.definitions.specs.Map.{TypeMap}
 use Rattle.definitions.specs.Order.{isSelf, inheritsSelf, hasOrder, organizeTypeMap}
 use Rattle.ordering.specs.Lists.{elem, same-list-sym}
 use Rattle.ordering.specs.Reading.{Parent, listed, noType, typeAt, placeIn, parentIn, Reads}
 use Rattle.ordering.specs.Compact.{compactOf, Within, compact-reads}
 use Rattle.ordering.specs.Names.{place-same, self-lists, order-found, order-is, whole-order, no-self}
-use Rattle.ordering.specs.Rounds.{listsSelf, placed, final, count-full}
+use Rattle.ordering.specs.Rounds.{final, count-full}
 use Rattle.ordering.specs.declared.Parents.{Parents}
 use Rattle.parent_laws.specs.Earlier.{at-below, parent-earlier, all-below}
 use Rattle.law_classes.specs.Numbers.{place-of}
 use Rattle.item_spread.specs.Spread.{Ordered}
 use Rattle.catalogue.specs.Layout.{parentsAt}
-use Rattle.order_parents.specs.Known.{known, allKnown, ParentSets}
+use Rattle.order_parents.specs.Known.{known, allKnown}
 use Rattle.order_rounds.specs.Rounds.{SetsFor, Sets, Placed}
 use Rattle.order_rounds.specs.Organized.{Holds, Asked, Organized}
 

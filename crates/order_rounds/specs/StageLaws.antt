@@ -2,14 +2,14 @@
 use mathlib.Core.Bool.{Bool, true, false, _&&_, _||_, not, and-false}
 use mathlib.Core.List.{List, [], _∷_, _++_, List·Memᴰ·not-nil}
 use mathlib.Core.Path.{_≡_, refl, sym, ap, ap₂, _∙_, subst}
-use Prim.Native.Nat.{ℕ, zero, suc, _+_, _^_, _≤_, _<_, min}
+use Prim.Native.Nat.{ℕ, suc, _+_, _^_, _≤_, _<_, min}
 use native.Mathlib.Omega.{arith}
-use borrow.Author.Tests.{eq-eqb, ne-eqb, eqb-true, eqb-false, ltb-true, ltb-false, lt-ltb, le-ltb, not-true}
+use borrow.Author.Tests.{eq-eqb, eqb-true, eqb-false, ltb-true, ltb-false, lt-ltb, le-ltb, not-true}
 use lib.Bits.{bitAnd, and-le-l}
 use lib.Dec.{eqb, ltb}
 use lib.ListN.{length, getD, take, length-append}
 use Rattle.lists.specs.Lists.{In, any, all}
-use Rattle.lists.specs.Tests.{by, never, same-test, not-so, and-left, and-right, and-both, or-elim, or-left, or-right, any-in, any-of, any-not, any-none, all-in, all-of}
+use Rattle.lists.specs.Tests.{by, never, same-test, not-so, and-left, and-right, or-elim, or-right, any-in, any-of, any-not, any-none, all-in, all-of}
 use Rattle.lists.specs.Appending.{any-append}
 use Rattle.rows.specs.Rows.{hasBit}
 use Rattle.rows.specs.RowLaws.{bit-none}

@@ -1,6 +1,5 @@
 use borrow.Author.Needs.{needs}
-use mathlib.Core.Path.{_≡_, sym, _∙_, subst}
-use lib.ListN.{length}
+use mathlib.Core.Path.{sym, _∙_, subst}
 use Rattle.order_compact.specs.Compact.{Drafts}
 use Rattle.order_compact.specs.ReadingLaws.{compacts}
 use Rattle.order_compact.proofs.parents_of.Statement.{statement}

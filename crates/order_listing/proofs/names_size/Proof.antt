@@ -1,8 +1,6 @@
-use mathlib.Core.Path.{_≡_, _∙_, ap, subst}
+use mathlib.Core.Path.{_≡_, subst}
 use Prim.Native.Nat.{ℕ, _-_, _≤_}
 use native.Mathlib.Omega.{arith}
-use lib.ListN.{length}
-use Rattle.order_listing.specs.Order.{namesBits}
 use Rattle.order_listing.specs.ListingLaws.{SizeTo, size-none, size-more}
 use Rattle.order_listing.proofs.names_size.Statement.{statement}
 use Rattle.order_listing.proofs.names_size.Tie as tie

@@ -1,4 +1,3 @@
-use mathlib.Core.Bool.{not}
 use mathlib.Core.Path.{sym}
 use borrow.Author.Tests.{eq-eqb, ne-eqb}
 use Rattle.order_parents.proofs.is_known.Statement.{statement}

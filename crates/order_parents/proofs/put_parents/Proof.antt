@@ -1,7 +1,6 @@
 use mathlib.Core.Path.{_≡_, subst}
 use Prim.Native.Nat.{_-_, _≤_}
 use native.Mathlib.Omega.{arith}
-use borrow.Author.Needs.{needs}
 use Rattle.order_parents.specs.Parents.{ParentsPut}
 use Rattle.order_parents.specs.PutLaws.{put-none, put-more}
 use Rattle.order_parents.proofs.put_parents.Statement.{statement}

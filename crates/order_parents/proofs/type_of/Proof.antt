@@ -1,4 +1,4 @@
-use mathlib.Core.Path.{sym, ap₂, _∙_}
+use mathlib.Core.Path.{ap₂}
 use lib.Bits.{bitAnd}
 use borrow.Author.Needs.{needs}
 use Rattle.order_parents.specs.Parents.{looked}

@@ -1,13 +1,10 @@
-use borrow.Author.Needs.{needs}
-use mathlib.Core.Bool.{false}
-use mathlib.Core.Path.{_≡_, refl, sym, _∙_}
+use mathlib.Core.Path.{_≡_, refl, _∙_}
 use mathlib.Core.Logic.{⊎-elim}
 use Prim.Native.Nat.{ℕ, _≤_, _<_, _-_}
 use native.Mathlib.Omega.{arith}
 use borrow.Author.Tests.{eq-eqb, ne-eqb}
-use lib.ListN.{length, take, getD}
+use lib.ListN.{take, getD}
 use Rattle.lists.specs.Lists.{all}
-use Rattle.lists.specs.Strict.{which}
 use Rattle.bitsets.specs.Bitsets.{members}
 use Rattle.bitsets.specs.WalkLaws.{all-failed, all-passed, all-end}
 use Rattle.ordering.specs.Lists.{elem, elem-at}

@@ -1,9 +1,8 @@
 use mathlib.Core.Path.{_≡_, refl, _∙_}
-use Prim.Native.Nat.{ℕ, suc, _+_, _-_, _^_, _≤_, _<_}
+use Prim.Native.Nat.{ℕ, suc, _-_, _^_, _≤_, _<_}
 use native.Mathlib.Omega.{arith}
 use lib.ListN.{length}
 use Rattle.lists.specs.Places.{zero-at}
-use Rattle.bitsets.specs.Bitsets.{members}
 use Rattle.ordering.specs.declared.Parents.{Parents}
 use Rattle.order_rounds.specs.Rounds.{SetsFor}
 use Rattle.order_rounds.specs.StageLaws.{Stage, stage-none, stage-more, stage-end, room, some-member, appended-placed}
