@@ -1,3 +1,4 @@
+use Rattle.decoding.specs.Decoding.{turnedBack}
 use Rattle.sheet_repeats.specs.declared.Sizes.{Sizes}
 use Rattle.sheet_decode.specs.DecodeLaws.{listed, not-listed, low, back-as, fill-back, words-back, twice-back, passes}
 use Rattle.sheet_repeats.specs.TwiceLaws.{twice-is}
@@ -23,19 +24,23 @@ read-lists-requires : tie.Need-read-lists-requires
 read-lists-requires c κs = search needs
 
 -- src/lib.rt:153:9
+number-of-requires : tie.Need-number-of-requires
+number-of-requires c κs = search needs
+
 turned-back-requires : tie.Need-turned-back-requires
 turned-back-requires c κs = search needs
 
 -- src/lib.rt:153:9
 returns : tie.Need-returns
 returns c =
-    let s = c .before .before .before .before .before .before .before in
+    let s = c .before .before .before .before .before .before .before .before in
     let bytes = now (s .args .s) in
-    let x = c .before .before .before .read-lists in
+    let x = c .before .before .before .before .read-lists in
     let l = x .result in
     let d = x .last .1 .0 in
     let t = x .last .1 .1 .0 in
-    back-as bytes d (now (s .args .entries)) t (c .turned-back .result) _ (c .turned-back .ensures) (not-listed bytes d t l (x .ensures .0) (not-true (l .ok) (c .before .if1 .taken)))
+    back-as bytes d (now (s .args .entries)) t (c .turned-back .result) _ (c .turned-back .ensures)
+    (not-listed bytes d t l (x .ensures .0) (not-true (l .ok) (c .before .before .if1 .taken)) ∙ ap turnedBack (sym (c .before .number-of .ensures)))
 
 -- src/lib.rt:155:8
 is-bad-fill-requires : tie.Need-is-bad-fill-requires
@@ -131,6 +136,7 @@ decode-spec =
     tie.close
     (tie.spec
     read-lists-requires
+    number-of-requires
     turned-back-requires
     returns
     is-bad-fill-requires

@@ -2,7 +2,7 @@ use Rattle.sheet_decode.specs.ListLaws.{no-version, no-words, words-read
 use Rattle.definitions.specs.Bits.{bitsOf}
 use lib.ListN.{length, drop}
 use denote.Ref.{now}
-use borrow.Author.Tests.{not-true, not-false, eq-eqb, ne-eqb}
+use borrow.Author.Tests.{not-true, not-false}
 use native.Mathlib.Omega.{arith}
 use mathlib.Core.Path.{_≡_, sym, ap, _∙_}
 use borrow.Author.Needs.{needs}
@@ -30,7 +30,7 @@ returns c =
     let bs = bitsOf (now (s .args .s)) in
     let o = c .before .before .before .read-version in
     let u = c .unread .ensures in (
-      unread-is bs _ _ (c .unread .result) _ u ∙ no-version bs (o .result) (o .ensures) (ne-eqb (o .result .refusal) 0 (c .before .if1 .taken)),
+      unread-is bs _ _ (c .unread .result) _ u ∙ no-version bs (o .result) (o .ensures) (not-true (o .result .ok) (c .before .if1 .taken)),
       unread-kept bs _ _ (c .unread .result) _ u (s .pre .1),
     )
 
@@ -51,7 +51,7 @@ returns-2 c =
     let w = c .before .before .before .read-words in
     let u = c .unread2 .ensures in (
       unread-is bs _ _ (c .unread2 .result) _ u
-          ∙ no-words bs (o .result) (o .ensures) (eq-eqb (o .result .refusal) 0 (c .before .before .before .before .if1 .left)) (w .result) (w .ensures .0) (not-true (w .result .ok) (c .before .if2 .taken)),
+          ∙ no-words bs (o .result) (o .ensures) (not-false (o .result .ok) (c .before .before .before .before .if1 .left)) (w .result) (w .ensures .0) (not-true (w .result .ok) (c .before .if2 .taken)),
       unread-kept bs _ _ (c .unread2 .result) _ u (s .pre .1),
     )
 
@@ -67,7 +67,7 @@ returns-3 c =
     let o = c .before .before .before .before .before .before .before .before .read-version in
     let w = c .before .before .before .before .before .read-words in
     let r = c .read-records .ensures in
-    (words-read bs (o .result) (o .ensures) (eq-eqb (o .result .refusal) 0 (c .before .before .before .before .before .before .if1 .left)) (w .result) (w .ensures .0) (not-false (w .result .ok) (c .before .before .before .if2 .left)) (r .0), r .1)
+    (words-read bs (o .result) (o .ensures) (not-false (o .result .ok) (c .before .before .before .before .before .before .if1 .left)) (w .result) (w .ensures .0) (not-false (w .result .ok) (c .before .before .before .if2 .left)) (r .0), r .1)
 
 pub read-lists-spec : {M : Type 1} → statement M
 read-lists-spec =
