@@ -19,6 +19,7 @@ use Rattle.definitions.specs.OrderRows.{orderRows}
 use Rattle.definitions.specs.Relisted.{Holds}
 use Rattle.definitions.specs.Answer as rules
 use Rattle.definitions.specs.Answer.{Call, Input, Outcome, sheetFault, refusedBy, restOf, sheetOf, Refusal, short, synthesisRows, overwrite, lateRefusals, typeMapIn, sheetRefusals, refusals, reject, accept, firstRefusal, outcome}
+use Rattle.definitions.specs.Answer.{mostRowBytes}
 use Rattle.bits.specs.NumberLaws.{length-packTo}
 use Rattle.reading_laws.specs.Refusals.{rejected, all-pass}
 use Rattle.reading_laws.specs.Answers.{held-passes}
@@ -91,12 +92,12 @@ module _ (call : Call) (s l d : List ℕ) where
 
   -- ---- 3 to 7
 
-  module _ (h : length s ≤ 40960) (k : 1536 ≤ length d) where
+  module _ (h : length s ≤ 40960) (k : mostRowBytes ≤ length d) where
     p1 : ltb 40960 (length s) ≡ false
     p1 = le-ltb 40960 (length s) h
 
-    p2 : ltb (length d) 1536 ≡ false
-    p2 = le-ltb (length d) 1536 k
+    p2 : ltb (length d) mostRowBytes ≡ false
+    p2 = le-ltb (length d) mostRowBytes k
 
     -- a fault has its number
     faulty : (f : Fault) → sheet (bitsOf s) ≡ refused f → untouched (sheetFault f) l d ≡ outcome i

@@ -11,7 +11,7 @@ use Rattle.definitions.specs.Map.{TypeMap}
 use Rattle.definitions.specs.Order.{organizeTypeMap}
 use Rattle.definitions.specs.OrderRows.{orderRows}
 use Rattle.definitions.specs.Packing.{orderBits}
-use Rattle.definitions.specs.Answer.{Call, order, scheduleOf}
+use Rattle.definitions.specs.Answer.{mostRows, Call, order, scheduleOf}
 use Rattle.ordering.specs.declared.Parents.{Parents}
 use Rattle.ordering.specs.declared.Order.{Order}
 use Rattle.ordering.specs.Reading.{Reads, typeAt}
@@ -28,7 +28,7 @@ use Rattle.access.specs.Ending.{diagnosed, listed, ended, Unordered, End
 -- ---- the parts that both calls have
 
 -- 8
-pub diagnosed-so : (p : Parents) (d d′ : List ℕ) (rows : ℕ) (more : Bool) (a : Answer) → Reported p 256 d d′ rows more → Tells a (parts 8 0 rows more) → Unordered p d d′ a
+pub diagnosed-so : (p : Parents) (d d′ : List ℕ) (rows : ℕ) (more : Bool) (a : Answer) → Reported p mostRows d d′ rows more → Tells a (parts 8 0 rows more) → Unordered p d d′ a
 diagnosed-so p d d′ rows more a q t = record { due = λ m e l. answered a _ l d′ _ t (eight m e l) }
   where
     eight : (m : TypeMap) → Reads p m → (l : List ℕ) → record { answer = parts 8 0 rows more; listing = l; diagnosis = d′ } ≡ diagnosed 8 (orderRows m) l d

@@ -12,19 +12,19 @@ use Rattle.definitions.specs.Map.{TypeMap}
 use Rattle.definitions.specs.Order.{hasOrder}
 use Rattle.definitions.specs.OrderRows.{orderRows}
 use Rattle.definitions.specs.Packing.{rowBytes}
-use Rattle.definitions.specs.Answer.{Call, order, Outcome, scheduleOf, bitsWritten, synthesisRows, overwrite}
+use Rattle.definitions.specs.Answer.{mostRows, Call, order, Outcome, scheduleOf, bitsWritten, synthesisRows, overwrite}
 use Rattle.ordering.specs.declared.Parents.{Parents}
 use Rattle.ordering.specs.Reading.{Reads, typeAt}
 use Rattle.packing.specs.Order.{nameAt}
 use Rattle.answers.specs.declared.Answer.{Answer}
 use Rattle.answers.specs.Answers.{parts, Answered}
 
--- 8 and 9: at most 256 rows are written, and no byte behind them changes (FORMAT 8.2)
+-- 8 and 9: at most `mostRows` rows are written, and no byte behind them changes (FORMAT 8.2)
 abbrev pub diagnosed : ℕ → List Row → List ℕ → List ℕ → Outcome
 diagnosed n rows listing diagnosis = record {
-  answer = parts n 0 (min 256 (length rows)) (ltb 256 (length rows));
+  answer = parts n 0 (min mostRows (length rows)) (ltb mostRows (length rows));
   listing = listing;
-  diagnosis = overwrite (each rowBytes (take 256 rows)) diagnosis;
+  diagnosis = overwrite (each rowBytes (take mostRows rows)) diagnosis;
 }
 
 -- 10 names the size that is needed and touches nothing; acceptance writes the bits and names their size (FORMAT 7.4)

@@ -11,6 +11,7 @@ use Rattle.definitions.specs.Records as records
 use Rattle.definitions.specs.Bits.{bitsOf}
 use Rattle.definitions.specs.Map.{TypeMap, typeMapOf}
 use Rattle.definitions.specs.Answer.{Call, schedule, order, outcome}
+use Rattle.definitions.specs.Answer.{mostRowBytes}
 use Rattle.line_laws.specs.Reading.{read-is-within}
 use Rattle.words.specs.Words.{wordOf, zeroWord, ofWords}
 use Rattle.types.specs.Types.{ofTypes}
@@ -36,7 +37,7 @@ module _ (s : List ℕ) (room : ℕ) (x : Decoded) where
   pub as-early : (e : ℕ) → Early (length s) room e → 0 < e → (x .ok ≡ false) × (x .refusal ≡ e) → Tests s room x
   as-early e h l q = record { refused = λ _. rw (q .1) (h .refused l s refl); passed = λ o. never o (q .0) }
 
-  pub as-decoded : length s ≤ 40960 → 1536 ≤ room → decodedOf x ≡ decoded s → Tests s room x
+  pub as-decoded : length s ≤ 40960 → mostRowBytes ≤ room → decodedOf x ≡ decoded s → Tests s room x
   as-decoded h g e = record {
     refused = λ q.
         let r : decodedOf x ≡ turnedBack (x .refusal) = rw q in

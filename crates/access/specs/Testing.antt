@@ -9,11 +9,12 @@ use Rattle.decoding.specs.declared.Decoded.{Decoded}
 use Rattle.decoding.specs.Answers.{mapIn}
 use Rattle.decoding.specs.Statements.{Held}
 use Rattle.answers.specs.Telling.{Refuses}
+use Rattle.definitions.specs.Answer.{mostRowBytes}
 
 -- the bytes are refused by none of 1 to 7, and r has their sheet
 pub record Passed (s : List ℕ) (room : ℕ) (r : Decoded) : Type 0 where
   pub short : length s ≤ 40960
-  pub enough : 1536 ≤ room
+  pub enough : mostRowBytes ≤ room
   pub held : Held s (ofWords (r .words)) (mapIn r)
 
 -- or they are refused by each call that lends a diagnosis slice of so many bytes, and both slices stay

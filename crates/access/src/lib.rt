@@ -8,7 +8,7 @@ ghost use mathlib.Core.Path.{_≡_};
 ghost use Prim.Native.Nat.{_≤_};
 ghost use lib.ListN.{length};
 ghost use Rattle.definitions.specs.Records.{Sheet};
-ghost use Rattle.definitions.specs.Answer.{outcome};
+ghost use Rattle.definitions.specs.Answer.{mostRowBytes, outcome};
 ghost use Rattle.ordering.specs.Reading.{Valid};
 ghost use Rattle.synthesis.specs.Synthesized.{Synthesizes};
 ghost use Rattle.answers.specs.Answers.{answerOf, Answered, orderInput, scheduleInput};
@@ -32,7 +32,7 @@ fn test(sheet: &[u8], room: usize) -> Decoded
 // 8: the map has no order; its rows are written (FORMAT 8.3 to 8.5).
 fn no_order(p: Parents, diagnosis: &mut [u8]) -> Answer
     requires { ⌜ Valid p ⌝ }
-    requires { ⌜ 1536 ≤ length (now diagnosis) ⌝ }
+    requires { ⌜ mostRowBytes ≤ length (now diagnosis) ⌝ }
     ensures { λ r. ⌜ Unordered p (now (diagnosis .entry)) (now (diagnosis .exit)) r ⌝ }
 {
     let report = diagnosis::diagnose(p, diagnosis, answers::ROWS);
@@ -42,7 +42,7 @@ fn no_order(p: Parents, diagnosis: &mut [u8]) -> Answer
 // Writes the order, if there is one: 8, 10 or acceptance.
 fn end_order(p: Parents, listing: &mut [u8], diagnosis: &mut [u8]) -> Answer
     requires { ⌜ Valid p ⌝ }
-    requires { ⌜ 1536 ≤ length (now diagnosis) ⌝ }
+    requires { ⌜ mostRowBytes ≤ length (now diagnosis) ⌝ }
     ensures { λ r. ⌜ Ended p (now (listing .entry)) (now (diagnosis .entry)) r (now (listing .exit)) (now (diagnosis .exit)) ⌝ }
 {
     let order = ordering::organize_type_map(p);
@@ -78,7 +78,7 @@ fn type_refused(
     diagnosis: &mut [u8],
 ) -> Answer
     requires { ⌜ ((s : Sheet) × Synthesizes s types extensions resource p) ⌝ }
-    requires { ⌜ 1536 ≤ length (now diagnosis) ⌝ }
+    requires { ⌜ mostRowBytes ≤ length (now diagnosis) ⌝ }
     ensures { λ r. ⌜ RowsDue types extensions resource p (now (diagnosis .entry)) (now (diagnosis .exit)) r ⌝ }
 {
     let report = synthesis::apply_associate_annotations(types, extensions, resource, p, diagnosis);
@@ -97,7 +97,7 @@ fn end_schedule(
     diagnosis: &mut [u8],
 ) -> Answer
     requires { ⌜ Started types extensions resource width p ⌝ }
-    requires { ⌜ 1536 ≤ length (now diagnosis) ⌝ }
+    requires { ⌜ mostRowBytes ≤ length (now diagnosis) ⌝ }
     ensures { λ r. ⌜ Scheduled types extensions resource width p (now (listing .entry)) (now (diagnosis .entry)) r (now (listing .exit)) (now (diagnosis .exit)) ⌝ }
 {
     let order = ordering::organize_type_map(p);

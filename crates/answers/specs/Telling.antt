@@ -6,7 +6,7 @@ use Prim.Native.Nat.{ℕ, _≤_, _<_}
 use lib.Dec.{eqb}
 use lib.ListN.{length}
 use Rattle.definitions.specs.Answer as rules
-use Rattle.definitions.specs.Answer.{Call, Outcome, outcome}
+use Rattle.definitions.specs.Answer.{mostRowBytes, Call, Outcome, outcome}
 use Rattle.answers.specs.declared.Answer.{Answer}
 use Rattle.answers.specs.Answers.{answerOf, caseOf, outcomeOf, inputOf}
 
@@ -31,4 +31,4 @@ pub record Refuses (s : List ℕ) (room n : ℕ) : Type 0 where
 -- tests 1 and 2 of a sheet of `size` bytes: n is the number of the first that refuses it, or 0
 pub record Early (size room n : ℕ) : Type 0 where
   pub refused : 0 < n → (s : List ℕ) → length s ≡ size → Refuses s room n
-  pub passed : n ≤ 0 → (size ≤ 40960) × (1536 ≤ room)
+  pub passed : n ≤ 0 → (size ≤ 40960) × (mostRowBytes ≤ room)

@@ -11,7 +11,7 @@ use Rattle.lists.specs.Tests.{by, never}
 use Rattle.definitions.specs.Records.{Row}
 use Rattle.definitions.specs.Legal.{Every}
 use Rattle.definitions.specs.Answer as rules
-use Rattle.definitions.specs.Answer.{Input, Outcome, Refusal, bare, short, refusals, reject, accept, firstRefusal, outcome}
+use Rattle.definitions.specs.Answer.{mostRowBytes, Input, Outcome, Refusal, bare, short, refusals, reject, accept, firstRefusal, outcome}
 use Rattle.laws.specs.Alike.{first-holds, first-passed}
 use Rattle.answers.specs.declared.Answer.{Answer}
 use Rattle.answers.specs.Answers.{parts, answerOf, caseOf, Answered, inputOf}
@@ -139,22 +139,22 @@ module _ (room : ℕ) (s : List ℕ) where
     due = λ call l d k. sym (first-holds (inputOf call s l d) (bare 1 _) _ (lt-ltb 40960 (length s) h));
   }
 
-  two : length s ≤ 40960 → room < 1536 → Refuses s room 2
+  two : length s ≤ 40960 → room < mostRowBytes → Refuses s room 2
   unfolding outcome refusals reject
   two h g = record {
     alone = refl;
     due = λ call l d k.
         sym
         (first-passed (inputOf call s l d) (bare 1 _) _ (le-ltb 40960 (length s) h)
-        ∙ first-holds (inputOf call s l d) (bare 2 _) _ (lt-ltb (length d) 1536 (omega (arith, k, g))));
+        ∙ first-holds (inputOf call s l d) (bare 2 _) _ (lt-ltb (length d) mostRowBytes (omega (arith, k, g))));
   }
 
 module _ (size room : ℕ) where
   pub too-long : 40960 < size → Early size room 1
   too-long h = record { refused = λ _ s e. one room s (omega (arith, e, h)); passed = λ q. absurd (omega (arith, q)) }
 
-  pub no-room : size ≤ 40960 → room < 1536 → Early size room 2
+  pub no-room : size ≤ 40960 → room < mostRowBytes → Early size room 2
   no-room h g = record { refused = λ _ s e. two room s (omega (arith, e, h)) g; passed = λ q. absurd (omega (arith, q)) }
 
-  pub neither : size ≤ 40960 → 1536 ≤ room → Early size room 0
+  pub neither : size ≤ 40960 → mostRowBytes ≤ room → Early size room 0
   neither h g = record { refused = λ q. absurd (omega (arith, q)); passed = λ _. (h, g) }

@@ -10,6 +10,7 @@ use Rattle.definitions.specs.Records as records
 use Rattle.definitions.specs.Records.{Item}
 use Rattle.definitions.specs.Map.{LineType}
 use Rattle.definitions.specs.Synthesis.{Verdict, unknownClasses, ends, noResource, duplicate, makes, judge, classRow, isDuplicate, withMaking}
+use Rattle.definitions.specs.Answer.{mostRows}
 use Rattle.table.specs.declared.Table.{Table}
 use Rattle.table.specs.Table.{declarationAt, tableMap, Sound}
 use Rattle.synthetic.specs.Made.{classesOf, Fits, created}
@@ -86,4 +87,4 @@ pub record Ready (t : Table) (T r : ℕ) (doms : Row) (ps limit : ℕ) (s : Reac
   pub holding : Holding t T (s .made)
   pub room : s .made .count < 380
   pub slice : 6 * limit ≤ length b
-  pub few : limit ≤ 256
+  pub few : limit ≤ mostRows

@@ -21,9 +21,17 @@ use Rattle.definitions.specs.Packing.{orderBits, scheduleBits, rowBytes}
 pub record Settings : Type 0 where
   pub rows : ℕ
 
--- 256 rows (FORMAT 8.2).
+-- The most rows of a diagnosis that are written (FORMAT 8.2).
+abbrev pub mostRows : ℕ
+mostRows = 256
+
+-- The bytes of so many rows, six each (FORMAT 8.1).
+abbrev pub mostRowBytes : ℕ
+mostRowBytes = 6 * mostRows
+
+-- As many rows as may be (FORMAT 8.2).
 abbrev pub standard : Settings
-standard = record { rows = 256 }
+standard = record { rows = mostRows }
 
 -- The two calls (FORMAT 7.1).
 pub data Call : Type 0 where

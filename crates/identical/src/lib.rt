@@ -10,6 +10,7 @@ ghost use lib.Dec.{eqb};
 ghost use Rattle.lists.specs.Lists.{sameList};
 ghost use Rattle.definitions.specs.Making.{sameItem, sameMark};
 ghost use Rattle.definitions.specs.Comparisons.{sameName};
+ghost use Rattle.definitions.specs.LegalSchedule.{mostMarks};
 ghost use Rattle.making.specs.Making.{parentOf, parentAt, parentsOf, markAs, marksOf, itemOf};
 
 // The second word of a parent. A parent of two words is held as `a.b`, or as the resource b of a one-word a: its words are
@@ -88,7 +89,7 @@ fn same_mark(d: u8, t: u8, e: u8, u: u8) -> bool
 }
 
 fn same_marks(a: Marks, b: Marks) -> bool
-    requires { ⌜ a .count ≤ 448 ⌝ }
+    requires { ⌜ a .count ≤ mostMarks ⌝ }
     ensures { λ r. ⌜ r ≡ sameList sameMark (marksOf a) (marksOf b) ⌝ }
 {
     let count = a.count;
@@ -120,7 +121,7 @@ fn same_flag(a: bool, b: bool) -> bool
 
 // Field by field.
 pub fn same_item(a: Making, b: Making) -> bool
-    requires { ⌜ (a .parents .count ≤ 17) × (a .marks .count ≤ 448) ⌝ }
+    requires { ⌜ (a .parents .count ≤ 17) × (a .marks .count ≤ mostMarks) ⌝ }
     ensures { λ r. ⌜ r ≡ sameItem (itemOf a) (itemOf b) ⌝ }
 {
     let n = a.name;

@@ -11,6 +11,7 @@ ghost use lib.ListN.{length};
 ghost use Rattle.lists.specs.Lists.{null, filter, firstOf};
 ghost use Rattle.rows.specs.Rows.{has};
 ghost use Rattle.definitions.specs.Synthesis.{classRow};
+ghost use Rattle.definitions.specs.Answer.{mostRows};
 ghost use Rattle.table.specs.Table.{declarationAt, Sound};
 ghost use Rattle.synthetic.specs.Made.{classesOf};
 ghost use Rattle.interpretation.specs.Emit.{emitBytes, emit};
@@ -26,7 +27,7 @@ pub fn put_row(
     other: Name,
     word: u8,
 ) -> usize
-    requires { ⌜ (6 * limit ≤ length (now buf)) × (limit ≤ 256) ⌝ }
+    requires { ⌜ (6 * limit ≤ length (now buf)) × (limit ≤ mostRows) ⌝ }
     ensures { λ r. ⌜ (now (buf .exit), r) ≡ emitBytes limit (now (buf .entry), n) (kind ∷ subject .first ∷ subject .second ∷ other .first ∷ other .second ∷ word ∷ []) ⌝ }
 {
     if n < limit {
@@ -110,7 +111,7 @@ pub fn unknown_rows(
     n: usize,
 ) -> usize
     requires { ⌜ Sound t ⌝ }
-    requires { ⌜ (word < 255) × (place < t .count) × (6 * limit ≤ length (now buf)) × (limit ≤ 256) ⌝ }
+    requires { ⌜ (word < 255) × (place < t .count) × (6 * limit ≤ length (now buf)) × (limit ≤ mostRows) ⌝ }
     ensures { λ r. ⌜ (now (buf .exit), r) ≡ emit limit (now (buf .entry), n) (map (classRow 4 (declarationAt t place) word) (filter (isUnknown t) (classesOf doms word))) ⌝ }
 {
     let count = t.count;

@@ -14,6 +14,7 @@ use Rattle.definitions.specs.Checks.{resourcesOf}
 use Rattle.definitions.specs.Inherited.{InheritedAnnotation}
 use Rattle.definitions.specs.Synthesis as definitions
 use Rattle.definitions.specs.Synthesis.{interpretAll}
+use Rattle.definitions.specs.Answer.{mostRows}
 use Rattle.annotations.specs.declared.AnnotationInfo.{AnnotationInfo}
 use Rattle.annotations.specs.Reading.{infoOf}
 use Rattle.dedup.specs.declared.Entry.{Entry}
@@ -85,7 +86,7 @@ pub record Ground (t : Table) (T limit : ℕ) (b : List ℕ) : Type 0 where
   pub sound : Sound t
   pub place : T < t .count
   pub slice : 6 * limit ≤ length b
-  pub few : limit ≤ 256
+  pub few : limit ≤ mostRows
 
 -- the makings fit, and there is room for n more
 pub record Room (t : Table) (T : ℕ) (made : Makings) (n : ℕ) : Type 0 where

@@ -9,6 +9,7 @@ use Rattle.rows.specs.declared.Row.{Row}
 use Rattle.rows.specs.Rows.{has}
 use Rattle.definitions.specs.Records.{Item}
 use Rattle.definitions.specs.Synthesis.{Interpreted, interpretWords}
+use Rattle.definitions.specs.Answer.{mostRows}
 use Rattle.dedup.specs.declared.Entry.{Entry}
 use Rattle.dedup.specs.Lists.{many}
 use Rattle.dedup.specs.Reading.{resourcesAt, tableOf}
@@ -35,7 +36,7 @@ pub record EntryReady (t : Table) (T : ℕ) (e : Entry) (doms : List Row) (limit
   pub holding : Holding t T made
   pub room : made .count + size e ≤ 380
   pub slice : 6 * limit ≤ length b
-  pub few : limit ≤ 256
+  pub few : limit ≤ mostRows
 
 -- r is s behind it: `failed` where it added a row
 pub record EntryDone (t : Table) (T : ℕ) (e : Entry) (doms : List Row) (limit : ℕ) (s : Reached) (b : List ℕ) (r : Reached) (b′ : List ℕ) : Type 0 where

@@ -10,6 +10,7 @@ use Rattle.definitions.specs.Bits.{odd, toBits}
 use Rattle.definitions.specs.Records.{Name}
 use Rattle.definitions.specs.Packing.{nameBits, parentBits, countedBits}
 use Rattle.definitions.specs.Comparisons.{dotted}
+use Rattle.definitions.specs.LegalSchedule.{mostMarks}
 use Rattle.ordering.specs.Lists.{below}
 use Rattle.rows.specs.Rows.{hasBit}
 use Rattle.catalogue.specs.Layout.{keyAt, headAt, marksAt, tallyAt, extensionCountAt, secondAt, resourceIn}
@@ -90,7 +91,7 @@ allVirtual t cs = all (λ c. virtualHead (headAt t c)) cs
 -- What the classes of a set add to what is gathered: marks, and a flag that stays where all are virtual.
 pub record Gathers (t : List ℕ) (g : Gathered) (set : ℕ) (r : Gathered) : Type 0 where
   pub marks : r .marks ≡ g .marks + marksIn t (members set)
-  pub most : r .marks ≤ g .marks + 448
+  pub most : r .marks ≤ g .marks + mostMarks
   pub flag : odd (r .flag) ≡ (odd (g .flag) && allVirtual t (members set))
 
 -- The number of marks, and the marks of classes, no dom first.

@@ -15,6 +15,7 @@ use Rattle.definitions.specs.Bits.{odd, toBits}
 use Rattle.definitions.specs.Records.{Name}
 use Rattle.definitions.specs.Packing.{nameBits, parentBits, countedBits}
 use Rattle.definitions.specs.Comparisons.{dotted}
+use Rattle.definitions.specs.LegalSchedule.{mostMarks}
 use Rattle.bits.specs.NumberLaws.{length-toBits, toBits-split}
 use Rattle.rows.specs.Rows.{hasBit}
 use Rattle.law_classes.specs.Numbers.{bit-both}
@@ -51,7 +52,7 @@ pub odd-and : (a b : ℕ) → odd (bitAnd a b) ≡ (odd a && odd b)
 unfolding odd hasBit
 odd-and a b = bit-both a b 0
 
-pub marks-most : (t : List ℕ) (set : ℕ) → marksIn t (members set) ≤ 448
+pub marks-most : (t : List ℕ) (set : ℕ) → marksIn t (members set) ≤ mostMarks
 unfolding marksIn
 marks-most t set =
     let m = total-most (λ c. tallyAt t c % 8) 7 (members set) (λ e i. omega arith) in

@@ -5,6 +5,7 @@ ghost use mathlib.Core.Path.{_≡_};
 ghost use Prim.Native.Nat.{_+_, _*_, _%_, _≤_, _<_};
 ghost use lib.ListN.{length};
 ghost use Rattle.definitions.specs.Bits.{toBits};
+ghost use Rattle.definitions.specs.LegalSchedule.{mostMarks};
 ghost use Rattle.catalogue.specs.Layout.{keyAt, headAt, extensionCountAt};
 ghost use Rattle.item_pen.specs.Pen.{RoomFor, Adds};
 ghost use Rattle.item_fields.specs.Fields.{lineBits};
@@ -57,7 +58,7 @@ fn count_added(t: &[u64; 1544], records: u64) -> u64
 
 // With the classes of a set (FORMAT 4.6, 4.7).
 fn gather(t: &[u64; 1544], g: Gathered, set: u64) -> Gathered
-    requires { ⌜ g .marks ≤ 448 ⌝ }
+    requires { ⌜ g .marks ≤ mostMarks ⌝ }
     ensures { λ r. ⌜ Gathers (now (t .entry)) g set r ⌝ }
 {
     let mut marks = g.marks;
@@ -255,7 +256,7 @@ fn firsts_width(t: &[u64; 1544], m: Making) -> usize
 
 // How many bits the marks of the classes of a set have.
 fn marks_width(t: &[u64; 1544], set: u64) -> usize
-    ensures { λ r. ⌜ (r ≡ length (eachOf (marksBits (now (t .entry))) set)) × (r ≤ 4032) ⌝ }
+    ensures { λ r. ⌜ (r ≡ length (eachOf (marksBits (now (t .entry))) set)) × (r ≤ 9 * mostMarks) ⌝ }
 {
     let mut n: usize = 0;
     let mut left = set;

@@ -15,6 +15,7 @@ use Rattle.definitions.specs.Map.{LineType, lineTypeOf}
 use Rattle.definitions.specs.Making.{declared, classNames, extensionParents, marksOf, createSyntheticResource, extensionLine}
 use Rattle.definitions.specs.Items.{associateWord, ownResource, ownClasses, domsAbove, parentsAbove, inheritedResource, itemsAt}
 use Rattle.definitions.specs.Lines.{ExtensionParents, record′, no-record}
+use Rattle.definitions.specs.LegalSchedule.{mostMarks}
 use Rattle.laws.specs.Comparisons.{dom-strict, look-up-is}
 use Rattle.line_laws.specs.Within.{WordsWithin, NameWithin, MarkWithin, Within, ItemWithin}
 use Rattle.lists.specs.Members.{distinct-each, distinct-map, each-short}
@@ -70,7 +71,7 @@ module _ (s : Sheet) (ok : Readable s) (in′ : Within s) where
   declared-marks i = let t = type-of s i in subst (λ (D : LineType). (length (D .marks) ≤ 7) × ((k : Mark) → In k (D .marks) → MarkWithin k)) (t .2) (type-marks (t .0) (t .1))
 
   -- the marks of distinct classes: each type has 7 at most
-  marks-short : (cs : List Name) → Distinct cs → length (marksOf (lineMap s) cs) ≤ 448
+  marks-short : (cs : List Name) → Distinct cs → length (marksOf (lineMap s) cs) ≤ mostMarks
   unfolding marksOf
   marks-short cs d =
       let ds : List LineType = each (declared (lineMap s)) cs in

@@ -1,4 +1,4 @@
--- What is made for a type and a word fits: at most 448 marks, and at most 8 parents of an extension.
+-- What is made for a type and a word fits: at most `mostMarks` marks, and at most 8 parents of an extension.
 use mathlib.Core.Bool.{Bool, false, _&&_}
 use mathlib.Core.List.{List, [], _∷_, map, append-nil, List·Memᴰ·head, List·Memᴰ·tail}
 use mathlib.Core.Path.{_≡_, refl, sym, ap, _∙_}
@@ -24,6 +24,7 @@ use Rattle.definitions.specs.Records.{Name, Mark, Extension}
 use Rattle.definitions.specs.Comparisons.{sameName, lookUp, dotted}
 use Rattle.definitions.specs.Map.{TypeMap, LineType, lineMapOf}
 use Rattle.definitions.specs.Making.{declared, extensionParents, marksOf}
+use Rattle.definitions.specs.LegalSchedule.{mostMarks}
 use Rattle.fields.specs.FieldLaws.{length-ofNames}
 use Rattle.records.specs.MarkLaws.{length-ofMarks}
 use Rattle.types.specs.Extensions.{extensionOf, zeroExtension, ofExtensions}
@@ -97,7 +98,7 @@ module _ (t : Table) where
   few-marks s i h = omega (arith, length-ofMarks (getD (t .marks) i zeroMarks), s .marks i h)
 
   -- the classes of a word are types at different places: at most 64, of at most 7 marks each
-  pub marks-fit : Sound t → (doms : Row) (r : ℕ) → length (marksOf (tableMap t) (classesOf doms r)) ≤ 448
+  pub marks-fit : Sound t → (doms : Row) (r : ℕ) → length (marksOf (tableMap t) (classesOf doms r)) ≤ mostMarks
   marks-fit s doms r =
       let l = classPlaces doms r in
       let n : length l ≤ length (upto (t .count)) = pigeonhole l (upto (t .count)) (classes-distinct doms r) (λ i h. tabulate-in (λ i. i) (t .count) i (class-place doms r i h)) in

@@ -5,6 +5,7 @@ ghost use mathlib.Core.Path.{_≡_};
 ghost use Prim.Native.Nat.{_+_, _<_};
 ghost use Rattle.fields.specs.Fields.{nameOf};
 ghost use Rattle.making.specs.Making.{parentOf, parentsOf, markOf, marksOf};
+ghost use Rattle.definitions.specs.LegalSchedule.{mostMarks};
 
 // A parent of a made resource, of one to three words (FORMAT 1.3). The second and the third are 255 where there is none, so
 // that their count follows from them.
@@ -28,11 +29,14 @@ pub struct Mark {
     pub tag: u8,
 }
 
-// The first count marks. A making has at most 448: 7 of each of its 64 classes.
+// The most marks of a making: 7 of each of its 64 classes (FORMAT 4.7).
+pub const MARKS: usize = 448;
+
+// The first count marks. A making has at most MARKS.
 pub struct Marks {
     pub count: usize,
-    pub derives: [u8; 448],
-    pub tags: [u8; 448],
+    pub derives: [u8; MARKS],
+    pub tags: [u8; MARKS],
 }
 
 // A synthesized resource, its fields in the order in which they are packed (FORMAT 6.2).
@@ -97,14 +101,14 @@ pub fn no_marks() -> Marks
 {
     Marks {
         count: 0,
-        derives: [0u8; 448],
-        tags: [0u8; 448],
+        derives: [0u8; MARKS],
+        tags: [0u8; MARKS],
     }
 }
 
 // The marks with one more, also where it stands there already (FORMAT 4.7).
 pub fn with_mark(t: Marks, m: Mark) -> Marks
-    requires { ⌜ t .count < 448 ⌝ }
+    requires { ⌜ t .count < mostMarks ⌝ }
     ensures { λ r. ⌜ (marksOf r ≡ marksOf t ++ (markOf m ∷ [])) × (r .count ≡ t .count + 1) ⌝ }
 {
     let mut r = t;

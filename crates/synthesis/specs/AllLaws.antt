@@ -15,6 +15,7 @@ use Rattle.definitions.specs.Comparisons.{sameName}
 use Rattle.definitions.specs.Packing.{rowBytes}
 use Rattle.definitions.specs.Synthesis.{listedParents, interpretType}
 use Rattle.definitions.specs.Map.{TypeMap, typeMapOf}
+use Rattle.definitions.specs.Answer.{mostRows}
 use Rattle.types.specs.declared.Types.{Types}
 use Rattle.rows.specs.RowLaws.{bit-none}
 use Rattle.ordering.specs.Lists.{tab, tab-step, elem, elem-at}
@@ -142,5 +143,5 @@ module _ (tb : Table) (ts : Types) (p : Parents) (old : List ℕ) (r : Trail) wh
       record {
         emits = λ s es h o.
             g .going s es h o .emits
-            ∙ ap (λ (n : ℕ). emit 256 (old, 0) (playAll (typeMapOf s) nothingPlayed (tab (reachedAt p (typeMapOf s) r) n) .rows)) e;
+            ∙ ap (λ (n : ℕ). emit mostRows (old, 0) (playAll (typeMapOf s) nothingPlayed (tab (reachedAt p (typeMapOf s) r) n) .rows)) e;
       }

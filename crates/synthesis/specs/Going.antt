@@ -3,6 +3,7 @@ use mathlib.Core.List.{List}
 use mathlib.Core.Path.{_≡_}
 use Prim.Native.Nat.{ℕ, _<_}
 use Rattle.definitions.specs.Map.{TypeMap}
+use Rattle.definitions.specs.Answer.{mostRows}
 use Rattle.rows.specs.Rows.{hasBit}
 use Rattle.ordering.specs.Lists.{tab}
 use Rattle.ordering.specs.Reading.{howMany, typeAt}
@@ -16,5 +17,5 @@ reachedAt m p t fresh = record { type = typeAt m t; fresh = tab (hasBit fresh) (
 
 -- the types so far were played: their rows are written, and the bits of `ok` are those whose call succeeded
 pub record Going (m : TypeMap) (p : Parents) (before : List Reached) (old new : List ℕ) (ok rows : ℕ) : Type 0 where
-  pub emits : (new, rows) ≡ emit 256 (old, 0) (playAll m nothingPlayed before .rows)
+  pub emits : (new, rows) ≡ emit mostRows (old, 0) (playAll m nothingPlayed before .rows)
   pub well : (a : ℕ) → a < p .count → hasBit ok a ≡ succeeded (playAll m nothingPlayed before .told) (typeAt m a .name)

@@ -16,6 +16,7 @@ use Rattle.definitions.specs.Map.{TypeMap}
 use Rattle.definitions.specs.Inherited.{InheritedAnnotation}
 use Rattle.definitions.specs.Synthesis.{listedParents, interpretType}
 use Rattle.definitions.specs.Packing.{rowBytes}
+use Rattle.definitions.specs.Answer.{mostRows}
 use Rattle.rows.specs.Rows.{hasBit}
 use Rattle.ordering.specs.Lists.{tab, tab-length, map-tab, tab-same}
 use Rattle.ordering.specs.Reading.{Parent, howMany, listed, typeAt, placeIn, Reads}
@@ -121,7 +122,7 @@ module _ (m : TypeMap) (p : Parents) (r : Reads p m) (t : ℕ) (k : t < p .count
         (ap allOf (fl .bits) ∙ sym (fl .whole))
 
     pub goes-on : (new′ : List ℕ) (ok′ rows′ : ℕ) (clean : Bool)
-        → (new′, rows′) ≡ emit 256 (new, rows) (interpretType m (typeAt m t) got .rows)
+        → (new′, rows′) ≡ emit mostRows (new, rows) (interpretType m (typeAt m t) got .rows)
         → clean ≡ null (interpretType m (typeAt m t) got .rows)
         → WithOk ok t (f .all && clean) ok′
         → Going m p (before ++ (x ∷ [])) old new′ ok′ rows′
@@ -131,9 +132,9 @@ module _ (m : TypeMap) (p : Parents) (r : Reads p m) (t : ℕ) (k : t < p .count
         record {
           emits =
               e
-              ∙ ap (λ (st : List ℕ × ℕ). emit 256 st (interpretType m (typeAt m t) got .rows)) (g .emits)
-              ∙ sym (emit-append rowBytes 256 (old, 0) (playAll m nothingPlayed before .rows) (interpretType m (typeAt m t) got .rows))
-              ∙ ap (λ (d : Played). emit 256 (old, 0) (d .rows)) (sym q);
+              ∙ ap (λ (st : List ℕ × ℕ). emit mostRows st (interpretType m (typeAt m t) got .rows)) (g .emits)
+              ∙ sym (emit-append rowBytes mostRows (old, 0) (playAll m nothingPlayed before .rows) (interpretType m (typeAt m t) got .rows))
+              ∙ ap (λ (d : Played). emit mostRows (old, 0) (d .rows)) (sym q);
           well = λ a l.
               w .bits a
               ∙ by (eqb t a)

@@ -14,6 +14,7 @@ use Rattle.definitions.specs.Map.{TypeMap, LineType, LineMap, lineTypeOf, lineM
 use Rattle.definitions.specs.Inherited.{InheritedAnnotation, dedup}
 use Rattle.definitions.specs.Synthesis as definitions
 use Rattle.definitions.specs.Synthesis.{listedParents, interpretType, ownEntries, interpretAll}
+use Rattle.definitions.specs.Answer.{mostRows}
 use Rattle.types.specs.Types.{typeInfoOf, zeroType}
 use Rattle.types.specs.declared.Extensions.{Extensions}
 use Rattle.types.specs.declared.Types.{Types}
@@ -140,7 +141,7 @@ module _ (tb : Table) (ts : Types) (p : Parents) (st b : List ℕ) (t : ℕ) (u 
   table-low s es h o = omega (arith, u .low, h .reads .count, o .count)
 
   module _ (f : Flags) (after : List ℕ) (got : Inherited) (v : Receives p ts st t f after got) (own : OwnAssociates) (w : OwnOf (getD (ts .items) t zeroType) own) where
-    pub type-ready : TypeReady tb t own got 256 b
+    pub type-ready : TypeReady tb t own got mostRows b
     type-ready =
         let m = typeMapOf (u .sheet) in
         let l = table-low (u .sheet) (u .extensions) (u .held) (u .table) in
@@ -151,7 +152,7 @@ module _ (tb : Table) (ts : Types) (p : Parents) (st b : List ℕ) (t : ℕ) (u 
               inherited-fits m tb (u .table) t l p got (omega (arith, u .held .reads .count, u .table .count)) turn-below (u .held .reads .types t (u .low) .most) (v .good) (v .parents) (v .fits);
         }
 
-    pub plays : (fresh : ℕ) (d : Played) (told : Interpreted) (b′ : List ℕ) (ok′ : ℕ) → FlagsOf p t fresh (d .ok) f → TypeDone tb t own got 256 (d .rows) b told b′
+    pub plays : (fresh : ℕ) (d : Played) (told : Interpreted) (b′ : List ℕ) (ok′ : ℕ) → FlagsOf p t fresh (d .ok) f → TypeDone tb t own got mostRows (d .rows) b told b′
         → WithOk (d .ok) t (f .all && told .clean) ok′ → Plays tb ts p st b t fresh d after b′ (record { ok = ok′; rows = told .rows })
     plays fresh d told b′ ok′ fl e k =
         record {
@@ -162,7 +163,7 @@ module _ (tb : Table) (ts : Types) (p : Parents) (st b : List ℕ) (t : ℕ) (u 
               let i : interpretedAt tb t own got ≡ interpretType m (typeAt m t) (handedTo m p t (f .row)) =
               interpreted-type m tb o t (table-low s es h o) (getD (ts .items) t zeroType) own got (handedTo m p t (f .row)) w (type-at s ts es p h t l) (v .reads s es h sp) in
               goes-on m p (h .reads) t (u .low) (parents-below s ts es p h t (u .low)) (parents-are s ts es p h t (u .low)) before old fresh b (d .ok) (d .rows) g z f fl b′ ok′ (told .rows) (told .clean)
-              (e .rows ∙ ap (λ (x : definitions.Interpreted). emit 256 (b, d .rows) (x .rows)) i)
+              (e .rows ∙ ap (λ (x : definitions.Interpreted). emit mostRows (b, d .rows) (x .rows)) i)
               (e .clean ∙ ap (λ (x : definitions.Interpreted). null (x .rows)) i)
               k;
           stored = v .stored;

@@ -8,6 +8,7 @@ use Rattle.lists.specs.Lists.{all}
 use Rattle.definitions.specs.Records.{Sheet}
 use Rattle.definitions.specs.Map.{TypeMap, typeMapOf}
 use Rattle.definitions.specs.Inherited.{dedup}
+use Rattle.definitions.specs.Answer.{mostRows, mostRowBytes}
 use Rattle.types.specs.declared.Types.{Types}
 use Rattle.types.specs.declared.Extensions.{Extensions}
 use Rattle.rows.specs.Rows.{hasBit}
@@ -49,7 +50,7 @@ pub record Receives (p : Parents) (ts : Types) (st : List ℕ) (t : ℕ) (f : Fl
 pub record Room (p : Parents) (st b : List ℕ) : Type 0 where
   pub store : 2001 * p .count ≤ length st
   pub most : length st < 1000000
-  pub slice : 1536 ≤ length b
+  pub slice : mostRowBytes ≤ length b
 
 -- type t can be played: its parents were
 pub record Turn (tb : Table) (ts : Types) (p : Parents) (st b : List ℕ) (t : ℕ) : Type 0 where
@@ -96,4 +97,4 @@ pub record PlayedTo (tb : Table) (ts : Types) (p : Parents) (old : List ℕ) (r 
 -- the rows of all types are written
 pub record AllPlayed (tb : Table) (ts : Types) (p : Parents) (old : List ℕ) (r : Trail) (new : List ℕ) (n : ℕ) : Type 0 where
   pub emits : (s : Sheet) (es : Extensions) → HeldMap s ts es p → TableOf (typeMapOf s) tb
-      → (new, n) ≡ emit 256 (old, 0) (playAll (typeMapOf s) nothingPlayed (tab (trails.reachedAt p (typeMapOf s) r) (r .count)) .rows)
+      → (new, n) ≡ emit mostRows (old, 0) (playAll (typeMapOf s) nothingPlayed (tab (trails.reachedAt p (typeMapOf s) r) (r .count)) .rows)

@@ -12,7 +12,7 @@ use Rattle.definitions.specs.Records.{Name, Sheet, Row}
 use Rattle.definitions.specs.Map.{typeMapOf}
 use Rattle.definitions.specs.Packing.{nameBytes, rowBytes}
 use Rattle.definitions.specs.Synthesis.{synthesis}
-use Rattle.definitions.specs.Answer.{overwrite}
+use Rattle.definitions.specs.Answer.{mostRows, mostRowBytes, overwrite}
 use Rattle.types.specs.declared.Types.{Types}
 use Rattle.types.specs.declared.Extensions.{Extensions}
 use Rattle.ordering.specs.declared.Parents.{Parents}
@@ -25,11 +25,11 @@ pub record Synthesizes (s : Sheet) (ts : Types) (es : Extensions) (resource : �
   pub held : HeldMap s ts es p
   pub word : resource ≡ typeMapOf s .resource
 
--- the first 256 rows are written and counted, and it is said whether there are more (FORMAT 8.2)
+-- the first `mostRows` rows are written and counted, and it is said whether there are more (FORMAT 8.2)
 pub record Written (rs : List Row) (old new : List ℕ) (count : ℕ) (more : Bool) : Type 0 where
-  pub bytes : new ≡ overwrite (each rowBytes (take 256 rs)) old
-  pub counted : count ≡ min 256 (length rs)
-  pub rest : more ≡ ltb 256 (length rs)
+  pub bytes : new ≡ overwrite (each rowBytes (take mostRows rs)) old
+  pub counted : count ≡ min mostRows (length rs)
+  pub rest : more ≡ ltb mostRows (length rs)
 
 pub record Synthesized (ts : Types) (es : Extensions) (resource : ℕ) (p : Parents) (old new : List ℕ) (count : ℕ) (more : Bool) : Type 0 where
   pub written : (s : Sheet) → Synthesizes s ts es resource p → Written (synthesis (typeMapOf s) .rows) old new count more
@@ -48,23 +48,23 @@ six r =
     let f = lib.ListN.length-append (nameBytes (r .other)) (Rattle.definitions.specs.Packing.wordByte (r .word) ∷ []) in
     omega (arith, e, f, two (r .subject), two (r .other))
 
-module _ (rs : List Row) (old new : List ℕ) (n : ℕ) (h : 1536 ≤ length old) (e : _≡_ {A = State} (new, n) (emitting.emit rowBytes 256 (old, 0) rs)) where
-  done : _≡_ {A = State} (new, n) (overwrite (each rowBytes (take 256 rs)) old, min 257 (length rs))
-  done = e ∙ emitting.emit-all rowBytes six 256 old rs (omega (arith, h))
+module _ (rs : List Row) (old new : List ℕ) (n : ℕ) (h : mostRowBytes ≤ length old) (e : _≡_ {A = State} (new, n) (emitting.emit rowBytes mostRows (old, 0) rs)) where
+  done : _≡_ {A = State} (new, n) (overwrite (each rowBytes (take mostRows rs)) old, min (mostRows + 1) (length rs))
+  done = e ∙ emitting.emit-all rowBytes six mostRows old rs (omega (arith, h))
 
-  total : n ≡ min 257 (length rs)
+  total : n ≡ min (mostRows + 1) (length rs)
   total = ap (λ (w : State). w .1) done
 
-  pub few : n ≤ 256 → Written rs old new n false
+  pub few : n ≤ mostRows → Written rs old new n false
   few l = record {
     bytes = ap (λ (w : State). w .0) done;
     counted = omega (arith, total);
-    rest = sym (le-ltb 256 (length rs) (omega (arith, total)));
+    rest = sym (le-ltb mostRows (length rs) (omega (arith, total)));
   }
 
-  pub many : 256 < n → Written rs old new 256 true
+  pub many : mostRows < n → Written rs old new mostRows true
   many l = record {
     bytes = ap (λ (w : State). w .0) done;
     counted = omega (arith, total);
-    rest = sym (lt-ltb 256 (length rs) (omega (arith, total)));
+    rest = sym (lt-ltb mostRows (length rs) (omega (arith, total)));
   }

@@ -12,6 +12,7 @@ ghost use mathlib.Core.Path.{_≡_};
 ghost use Prim.Native.Nat.{_≤_};
 ghost use lib.ListN.{length, getD};
 ghost use Rattle.definitions.specs.Records.{Sheet};
+ghost use Rattle.definitions.specs.Answer.{mostRowBytes};
 ghost use Rattle.types.specs.Types.{zeroType};
 ghost use Rattle.handing.specs.Handing.{Ready};
 ghost use Rattle.synthesis.specs.Playing.{Flagged, Receives, Turn, Plays, AllReady, ReadyIn, ReadyInRoom, AllPlayed};
@@ -70,7 +71,7 @@ fn inherit_annotations(
         own,
         got,
         diagnosis,
-        256,
+        answers::ROWS,
         d.rows,
     );
     let ok = hearing::with_ok(d.ok, t, flags.all, told.clean);
@@ -152,7 +153,7 @@ fn play_in_room(table: Table, types: Types, p: Parents, diagnosis: &mut [u8], tr
     play_most(table, types, p, diagnosis, trail)
 }
 
-// The rows of refusal 9: at most 256 are written, and no other byte changes (FORMAT 8.2).
+// The rows of refusal 9: at most ROWS are written, and no other byte changes (FORMAT 8.2).
 pub fn apply_associate_annotations(
     types: Types,
     extensions: Extensions,
@@ -161,15 +162,15 @@ pub fn apply_associate_annotations(
     diagnosis: &mut [u8],
 ) -> Report
     requires { ⌜ ((s : Sheet) × Synthesizes s types extensions resource p) ⌝ }
-    requires { ⌜ 1536 ≤ length (now diagnosis) ⌝ }
+    requires { ⌜ mostRowBytes ≤ length (now diagnosis) ⌝ }
     ensures { λ r. ⌜ Synthesized types extensions resource p (now (diagnosis .entry)) (now (diagnosis .exit)) (r .rows) (r .more) ⌝ }
 {
     let table = lookups::table_of(types, extensions, resource);
     let trail = visiting::trail_of(p);
     let total = play_in_room(table, types, p, diagnosis, trail);
-    if 256 < total {
+    if answers::ROWS < total {
         return Report {
-            rows: 256,
+            rows: answers::ROWS,
             more: true,
         };
     }

@@ -19,6 +19,7 @@ ghost use Rattle.fields.specs.Fields.{nameOf, ofNames};
 ghost use Rattle.making.specs.Making as making;
 ghost use Rattle.making.specs.Making.{parentsOf, itemOf};
 ghost use Rattle.definitions.specs.Comparisons.{dotted};
+ghost use Rattle.definitions.specs.LegalSchedule.{mostMarks};
 ghost use Rattle.records.specs.Marks.{ofMarks};
 ghost use Rattle.types.specs.Extensions.{extensionOf, ofExtensions};
 ghost use Rattle.table.specs.Table.{tableMap, Sound, typeAt};
@@ -52,7 +53,7 @@ pub fn class_place<'a>(
 
 // The marks, and behind them those of one class.
 fn with_marks(out: Marks, m: records::Marks) -> Marks
-    requires { ⌜ (m .count ≤ 7) × (out .count + m .count ≤ 448) ⌝ }
+    requires { ⌜ (m .count ≤ 7) × (out .count + m .count ≤ mostMarks) ⌝ }
     ensures { λ r. ⌜ (making.marksOf r ≡ making.marksOf out ++ ofMarks m) × (r .count ≡ out .count + m .count) ⌝ }
 {
     let count = m.count;
@@ -73,7 +74,7 @@ fn with_marks(out: Marks, m: records::Marks) -> Marks
 
 // What one class more gives.
 fn with_class(g: Gathered, is_virtual: bool, m: records::Marks) -> Gathered
-    requires { ⌜ (m .count ≤ 7) × (g .marks .count + m .count ≤ 448) ⌝ }
+    requires { ⌜ (m .count ≤ 7) × (g .marks .count + m .count ≤ mostMarks) ⌝ }
     ensures { λ r. ⌜ (r .«all_virtual» ≡ (g .«all_virtual» && «is_virtual»)) × (making.marksOf (r .marks) ≡ making.marksOf (g .marks) ++ ofMarks m) ⌝ }
 {
     let old = g.marks;
@@ -93,7 +94,7 @@ fn with_class(g: Gathered, is_virtual: bool, m: records::Marks) -> Gathered
 // What the classes give the resource: whether all are virtual (FORMAT 4.6), and their marks (FORMAT 4.7).
 pub fn gather(t: Table, doms: Row, word: u8) -> Gathered
     requires { ⌜ Sound t ⌝ }
-    requires { ⌜ (word < 255) × (length (marksOf (tableMap t) (classesOf doms word)) ≤ 448) ⌝ }
+    requires { ⌜ (word < 255) × (length (marksOf (tableMap t) (classesOf doms word)) ≤ mostMarks) ⌝ }
     ensures { λ r. ⌜ Gathers t doms word r ⌝ }
 {
     let count = t.count;
