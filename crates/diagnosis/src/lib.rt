@@ -1,4 +1,5 @@
 // Why a map has no order: `find_cycles_or_bad_types` and the rows of kinds 1, 2 and 3, over the compact form.
+use emitting::Row;
 use ordering::Parents;
 use ordering::Placed;
 ghost use mathlib.Core.Path.{_≡_};
@@ -19,33 +20,6 @@ pub struct Report {
     pub more: bool,
 }
 
-// Writes one row (FORMAT 8.1) at place n, if that is below the limit; the count then is n + 1, and stops one past the limit.
-fn put_row(
-    buf: &mut [u8],
-    limit: usize,
-    n: usize,
-    kind: u8,
-    first: u8,
-    second: u8,
-    other_first: u8,
-    other_second: u8,
-) -> usize
-    requires { ⌜ 6 * limit ≤ length (now buf) ⌝ }
-    ensures { λ r. ⌜ (now (buf .exit), r) ≡ emit1 limit (now (buf .entry), n) (record { kind = kind; first = first; second = second; otherFirst = «other_first»; otherSecond = «other_second» }) ⌝ }
-{
-    if n < limit {
-        let at = 6 * n;
-        buf[at] = kind;
-        buf[at + 1] = first;
-        buf[at + 2] = second;
-        buf[at + 3] = other_first;
-        buf[at + 4] = other_second;
-        buf[at + 5] = 255;
-        return n + 1;
-    }
-    limit + 1
-}
-
 // Writes the row of type t and the parent at a place of the arrays.
 fn put_parent_row(
     buf: &mut [u8],
@@ -59,20 +33,15 @@ fn put_parent_row(
     requires { ⌜ (6 * limit ≤ length (now buf)) × (t < 64) × (at < 512) ⌝ }
     ensures { λ r. ⌜ (now (buf .exit), r) ≡ emit1 limit (now (buf .entry), n) (parentRow kind p t (parentAt p at)) ⌝ }
 {
-    let first = p.firsts[t];
-    let second = p.seconds[t];
-    let other_first = p.parent_firsts[at];
-    let other_second = p.parent_seconds[at];
-    put_row(
-        buf,
-        limit,
-        n,
-        kind,
-        first,
-        second,
-        other_first,
-        other_second,
-    )
+    let row = Row {
+        kind: kind,
+        first: p.firsts[t],
+        second: p.seconds[t],
+        other_first: p.parent_firsts[at],
+        other_second: p.parent_seconds[at],
+        word: 255,
+    };
+    emitting::put_row(buf, limit, n, row)
 }
 
 // Kind 2 where the bad parent is declared, since it is on the path then; otherwise kind 3 (FORMAT 8.4).

@@ -1,1 +1,2 @@
 pub mod Emitting
+pub mod Row

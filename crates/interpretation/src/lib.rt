@@ -17,7 +17,7 @@ ghost use Rattle.synthetic.specs.Made.{classesOf};
 ghost use Rattle.interpretation.specs.Emit.{emitBytes, emit};
 ghost use Rattle.interpretation.specs.Judged.{isUnknown, isOther, classIf};
 
-// Writes one row (FORMAT 8.1) at place n, if that is below the limit; the count then is n + 1, and stops one past the limit.
+// Writes the row of these names at place n, as far as the limit goes.
 pub fn put_row(
     buf: &mut [u8],
     limit: usize,
@@ -30,17 +30,15 @@ pub fn put_row(
     requires { ⌜ (6 * limit ≤ length (now buf)) × (limit ≤ mostRows) ⌝ }
     ensures { λ r. ⌜ (now (buf .exit), r) ≡ emitBytes limit (now (buf .entry), n) (kind ∷ subject .first ∷ subject .second ∷ other .first ∷ other .second ∷ word ∷ []) ⌝ }
 {
-    if n < limit {
-        let at = 6 * n;
-        buf[at] = kind;
-        buf[at + 1] = subject.first;
-        buf[at + 2] = subject.second;
-        buf[at + 3] = other.first;
-        buf[at + 4] = other.second;
-        buf[at + 5] = word;
-        return n + 1;
-    }
-    limit + 1
+    let row = emitting::Row {
+        kind: kind,
+        first: subject.first,
+        second: subject.second,
+        other_first: other.first,
+        other_second: other.second,
+        word: word,
+    };
+    emitting::put_row(buf, limit, n, row)
 }
 
 // Whether the class of a dom stands in the row and has no place.

@@ -6,8 +6,8 @@ use Prim.Native.Nat.{suc}
 use borrow.Author.Tests.{lt-ltb, le-ltb}
 use lib.ListN.{length-set}
 use borrow.Author.Needs.{needs}
-use Rattle.diagnosis.proofs.put_row.Statement.{statement}
-use Rattle.diagnosis.proofs.put_row.Tie as tie
+use Rattle.emitting.proofs.put_row.Statement.{statement}
+use Rattle.emitting.proofs.put_row.Tie as tie
 
 mul-at : tie.Need-mul-at
 mul-at c = search needs
