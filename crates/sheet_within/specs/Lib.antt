@@ -1,3 +1,4 @@
 pub mod Within
 pub mod WithinLaws
 pub mod PlainLaws
+pub mod UpLaws

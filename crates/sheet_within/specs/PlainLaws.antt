@@ -26,7 +26,7 @@ use Rattle.sheet_keys.specs.Keys.{nameOfKey, namesFrom}
 use Rattle.sheet_notes.specs.Notes.{notes}
 use Rattle.sheet_draft.specs.Draft.{notesOf}
 use Rattle.sheet_types.specs.Rows.{isDone}
-use Rattle.sheet_within.specs.Within.{wordsIn, PlainNames, PlainNotes}
+use Rattle.sheet_within.specs.Within.{wordsIn, PlainNames, PlainNotes, PlainEach}
 use Rattle.sheet_within.specs.WithinLaws.{annotations-read, none-repeated}
 
 -- ---- words of names
@@ -108,9 +108,9 @@ module _ (W : ℕ) (bs : List Bool) (p w : ℕ) (l : p + 11 ≤ length bs) (e : 
   small : (num 3 (drop (p + 4) bs) < 8) × (num 4 (drop (p + 7) bs) < 16)
   small = (num-lt 3 (drop (p + 4) bs), num-lt 4 (drop (p + 7) bs))
 
-  pub none-there : w < 128 → PlainNotes W bs p true
-  none-there h = record {
-    plain = λ t one d. let q : num 4 (drop p bs) ≡ 0 = omega (arith, parts, small .0, small .1) in none-repeated W one bs p (omega arith) q d;
+  pub none-there : (one : Bool) → w < 128 → PlainNotes W one bs p true
+  none-there one h = record {
+    plain = λ t d. let q : num 4 (drop p bs) ≡ 0 = omega (arith, parts, small .0, small .1) in none-repeated W one bs p (omega arith) q d;
   }
 
   kind-is : num 3 (drop (p + 4) bs) ≡ w / 16 % 8
@@ -148,9 +148,9 @@ module _ (W : ℕ) (bs : List Bool) (p w : ℕ) (l : p + 11 ≤ length bs) (e : 
         kinds true k cs h = picked (eqb k 2 && not one) k cs h
         kinds false k cs h = let z : _≡_ {A = ℕ} 0 1 = cc in absurd (omega arith)
 
-    pub other-there : (w / 16 % 8 ≡ 1 → ⊥) → (w / 16 % 8 ≡ 2 → ⊥) → PlainNotes W bs p true
-    other-there a b = record {
-      plain = λ t one d.
+    pub other-there : (one : Bool) → (w / 16 % 8 ≡ 1 → ⊥) → (w / 16 % 8 ≡ 2 → ⊥) → PlainNotes W one bs p true
+    other-there one a b = record {
+      plain = λ t d.
           let r = annotations-read W one (drop p bs) d in
           let x = one-there one _ _ (r .1) in
           rw (x .3) (alone _ ∙ other-kind (w / 16 % 8) (x .0) a b);
@@ -167,10 +167,10 @@ module _ (W : ℕ) (bs : List Bool) (p w : ℕ) (l : p + 11 ≤ length bs) (e : 
           le-leb (w % 16) 15 (omega arith),
         ) at f
 
-    list-there : (b : Bool) (kind : ℕ) → w / 16 % 8 ≡ kind → ((cs : List Bool) → rowsFor W kind cs ≡ counted 4 0 15 (name W) cs)
-        → ((rows : List (List ℕ)) → repeatsWord (annotationAs kind rows) ≡ repeats sameWord (map resourceOf rows)) → PlainNames W bs (p + 11) (w % 16) b → PlainNotes W bs p b
-    list-there b kind q as′ word h = record {
-      plain = λ t one d.
+    list-there : (one b : Bool) (kind : ℕ) → w / 16 % 8 ≡ kind → ((cs : List Bool) → rowsFor W kind cs ≡ counted 4 0 15 (name W) cs)
+        → ((rows : List (List ℕ)) → repeatsWord (annotationAs kind rows) ≡ repeats sameWord (map resourceOf rows)) → PlainNames W bs (p + 11) (w % 16) b → PlainNotes W one bs p b
+    list-there one b kind q as′ word h = record {
+      plain = λ t d.
           let r = annotations-read W one (drop p bs) d in
           let x = one-there one _ _ (r .1) in
           let f : rowsFor W kind (drop (p + 7) bs) ≡ done (x .0) (x .1) = rw q at (x .2) in
@@ -178,13 +178,29 @@ module _ (W : ℕ) (bs : List Bool) (p w : ℕ) (l : p + 11 ≤ length bs) (e : 
           rw (x .3, q) (alone _ ∙ word (x .0) ∙ h .plain t (x .0) (x .1) g);
     }
 
-    pub associate-there : (b : Bool) → w / 16 % 8 ≡ 1 → PlainNames W bs (p + 11) (w % 16) b → PlainNotes W bs p b
+    pub associate-there : (one b : Bool) → w / 16 % 8 ≡ 1 → PlainNames W bs (p + 11) (w % 16) b → PlainNotes W one bs p b
     unfolding rowsFor repeatsWord annotationAs
-    associate-there b q = list-there b 1 q (λ cs. refl) (λ rows. refl)
+    associate-there one b q = list-there one b 1 q (λ cs. refl) (λ rows. refl)
 
-    pub nested-there : (b : Bool) → w / 16 % 8 ≡ 2 → PlainNames W bs (p + 11) (w % 16) b → PlainNotes W bs p b
+    pub nested-there : (one b : Bool) → w / 16 % 8 ≡ 2 → PlainNames W bs (p + 11) (w % 16) b → PlainNotes W one bs p b
     unfolding rowsFor repeatsWord annotationAs
-    nested-there b q = list-there b 2 q (λ cs. refl) (λ rows. refl)
+    nested-there one b q = list-there one b 2 q (λ cs. refl) (λ rows. refl)
 
-pub not-told : (W : ℕ) (bs : List Bool) (p : ℕ) → PlainNotes W bs p false
-not-told W bs p = record { plain = λ t. never {b = false} t refl }
+-- two annotations or more
+pub each-there : (W : ℕ) (one : Bool) (bs : List Bool) (p w : ℕ) → p + 11 ≤ length bs → w ≡ num 11 (drop p bs) → (b : Bool) → PlainEach W one bs (p + 4) (w / 128) b → PlainNotes W one bs p b
+unfolding counted allowed
+each-there W one bs p w l e b h = record {
+  plain = λ t d.
+      let r = annotations-read W one (drop p bs) d in
+      let q : num 4 (drop p bs) ≡ w / 128 = omega (arith, parts W bs p w l e, small W bs p w l e .0, small W bs p w l e .1) in
+      let f = rw (field-in bs p 4 (p + 4) (omega arith) refl (omega arith), q) at (r .1) in
+      h .plain t _ _ (allowed-of (leb 0 (w / 128) && leb (w / 128) 12) f);
+}
+  where
+    allowed-of : (c : Bool) {as′ : List Annotation} {rest : List Bool} → next (choose c (pure (w / 128)) (refuse 4) (drop (p + 4) bs)) (λ k. repeat (annotation W one) k) ≡ done as′ rest
+        → repeat (annotation W one) (w / 128) (drop (p + 4) bs) ≡ done as′ rest
+    allowed-of true f = f
+    allowed-of false f = let z : _≡_ {A = ℕ} 0 1 = cc in absurd (omega arith)
+
+pub not-told : (W : ℕ) (one : Bool) (bs : List Bool) (p : ℕ) → PlainNotes W one bs p false
+not-told W one bs p = record { plain = λ t. never {b = false} t refl }

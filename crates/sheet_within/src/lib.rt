@@ -1,6 +1,7 @@
 // What may not stand twice within a type, refusal 6, tested at the place where its annotations stand (FORMAT 2.12).
 use bits::Cursor;
-ghost use mathlib.Core.Bool.{true};
+use sheet_keys::KeyRead;
+ghost use mathlib.Core.Bool.{true, false};
 ghost use mathlib.Core.Path.{_≡_};
 ghost use Prim.Native.Nat.{_+_, _/_, _≤_, _<_};
 ghost use lib.ListN.{length, drop};
@@ -11,7 +12,7 @@ ghost use Rattle.sheet_draft.specs.Draft.{notesOf};
 ghost use Rattle.sheet_types.specs.Rows.{isDone};
 ghost use Rattle.lists.specs.Lists.{any, repeats};
 ghost use lib.Dec.{eqb};
-ghost use Rattle.sheet_within.specs.Within.{wordsIn, PlainNames, PlainNotes};
+ghost use Rattle.sheet_within.specs.Within.{wordsIn, PlainNames, PlainNotes, NamesUp, NextUp, PlainEach};
 
 // The annotations by value: for whatever the tests below leave open.
 fn is_repeating_by_value(s: &[u8], at: usize, limit: usize, single: bool) -> bool
@@ -77,17 +78,109 @@ fn is_plain_list(s: &[u8], at: usize, limit: usize, n: usize) -> bool
     !has_word_twice(&k, r.count)
 }
 
-// Whether there is no annotation at a place, or one that repeats no word: what most types have.
-fn is_plain_in(s: &[u8], at: usize, limit: usize) -> bool
+// ok: the place behind what was read, and one more than the greatest first word in it.
+pub struct Up {
+    pub ok: bool,
+    pub top: usize,
+    pub at: usize,
+}
+
+fn not_up() -> Up
+    ensures { λ r. ⌜ r .ok ≡ false ⌝ }
+{
+    Up {
+        ok: false,
+        top: 0,
+        at: 0,
+    }
+}
+
+// n names whose first words ascend from `low` on.
+fn names_up(s: &[u8], at: usize, limit: usize, n: usize, low: usize) -> Up
+    requires { ⌜ (length (now s) ≤ 40960) × (limit ≤ 255) ⌝ }
+    ensures { λ r. ⌜ NamesUp limit (bitsOf (now (s .entry))) at n low r ⌝ }
+{
+    let mut next = Cursor { at };
+    let mut top = low;
+    let mut left = n;
+    while 0 < left {
+        match sheet_keys::read_key(s, next, limit) {
+            KeyRead::At(key, end) => {
+                let a = (key / 256) as usize;
+                if a < top {
+                    return not_up();
+                }
+                top = a + 1;
+                next = end;
+            }
+            KeyRead::Refused(_) => {
+                return not_up();
+            }
+        }
+        left -= 1;
+    }
+    Up {
+        ok: true,
+        top,
+        at: next.at,
+    }
+}
+
+// One associate with such names, at least one.
+fn associate_up(s: &[u8], at: usize, limit: usize, single: bool, low: usize) -> Up
+    requires { ⌜ (length (now s) ≤ 40960) × (limit ≤ 255) ⌝ }
+    ensures { λ r. ⌜ NextUp limit single (bitsOf (now (s .entry))) at low r ⌝ }
+{
+    if s.len() < at / 8 + 4 {
+        return not_up();
+    }
+    let w = sheet_window::window(s, at, 7);
+    if w % 16 == 0 {
+        return not_up();
+    }
+    if w / 16 == 1 {
+        return names_up(s, at + 7, limit, w % 16, low);
+    }
+    if !single {
+        return not_up();
+    }
+    if w / 16 == 2 {
+        return names_up(s, at + 7, limit, w % 16, low);
+    }
+    not_up()
+}
+
+// Whether n annotations are associates whose first words ascend from one to the next.
+fn is_plain_each(s: &[u8], at: usize, limit: usize, single: bool, n: usize) -> bool
+    requires { ⌜ (length (now s) ≤ 40960) × (limit ≤ 255) ⌝ }
+    ensures { λ r. ⌜ PlainEach limit single (bitsOf (now (s .entry))) at n r ⌝ }
+{
+    let mut p = at;
+    let mut top: usize = 0;
+    let mut left = n;
+    while 0 < left {
+        let r = associate_up(s, p, limit, single, top);
+        if !r.ok {
+            return false;
+        }
+        p = r.at;
+        top = r.top;
+        left -= 1;
+    }
+    true
+}
+
+// Whether the annotations at a place are found to repeat nothing: none, one, or associates whose words ascend, as most types have them.
+fn is_plain_in(s: &[u8], at: usize, limit: usize, single: bool) -> bool
     requires { ⌜ (length (now s) ≤ 40960) × (limit ≤ 255) × (at / 8 + 4 ≤ length (now s)) ⌝ }
-    ensures { λ r. ⌜ PlainNotes limit (bitsOf (now (s .entry))) at r ⌝ }
+    ensures { λ r. ⌜ PlainNotes limit single (bitsOf (now (s .entry))) at r ⌝ }
 {
     let w = sheet_window::window(s, at, 11);
     if w < 128 {
         return true;
     }
     if 256 <= w {
-        return false;
+        return is_plain_each(s, at + 4, limit, single, w / 128);
     }
     let kind = w / 16 % 8;
     if kind == 1 {
@@ -105,7 +198,7 @@ pub fn is_repeating_at(s: &[u8], at: usize, limit: usize, single: bool) -> bool
     ensures { λ r. ⌜ r ≡ repeatsIn (notesOf (notes limit single (drop at (bitsOf (now (s .entry))))) .annotations) ⌝ }
 {
     if at / 8 + 4 <= s.len() {
-        if is_plain_in(s, at, limit) {
+        if is_plain_in(s, at, limit, single) {
             return false;
         }
     }

@@ -18,7 +18,7 @@ is-plain-in-requires c κs = search needs
 -- src/lib.rt:109:13
 returns : tie.Need-returns
 returns c =
-    sym (c .before .is-plain-in .ensures .plain (c .if2 .taken) _ (c .before .before .before .before .pre .2))
+    sym (c .before .is-plain-in .ensures .plain (c .if2 .taken) (c .before .before .before .before .pre .2))
 
 -- src/lib.rt:112:5
 is-repeating-by-value-requires : tie.Need-is-repeating-by-value-requires
