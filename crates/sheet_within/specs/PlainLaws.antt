@@ -197,7 +197,7 @@ each-there W one bs p w l e b h = record {
       h .plain t _ _ (allowed-of (leb 0 (w / 128) && leb (w / 128) 12) f);
 }
   where
-    allowed-of : (c : Bool) {as′ : List Annotation} {rest : List Bool} → next (choose c (pure (w / 128)) (refuse 4) (drop (p + 4) bs)) (λ k. repeat (annotation W one) k) ≡ done as′ rest
+    allowed-of : (c : Bool) {as′ : List Annotation} {rest : List Bool} → next (choose c (pure (w / 128)) (refuse notAllowed) (drop (p + 4) bs)) (λ k. repeat (annotation W one) k) ≡ done as′ rest
         → repeat (annotation W one) (w / 128) (drop (p + 4) bs) ≡ done as′ rest
     allowed-of true f = f
     allowed-of false f = let z : _≡_ {A = ℕ} 0 1 = cc in absurd (omega arith)
