@@ -7,6 +7,7 @@
 import sys
 
 from maps import large
+from maps.large import *  # noqa: F401,F403  measuring programs outside this repository import the maps from here
 from sheetlib import to_text
 
 
