@@ -28,8 +28,8 @@ pub record KeysFit (entries : List ℕ) (n : ℕ) : Type 0 where
   pub few : n ≤ 64
   pub small : (a : ℕ) → a < n → keyIn entries a < 65536
 
--- The first n sets of each quarter of those of first and of second words are empty.
+-- The sets of the first n words, and of the first n numbers of second words, are empty.
 pub record SetsCleared (n : ℕ) (old new : List ℕ) : Type 0 where
-  pub first : (w : ℕ) → w < n → (firstAt new w ≡ 0) × (firstAt new (w + 128) ≡ 0)
-  pub second : (w : ℕ) → w < n → (secondAt new w ≡ 0) × (secondAt new (w + 128) ≡ 0)
+  pub first : (w : ℕ) → w < n → firstAt new w ≡ 0
+  pub second : (w : ℕ) → w < n → secondAt new w ≡ 0
   pub kept : KeptOutside 1024 1536 old new

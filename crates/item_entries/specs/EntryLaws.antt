@@ -1,7 +1,7 @@
 -- The bytes of a name, and its key.
 use mathlib.Core.List.{List}
 use mathlib.Core.Path.{_≡_, sym, ap, ap₂, _∙_, subst}
-use Prim.Native.Nat.{ℕ, _+_, _-_, _/_, _%_, _≤_, _<_}
+use Prim.Native.Nat.{ℕ, _+_, _-_, _/_, _%_, _<_}
 use native.Mathlib.Omega.{arith}
 use borrow.Author.Tests.{eqb-true, eqb-false, ltb-true, ltb-false}
 use lib.Dec.{eqb, ltb}
@@ -39,76 +39,39 @@ module _ (entries : List ℕ) (a : ℕ) (h : a < 64) where
 pub cleared-none : (t : List ℕ) → SetsCleared 0 t t
 cleared-none t = record { first = λ w h. absurd (omega arith); second = λ w h. absurd (omega arith); kept = kept-none 1024 1536 t }
 
--- one number more is 0, and those that were stay
-record Zeroed (j : ℕ) (t new : List ℕ) : Type 0 where
-  here : getD new j 0 ≡ 0
-  stay : (i : ℕ) → getD t i 0 ≡ 0 → getD new i 0 ≡ 0
-  kept : KeptOutside 1024 1536 t new
-
-zeroed : (j : ℕ) (t new : List ℕ) → 1024 ≤ j → j < 1536 → length t ≡ 1544 → new ≡ set t j 0 → Zeroed j t new
-zeroed j t new lo hi l e =
-    let here : getD new j 0 ≡ 0 = ap (λ (z : List ℕ). getD z j 0) e ∙ getD-set-same t j 0 0 (omega arith) in
-    record {
-      here = here;
-      stay = λ i z.
-          by (eqb i j)
-          (λ q. let y = eqb-true i j q in rw y here)
-          (λ q. let y = eqb-false i j q in ap (λ (k : List ℕ). getD k i 0) e ∙ getD-set-other t j i 0 0 y ∙ z);
-      kept = subst (KeptOutside 1024 1536 t) (sym e) (kept-set 1024 1536 t j 0 lo hi);
-    }
-
-joined : (a b c : List ℕ) → KeptOutside 1024 1536 a b → KeptOutside 1024 1536 b c → KeptOutside 1024 1536 a c
-joined a b c p q = kept-more 1024 1536 1024 1536 a b c p q (omega arith) (omega arith)
-
-pub cleared-more : (n : ℕ) (old t u v x new : List ℕ) → n < 128 → length old ≡ 1544 → u ≡ set t (1024 + n) 0 → v ≡ set u (1024 + (n + 128)) 0 → x ≡ set v (1280 + n) 0
-    → new ≡ set x (1280 + (n + 128)) 0 → SetsCleared n old t → SetsCleared (n + 1) old new
-cleared-more n old t u v x new h l e f g k p =
+pub cleared-more : (n x : ℕ) (old t u : List ℕ) → x ≡ 0 → n < 256 → length old ≡ 1544 → u ≡ set t (1024 + n) x → {new : List ℕ} → new ≡ set u (1280 + n) x → SetsCleared n old t
+    → SetsCleared (n + 1) old new
+cleared-more n x old t u z h l e′ {new} f′ p =
+    let e : u ≡ set t (1024 + n) 0 = e′ ∙ ap (set t (1024 + n)) z in
+    let f : new ≡ set u (1280 + n) 0 = f′ ∙ ap (set u (1280 + n)) z in
     let lt : length t ≡ 1544 = p .kept .long ∙ l in
-    let a = zeroed (1024 + n) t u (omega arith) (omega arith) lt e in
-    let lu = a .kept .long ∙ lt in
-    let b = zeroed (1024 + (n + 128)) u v (omega arith) (omega arith) lu f in
-    let lv = b .kept .long ∙ lu in
-    let c = zeroed (1280 + n) v x (omega arith) (omega arith) lv g in
-    let d = zeroed (1280 + (n + 128)) x new (omega arith) (omega arith) (c .kept .long ∙ lv) k in
-    let from-v : (i : ℕ) → getD v i 0 ≡ 0 → getD new i 0 ≡ 0 = λ i z. d .stay i (c .stay i z) in
-    let from-t : (i : ℕ) → getD t i 0 ≡ 0 → getD new i 0 ≡ 0 = λ i z. from-v i (b .stay i (a .stay i z)) in
+    let lu : length u ≡ 1544 = ap length e ∙ length-set t (1024 + n) 0 ∙ lt in
+    let at-new : (i : ℕ) → (i ≡ 1280 + n → ⊥) → getD new i 0 ≡ getD u i 0 = λ i d. ap (λ (z : List ℕ). getD z i 0) f ∙ getD-set-other u (1280 + n) i 0 0 d in
+    let at-u : (i : ℕ) → (i ≡ 1024 + n → ⊥) → getD u i 0 ≡ getD t i 0 = λ i d. ap (λ (z : List ℕ). getD z i 0) e ∙ getD-set-other t (1024 + n) i 0 0 d in
     record {
-      first = λ w m.
+      first = λ w k.
+          at-new (1024 + w) (λ z. omega arith)
+          ∙ by (eqb w n)
+          (λ q. let y = eqb-true w n q in rw y (ap (λ (z : List ℕ). getD z (1024 + n) 0) e ∙ getD-set-same t (1024 + n) 0 0 (omega arith)))
+          (λ q. let y = eqb-false w n q in at-u (1024 + w) (λ z. y (omega arith)) ∙ p .first w (omega (arith, y)));
+      second = λ w k.
           by (eqb w n)
-          (λ q. let y = eqb-true w n q in rw y (from-v (1024 + n) (b .stay (1024 + n) (a .here)), from-v (1024 + (n + 128)) (b .here)))
-          (λ q.
-          let y = eqb-false w n q in
-          let o = p .first w (omega (arith, y)) in
-          (from-t (1024 + w) (o .0), from-t (1024 + (w + 128)) (o .1)));
-      second = λ w m.
-          by (eqb w n)
-          (λ q. let y = eqb-true w n q in rw y (d .stay (1280 + n) (c .here), d .here))
-          (λ q.
-          let y = eqb-false w n q in
-          let o = p .second w (omega (arith, y)) in
-          (from-t (1280 + w) (o .0), from-t (1280 + (w + 128)) (o .1)));
-      kept = joined old x new (joined old v x (joined old u v (joined old t u (p .kept) (a .kept)) (b .kept)) (c .kept)) (d .kept);
+          (λ q. let y = eqb-true w n q in rw y (ap (λ (z : List ℕ). getD z (1280 + n) 0) f ∙ getD-set-same u (1280 + n) 0 0 (omega arith)))
+          (λ q. let y = eqb-false w n q in at-new (1280 + w) (λ z. y (omega arith)) ∙ at-u (1280 + w) (λ z. omega arith) ∙ p .second w (omega (arith, y)));
+      kept =
+          kept-more 1024 1536 1024 1536 old u new
+          (kept-more 1024 1536 1024 1536 old t u (p .kept) (subst (KeptOutside 1024 1536 t) (sym e) (kept-set 1024 1536 t (1024 + n) 0 (omega arith) (omega arith))) (omega arith) (omega arith))
+          (subst (KeptOutside 1024 1536 u) (sym f) (kept-set 1024 1536 u (1280 + n) 0 (omega arith) (omega arith))) (omega arith) (omega arith);
     }
 
-pub cleared-all : (old new : List ℕ) → length old ≡ 1544 → SetsCleared 128 old new → NoSets new
-cleared-all old new l p = record { long = p .kept .long ∙ l; none = none }
-  where
-    at : (i j : ℕ) → j ≡ i → getD new j 0 ≡ 0 → getD new i 0 ≡ 0
-    at i j e z = ap (λ (k : ℕ). getD new k 0) (sym e) ∙ z
-
-    none : (i : ℕ) → 1024 ≤ i → i < 1536 → getD new i 0 ≡ 0
-    none i h k =
-        by (ltb i 1152)
-        (λ e. let z = ltb-true i 1152 e in at i (1024 + (i - 1024)) (omega arith) (p .first (i - 1024) (omega arith) .0))
-        (λ e.
-        let z = ltb-false i 1152 e in
-        by (ltb i 1280)
-        (λ f. let y = ltb-true i 1280 f in at i (1024 + (i - 1152 + 128)) (omega arith) (p .first (i - 1152) (omega arith) .1))
-        (λ f.
-        let y = ltb-false i 1280 f in
-        by (ltb i 1408)
-        (λ g. let x = ltb-true i 1408 g in at i (1280 + (i - 1280)) (omega arith) (p .second (i - 1280) (omega arith) .0))
-        (λ g. let x = ltb-false i 1408 g in at i (1280 + (i - 1408 + 128)) (omega arith) (p .second (i - 1408) (omega arith) .1))))
+pub cleared-all : (old new : List ℕ) → length old ≡ 1544 → SetsCleared 256 old new → NoSets new
+cleared-all old new l p = record {
+  long = p .kept .long ∙ l;
+  none = λ i h k.
+      by (ltb i 1280)
+      (λ e. let q : i ≡ 1024 + (i - 1024) = omega arith in ap (λ (j : ℕ). getD new j 0) q ∙ p .first (i - 1024) (omega (arith, ltb-true i 1280 e)))
+      (λ e. let g = ltb-false i 1280 e in let q : i ≡ 1280 + (i - 1280) = omega arith in ap (λ (j : ℕ). getD new j 0) q ∙ p .second (i - 1280) (omega arith));
+}
 
 -- what stood in the sets before does not matter
 pub names-anew : (firsts seconds : List ℕ) (n width : ℕ) (old t new : List ℕ) (r : ℕ) → KeptOutside 1024 1536 old t → NamesPut firsts seconds n width t new r → NamesPut firsts seconds n width old new r

@@ -5,17 +5,17 @@ ghost use lib.ListN.{length};
 ghost use Rattle.item_names.specs.Names.{KeysPut, SetsPut, NoSets, NamesPut};
 ghost use Rattle.item_entries.specs.Entries.{firstsOf, secondsOf, KeysFit, SetsCleared};
 
-// No type stands in the sets of the words. Four parts at a time, since each is short enough to be cleared without a loop by bytes.
-fn clear_sets(t: &mut [u64; 1544])
-    requires { ⌜ length (now t) ≡ 1544 ⌝ }
-    ensures { λ _. ⌜ SetsCleared 128 (now (t .entry)) (now (t .exit)) ⌝ }
+// No type stands in the sets of the words. A width is below 256, so that what is put is 0; as a quotient it keeps the loop one of
+// stores, where a constant would make it a call that clears byte by byte.
+fn clear_sets(t: &mut [u64; 1544], width: usize)
+    requires { ⌜ (length (now t) ≡ 1544) × (width ≤ 200) ⌝ }
+    ensures { λ _. ⌜ SetsCleared 256 (now (t .entry)) (now (t .exit)) ⌝ }
 {
+    let none = (width / 256) as u64;
     let mut w: usize = 0;
-    while w < 128 {
-        catalogue::put_first(t, w, 0);
-        catalogue::put_first(t, w + 128, 0);
-        catalogue::put_second(t, w, 0);
-        catalogue::put_second(t, w + 128, 0);
+    while w < 256 {
+        catalogue::put_first(t, w, none);
+        catalogue::put_second(t, w, none);
         w += 1;
     }
 }
@@ -54,7 +54,7 @@ pub fn put_names(t: &mut [u64; 1544], entries: &[u64; 64], count: usize, width: 
     requires { ⌜ width ≤ 200 ⌝ }
     ensures { λ r. ⌜ NamesPut (firstsOf (now (entries .entry))) (secondsOf (now (entries .entry))) count width (now (t .entry)) (now (t .exit)) r ⌝ }
 {
-    clear_sets(t);
+    clear_sets(t, width);
     put_keys(t, entries, count);
     put_sets(t, entries, count);
     item_names::put_owners(t, count);

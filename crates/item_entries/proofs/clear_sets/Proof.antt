@@ -7,31 +7,19 @@ use Rattle.item_entries.proofs.clear_sets.Statement.{statement}
 use Rattle.item_entries.proofs.clear_sets.Tie as tie
 
 abbrev Inv-loop : tie.InvT-loop
-Inv-loop t₀ w₀ t w = (w ≤ 128) × SetsCleared w t₀ t
+Inv-loop t₀ width none w₀ t w = (w ≤ 256) × (none ≡ 0) × SetsCleared w t₀ t
 
 abbrev μ-loop : tie.MeasureT-loop
-μ-loop t₀ w₀ t w = 128 - w
+μ-loop t₀ width none w₀ t w = 256 - w
 
 loop-holds : tie.Need-loop-holds Inv-loop μ-loop
-loop-holds c = (omega arith, cleared-none _)
+loop-holds c = (omega arith, omega arith, cleared-none _)
 
 put-first-requires : tie.Need-put-first-requires Inv-loop μ-loop
 put-first-requires c κs = omega arith
 
-add-put-first : tie.Need-add-put-first Inv-loop μ-loop
-add-put-first c = omega arith
-
-put-first-requires-2 : tie.Need-put-first-requires-2 Inv-loop μ-loop
-put-first-requires-2 c κs = omega arith
-
 put-second-requires : tie.Need-put-second-requires Inv-loop μ-loop
 put-second-requires c κs = omega arith
-
-add-put-second : tie.Need-add-put-second Inv-loop μ-loop
-add-put-second c = omega arith
-
-put-second-requires-2 : tie.Need-put-second-requires-2 Inv-loop μ-loop
-put-second-requires-2 c κs = omega arith
 
 add-w : tie.Need-add-w Inv-loop μ-loop
 add-w c = omega arith
@@ -41,16 +29,16 @@ loop-less c = omega arith
 
 loop-again : tie.Need-loop-again Inv-loop μ-loop
 loop-again c =
-    let s = c .before .before .before .before .before .before .before .before .before .before in
-    let l = c .before .before .before .before .before .before .before .before .before .loop in
-    (omega arith, cleared-more (l .w) (s .args .t .now) (l .t) (c .before .before .before .before .before .before .put-first .last .0) (c .before .before .before .before .put-first2 .last .0) (c .before .before .put-second .last .0) (c .put-second2 .last .0) (omega arith) (s .pre) (c .before .before .before .before .before .before .put-first .ensures) (c .before .before .before .before .put-first2 .ensures) (c .before .before .put-second .ensures) (c .put-second2 .ensures) (l .inv .1))
+    let s = c .before .before .before .before .before .before in
+    let l = c .before .before .before .before .before .loop in
+    (omega arith, l .inv .1, cleared-more (l .w) _ (s .args .t .now) (l .t) (c .before .before .put-first .last .0) (l .inv .1) (omega arith) (s .pre .0) (c .before .before .put-first .ensures) (c .put-second .ensures) (l .inv .2))
 
 returns : tie.Need-returns Inv-loop μ-loop
 returns c =
     let s = c .before .before in
     let l = c .before .loop in
-    let e : l .w ≡ 128 = omega (arith, l .inv .0) in
-    subst (λ n. SetsCleared n (s .args .t .now) (l .t)) e (l .inv .1)
+    let e : l .w ≡ 256 = omega (arith, l .inv .0) in
+    subst (λ n. SetsCleared n (s .args .t .now) (l .t)) e (l .inv .2)
 
 pub clear-sets-spec : {M : Type 1} → statement M
 clear-sets-spec =
@@ -60,11 +48,7 @@ clear-sets-spec =
     μ-loop
     loop-holds
     put-first-requires
-    add-put-first
-    put-first-requires-2
     put-second-requires
-    add-put-second
-    put-second-requires-2
     add-w
     loop-less
     loop-again
