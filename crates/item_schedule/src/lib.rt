@@ -1,10 +1,8 @@
 // The schedule of a map, out of its catalogue and its order. One function counts its bits and writes them (FORMAT 6.1).
 use item_pen::Pen;
-use ordering::Order;
 use packing::Listed;
 ghost use mathlib.Core.Path.{_≡_};
-ghost use Rattle.item_pen.specs.Pen.{RoomFor, Adds};
-ghost use Rattle.item_schedule.specs.Schedule.{namesBits, Placed, fresh, Passable, Passed, Schedulable, ListsSchedule};
+ghost use Rattle.item_schedule.specs.Schedule.{fresh, Passable, Passed, Schedulable, ListsSchedule};
 
 // What a pass comes to: how many items there are, and how many bits.
 struct Pass {
@@ -25,37 +23,21 @@ fn start(down: bool) -> Pen
     }
 }
 
-// The names of the types at the first n places.
-fn add_names(buf: &mut [u8], pen: Pen, t: &[u64; 1544], places: &[u8; 64], n: usize) -> Pen
-    requires { ⌜ Placed (now places) n ⌝ }
-    requires { ⌜ RoomFor (now buf) pen 0 (namesBits (now t) (now places) n) ⌝ }
-    ensures { λ r. ⌜ Adds (now (buf .entry)) (now (buf .exit)) pen r 0 (namesBits (now (t .entry)) (now (places .entry)) n) ⌝ }
-{
-    let mut to = pen;
-    let mut i: usize = 0;
-    while i < n {
-        let key = catalogue::key_at(t, places[i] as usize);
-        to = item_pen::add(buf, to, item_fields::name_field(key));
-        i += 1;
-    }
-    to
-}
-
 // Counts the schedule, or writes it from the first bit on: the number of types, their names in order, the number of items, the items. `items` is that number.
 fn add_all(
     buf: &mut [u8],
     down: bool,
     t: &[u64; 1544],
     words: &[u64; 64],
-    o: Order,
+    order: &[u64; 64],
+    n: usize,
     items: usize,
 ) -> Pass
-    requires { ⌜ Passable down (now buf) (now t) (now words) o items ⌝ }
-    ensures { λ r. ⌜ Passed down (now (buf .entry)) (now (buf .exit)) (now (t .entry)) o items r ⌝ }
+    requires { ⌜ Passable down (now buf) (now t) (now words) (now order) n items ⌝ }
+    ensures { λ r. ⌜ Passed down (now (buf .entry)) (now (buf .exit)) (now (t .entry)) (now (order .entry)) n items r ⌝ }
 {
-    let n = o.count;
     let types = item_pen::add(buf, start(down), item_pen::number(7, n as u64));
-    let names = add_names(buf, types, t, &o.items, n);
+    let names = order_listing::add_names(buf, types, t, order, n);
     let count = item_pen::add(buf, names, item_pen::number(16, items as u64));
     let all = item_writer::add_items(buf, count, t, words);
     let bits = item_pen::finish(buf, all);
@@ -66,17 +48,17 @@ fn add_all(
 }
 
 // Writes the schedule and names its size. Nothing is touched where the listing is too short; then the size is what is needed (FORMAT 7.4).
-pub fn write_schedule(listing: &mut [u8], t: &[u64; 1544], o: Order) -> Listed
-    requires { ⌜ Schedulable (now t) o ⌝ }
-    ensures { λ r. ⌜ ListsSchedule (now (t .entry)) o (now (listing .entry)) (now (listing .exit)) r ⌝ }
+pub fn write_schedule(listing: &mut [u8], t: &[u64; 1544], order: &[u64; 64], n: usize) -> Listed
+    requires { ⌜ Schedulable (now t) (now order) n ⌝ }
+    ensures { λ r. ⌜ ListsSchedule (now (t .entry)) (now (order .entry)) n (now (listing .entry)) (now (listing .exit)) r ⌝ }
 {
     let mut words = [0u64; 64];
     item_writer::fill_words(t, &mut words);
-    let counted = add_all(listing, false, t, &words, o, 0);
+    let counted = add_all(listing, false, t, &words, order, n, 0);
     let size = (counted.bits + 7) / 8;
     if listing.len() < size {
         return Listed { short: true, size };
     }
-    add_all(listing, true, t, &words, o, counted.items);
+    add_all(listing, true, t, &words, order, n, counted.items);
     Listed { short: false, size }
 }
