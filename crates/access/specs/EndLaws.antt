@@ -1,34 +1,35 @@
 -- What the parts of a call leave is what is due.
-use mathlib.Core.Bool.{Bool, true, false, not, cond}
+use mathlib.Core.Bool.{Bool, true, false, cond}
 use mathlib.Core.List.{List}
 use mathlib.Core.Path.{_≡_, sym, ap, _∙_}
-use Prim.Native.Nat.{ℕ, _<_}
-use borrow.Author.Tests.{ltb-true, not-true, not-false}
-use lib.Dec.{ltb}
-use Rattle.lists.specs.Tests.{by}
-use Rattle.lists.specs.Appending.{map-checked}
-use Rattle.definitions.specs.Map.{TypeMap}
-use Rattle.definitions.specs.Order.{organizeTypeMap}
+use Prim.Native.Nat.{ℕ}
+use Rattle.lists.specs.Lists.{null}
+use Rattle.lists.specs.Tests.{by, never, null-nil}
+use Rattle.definitions.specs.Records.{Row, Sheet}
+use Rattle.definitions.specs.Map.{TypeMap, typeMapOf}
+use Rattle.definitions.specs.Order.{hasOrder, organizeTypeMap}
 use Rattle.definitions.specs.OrderRows.{orderRows}
-use Rattle.definitions.specs.Packing.{orderBits}
-use Rattle.definitions.specs.Answer.{mostRows, Call, order, scheduleOf}
+use Rattle.definitions.specs.Synthesis.{synthesis}
+use Rattle.definitions.specs.Packing.{orderBits, scheduleBits}
+use Rattle.definitions.specs.Answer.{Call, order, schedule, scheduleOf}
+use Rattle.line_laws.specs.Statements.{Readable, lineMap, anyRefused}
+use Rattle.synthesis_laws.specs.Rows.{rows-are-tested}
 use Rattle.ordering.specs.declared.Parents.{Parents}
-use Rattle.ordering.specs.declared.Order.{Order}
-use Rattle.ordering.specs.Reading.{Reads, typeAt}
-use Rattle.ordering.specs.Organized.{Organized, placesIn}
+use Rattle.ordering.specs.Reading.{Reads}
 use Rattle.diagnosis.specs.Reported.{Reported}
 use Rattle.packing.specs.declared.Listed.{Listed}
-use Rattle.packing.specs.Order.{nameAt, orderNames, Listing}
+use Rattle.packing.specs.Order.{Listing}
+use Rattle.synthesis.specs.Synthesized.{Written}
 use Rattle.answers.specs.declared.Answer.{Answer}
 use Rattle.answers.specs.Answers.{parts, Answered}
 use Rattle.answers.specs.Telling.{Tells}
 use Rattle.answers.specs.TellingLaws.{answered, answered-as}
-use Rattle.access.specs.Ending.{diagnosed, listed, ended, Unordered, Ended}
+use Rattle.access.specs.Ending.{diagnosed, listed, ended, Unordered}
 
 -- ---- the parts that both calls have
 
 -- 8
-pub diagnosed-so : (p : Parents) (d d′ : List ℕ) (rows : ℕ) (more : Bool) (a : Answer) → Reported p mostRows d d′ rows more → Tells a (parts 8 0 rows more) → Unordered p d d′ a
+pub diagnosed-so : (p : Parents) (d d′ : List ℕ) (rows : ℕ) (more : Bool) (a : Answer) → Reported p 256 d d′ rows more → Tells a (parts 8 0 rows more) → Unordered p d d′ a
 diagnosed-so p d d′ rows more a q t = record { due = λ m e l. answered a _ l d′ _ t (eight m e l) }
   where
     eight : (m : TypeMap) → Reads p m → (l : List ℕ) → record { answer = parts 8 0 rows more; listing = l; diagnosis = d′ } ≡ diagnosed 8 (orderRows m) l d
@@ -45,36 +46,42 @@ listed-so bits l l′ d w a q t = answered a _ l′ d _ t due
         (λ s. rw (sym (q .short) ∙ s, q .listing, s, q .sized))
         (λ s. rw (sym (q .short) ∙ s, q .listing, s, q .sized))
 
--- where the code finds no order, 8 is due to either call
-pub unordered-so : (call : Call) (p : Parents) (r : Order) → Organized p r → (m : TypeMap) → Reads p m → (l d d′ : List ℕ) (a : Answer) → not (r .found) ≡ true →
-    Unordered p d d′ a → Answered a l d′ (ended call m l d)
+-- 8 is due to either call where there is no order
+pub unordered-so : (call : Call) (p : Parents) (m : TypeMap) → Reads p m → (l d d′ : List ℕ) (a : Answer) → hasOrder m ≡ false → Unordered p d d′ a
+    → Answered a l d′ (ended call m l d)
 unfolding ended
-unordered-so call p r o m e l d d′ a f q = answered-as a l d′ _ _ (q .due m e l) (sym (rw (sym (o .found m e) ∙ not-true (r .found) f)))
+unordered-so call p m e l d d′ a f q = answered-as a l d′ _ _ (q .due m e l) (sym (rw f))
 
--- ---- the order-only call
+-- the order-only call with an order
+pub ordered-so : (m : TypeMap) (bits : List Bool) (l l′ d : List ℕ) (w : Listed) (a : Answer) → hasOrder m ≡ true → bits ≡ orderBits (organizeTypeMap m)
+    → Listing l l′ bits w → Tells a (parts (cond (w .short) 10 0) (w .size) 0 false) → Answered a l′ d (ended order m l d)
+unfolding ended scheduleOf
+ordered-so m bits l l′ d w a h e q t =
+    answered-as a l′ d _ _ (listed-so bits l l′ d w a q t) (ap (λ (b : List Bool). listed b l d) e ∙ sym (rw h))
 
-module _ (p : Parents) (r : Order) (o : Organized p r) where
-  pub no-order : (l d d′ : List ℕ) (a : Answer) → not (r .found) ≡ true → Unordered p d d′ a → Ended p l d a l d′
-  no-order l d d′ a f q = record { due = λ m e n. unordered-so order p r o m e l d d′ a f q }
+-- ---- the schedule call
 
-  -- the names that are written are those of the order
-  names-are : (m : TypeMap) → Reads p m → ((t : ℕ) → t < p .count → nameAt (p .firsts) (p .seconds) t ≡ typeAt m t .name) →
-      orderNames (p .firsts) (p .seconds) (r .items) (r .count) ≡ organizeTypeMap m
-  unfolding orderNames
-  names-are m e n =
-      map-checked (λ t. ltb t (p .count)) (nameAt (p .firsts) (p .seconds)) (λ (t : ℕ). typeAt m t .name) (placesIn r) (o .within) (λ t h. n t (ltb-true t (p .count) h))
-      ∙ o .order m e
+module _ (s : Sheet) (r : Readable s) (h : hasOrder (typeMapOf s) ≡ true) where
+  -- the rows of the synthesis
+  abbrev rows : List Row
+  rows = synthesis (typeMapOf s) .rows
 
-  abbrev written : List Bool
-  written = orderBits (orderNames (p .firsts) (p .seconds) (r .items) (r .count))
+  -- 9: there is a row where a type is refused (FORMAT 8.11)
+  pub rows-so : (l d d′ : List ℕ) (count : ℕ) (more : Bool) (a : Answer) → anyRefused (lineMap s) ≡ true → Written (synthesis (typeMapOf s) .rows) d d′ count more
+      → Tells a (parts 9 0 count more) → Answered a l d′ (ended schedule (typeMapOf s) l d)
+  unfolding ended
+  rows-so l d d′ count more a e w t =
+      let some : null rows ≡ false =
+      by (null rows)
+      (λ n. never e (rows-are-tested s (record { readable = r; order = h }) .0 (null-nil rows n)))
+      (λ n. n) in
+      answered a _ l d′ _ t (rw (h, some, w .counted, w .rest, w .bytes))
 
-  pub ordered : (l l′ d : List ℕ) (w : Listed) (a : Answer) → not (r .found) ≡ false → Listing l l′ written w →
-      Tells a (parts (cond (w .short) 10 0) (w .size) 0 false) → Ended p l d a l′ d
-  unfolding ended scheduleOf
-  ordered l l′ d w a f q t = record {
-    due = λ m e n.
-        answered-as a l′ d _ _
-        (listed-so written l l′ d w a q t)
-        (ap (λ (names : List (List ℕ)). listed (orderBits names) l d) (names-are m e n)
-        ∙ sym (rw (sym (o .found m e) ∙ not-false (r .found) f)));
-  }
+  -- 10 and acceptance
+  pub scheduled-so : (l l′ d : List ℕ) (w : Listed) (a : Answer) → anyRefused (lineMap s) ≡ false → Listing l l′ (scheduleBits (scheduleOf schedule (typeMapOf s))) w
+      → Tells a (parts (cond (w .short) 10 0) (w .size) 0 false) → Answered a l′ d (ended schedule (typeMapOf s) l d)
+  unfolding ended
+  scheduled-so l l′ d w a e q u =
+      answered-as a l′ d _ _
+      (listed-so (scheduleBits (scheduleOf schedule (typeMapOf s))) l l′ d w a q u)
+      (sym (rw (h, ap null (rows-are-tested s (record { readable = r; order = h }) .1 e))))

@@ -1,8 +1,7 @@
 -- What a call does with a map that tests 1 to 7 let pass: 8, 9, 10 or acceptance.
 use mathlib.Core.Bool.{Bool, false, cond}
 use mathlib.Core.List.{List}
-use mathlib.Core.Path.{_≡_}
-use Prim.Native.Nat.{ℕ, _<_, min}
+use Prim.Native.Nat.{ℕ, min}
 use lib.Dec.{ltb}
 use lib.ListN.{length, take}
 use Rattle.lists.specs.Lists.{null, each}
@@ -12,19 +11,18 @@ use Rattle.definitions.specs.Map.{TypeMap}
 use Rattle.definitions.specs.Order.{hasOrder}
 use Rattle.definitions.specs.OrderRows.{orderRows}
 use Rattle.definitions.specs.Packing.{rowBytes}
-use Rattle.definitions.specs.Answer.{mostRows, Call, order, Outcome, scheduleOf, bitsWritten, synthesisRows, overwrite}
+use Rattle.definitions.specs.Answer.{Call, Outcome, scheduleOf, bitsWritten, synthesisRows, overwrite}
 use Rattle.ordering.specs.declared.Parents.{Parents}
-use Rattle.ordering.specs.Reading.{Reads, typeAt}
-use Rattle.packing.specs.Order.{nameAt}
+use Rattle.ordering.specs.Reading.{Reads}
 use Rattle.answers.specs.declared.Answer.{Answer}
 use Rattle.answers.specs.Answers.{parts, Answered}
 
--- 8 and 9: at most `mostRows` rows are written, and no byte behind them changes (FORMAT 8.2)
+-- 8 and 9: at most 256 rows are written, and no byte behind them changes (FORMAT 8.2)
 abbrev pub diagnosed : ℕ → List Row → List ℕ → List ℕ → Outcome
 diagnosed n rows listing diagnosis = record {
-  answer = parts n 0 (min mostRows (length rows)) (ltb mostRows (length rows));
+  answer = parts n 0 (min 256 (length rows)) (ltb 256 (length rows));
   listing = listing;
-  diagnosis = overwrite (each rowBytes (take mostRows rows)) diagnosis;
+  diagnosis = overwrite (each rowBytes (take 256 rows)) diagnosis;
 }
 
 -- 10 names the size that is needed and touches nothing; acceptance writes the bits and names their size (FORMAT 7.4)
@@ -51,8 +49,3 @@ ended call m listing diagnosis =
 -- 8, for every map that p reads
 pub record Unordered (p : Parents) (entry exit : List ℕ) (r : Answer) : Type 0 where
   pub due : (m : TypeMap) → Reads p m → (listing : List ℕ) → Answered r listing exit (diagnosed 8 (orderRows m) listing entry)
-
--- what the order-only call owes to every map that p reads with the names of its types
-pub record Ended (p : Parents) (listing diagnosis : List ℕ) (r : Answer) (listing′ diagnosis′ : List ℕ) : Type 0 where
-  pub due : (m : TypeMap) → Reads p m → ((t : ℕ) → t < p .count → nameAt (p .firsts) (p .seconds) t ≡ typeAt m t .name)
-      → Answered r listing′ diagnosis′ (ended order m listing diagnosis)

@@ -1,9 +1,9 @@
 pub mod Ending
 pub mod Lines
-pub mod Starting
-pub mod Testing
+pub mod Tables
 pub mod AnswerLaws
 pub mod ReadLaws
+pub mod TableLaws
 pub mod EndLaws
 pub mod ScheduleLaws
 pub mod TestLaws

@@ -1,58 +1,106 @@
 // The public calls.
 use answers::Answer;
-use decoding::Decoded;
+use item_draft::Known;
 use ordering::Parents;
-use types::Extensions;
-use types::Types;
+use sheet_decode::Decoding;
 ghost use mathlib.Core.Path.{_≡_};
 ghost use Prim.Native.Nat.{_≤_};
 ghost use lib.ListN.{length};
-ghost use Rattle.definitions.specs.Records.{Sheet};
-ghost use Rattle.definitions.specs.Answer.{mostRowBytes, outcome};
+ghost use Rattle.definitions.specs.Answer.{outcome};
 ghost use Rattle.ordering.specs.Reading.{Valid};
-ghost use Rattle.synthesis.specs.Synthesized.{Synthesizes};
+ghost use Rattle.sheet_decode.specs.Lists.{Tables};
+ghost use Rattle.sheet_decode.specs.Decodes.{Whole};
 ghost use Rattle.answers.specs.Answers.{answerOf, Answered, orderInput, scheduleInput};
-ghost use Rattle.access.specs.Ending.{Unordered, Ended};
+ghost use Rattle.access.specs.Ending.{Unordered};
 ghost use Rattle.access.specs.Lines.{LinesListed};
-ghost use Rattle.access.specs.Starting.{Started, RowsDue, Scheduled};
-ghost use Rattle.access.specs.Testing.{Tests};
-
-// Tests 1 to 7, for a diagnosis slice of `room` bytes: 1 and 2 before the sheet is read, the others as the decoder finds them
-// (FORMAT 7.3).
-fn test(sheet: &[u8], room: usize) -> Decoded
-    ensures { λ r. ⌜ Tests (now (sheet .entry)) room r ⌝ }
-{
-    let number = answers::refused_early(sheet.len(), room);
-    if 0 < number {
-        return decoding::turned_back(number);
-    }
-    decoding::decode(sheet)
-}
+ghost use Rattle.access.specs.Tables.{Takes, Decoded, Organizes, Ordered, knownOf, HeldInOrder, RowsDue, Scheduled};
 
 // 8: the map has no order; its rows are written (FORMAT 8.3 to 8.5).
 fn no_order(p: Parents, diagnosis: &mut [u8]) -> Answer
     requires { ⌜ Valid p ⌝ }
-    requires { ⌜ mostRowBytes ≤ length (now diagnosis) ⌝ }
+    requires { ⌜ 1536 ≤ length (now diagnosis) ⌝ }
     ensures { λ r. ⌜ Unordered p (now (diagnosis .entry)) (now (diagnosis .exit)) r ⌝ }
 {
     let report = diagnosis::diagnose(p, diagnosis, answers::ROWS);
     answers::no_order(report.rows, report.more)
 }
 
-// Writes the order, if there is one: 8, 10 or acceptance.
-fn end_order(p: Parents, listing: &mut [u8], diagnosis: &mut [u8]) -> Answer
-    requires { ⌜ Valid p ⌝ }
-    requires { ⌜ mostRowBytes ≤ length (now diagnosis) ⌝ }
-    ensures { λ r. ⌜ Ended p (now (listing .entry)) (now (diagnosis .entry)) r (now (listing .exit)) (now (diagnosis .exit)) ⌝ }
+// Tests 1 to 7, for a diagnosis slice of `room` bytes. What passes stands in the tables (FORMAT 7.3).
+fn take(
+    sheet: &[u8],
+    room: usize,
+    d: &mut [u64; 704],
+    entries: &mut [u64; 64],
+    t: &mut [u64; 1544],
+) -> Decoding
+    requires { ⌜ Tables (now d) (now t) ⌝ }
+    requires { ⌜ length (now entries) ≡ 64 ⌝ }
+    ensures { λ r. ⌜ Takes (now (sheet .entry)) room (now (d .exit)) (now (entries .exit)) (now (t .exit)) r ⌝ }
 {
-    let order = ordering::organize_type_map(p);
-    if !order.found {
+    let number = answers::refused_early(sheet.len(), room);
+    if 0 < number {
+        return Decoding {
+            ok: false,
+            refusal: number,
+            width: 0,
+            count: 0,
+            extensions: 0,
+            resource: 0,
+            own: 0,
+        };
+    }
+    sheet_decode::decode(sheet, d, entries, t)
+}
+
+// What is known of the order: whether there is one, how many words are the last of a name, and the types that are a parent.
+struct Placing {
+    found: bool,
+    words: usize,
+    childed: u64,
+}
+
+// Puts the names and the parents of the types into the catalogue, and looks for the order.
+fn organize(
+    t: &mut [u64; 1544],
+    d: &[u64; 704],
+    entries: &[u64; 64],
+    n: Decoding,
+    places: &mut [u64; 64],
+) -> Placing
+    requires { ⌜ Decoded (now d) (now entries) (now t) n ⌝ }
+    requires { ⌜ length (now places) ≡ 64 ⌝ }
+    ensures { λ r. ⌜ Organizes (now (d .entry)) (now (entries .entry)) (now (t .entry)) (now (t .exit)) n (now (places .exit)) r ⌝ }
+{
+    let words = item_entries::put_names(t, entries, n.count, n.width);
+    let parents = order_parents::put_parents(t, d, entries, n.count, n.own as u64 * 256);
+    let found = order_rounds::organize_type_map(t, n.count, parents.whole, places);
+    Placing {
+        found,
+        words,
+        childed: parents.set,
+    }
+}
+
+// Writes the order, if there is one: 8, 10 or acceptance.
+fn end_order(
+    t: &mut [u64; 1544],
+    d: &[u64; 704],
+    entries: &[u64; 64],
+    n: Decoding,
+    listing: &mut [u8],
+    diagnosis: &mut [u8],
+) -> Answer
+    requires { ⌜ Decoded (now d) (now entries) (now t) n ⌝ }
+    requires { ⌜ 1536 ≤ length (now diagnosis) ⌝ }
+    ensures { λ r. ⌜ Ordered (now (d .entry)) (now (entries .entry)) (now (t .entry)) n (now (listing .entry)) (now (diagnosis .entry)) r (now (listing .exit)) (now (diagnosis .exit)) ⌝ }
+{
+    let mut places = [0u64; 64];
+    let o = organize(t, d, entries, n, &mut places);
+    if !o.found {
+        let p = order_compact::parents_of(t, d, entries, n.count, n.own);
         return no_order(p, diagnosis);
     }
-    let firsts = p.firsts;
-    let seconds = p.seconds;
-    let items = order.items;
-    let listed = packing::write_order(listing, firsts, seconds, items, order.count);
+    let listed = order_listing::write_order(listing, t, &places, n.count);
     answers::listed(listed.short, listed.size)
 }
 
@@ -60,56 +108,78 @@ fn end_order(p: Parents, listing: &mut [u8], diagnosis: &mut [u8]) -> Answer
 pub fn order(sheet: &[u8], listing: &mut [u8], diagnosis: &mut [u8]) -> Answer
     ensures { λ r. ⌜ Answered r (now (listing .exit)) (now (diagnosis .exit)) (outcome (orderInput (now (sheet .entry)) (now (listing .entry)) (now (diagnosis .entry)))) ⌝ }
 {
-    let tested = test(sheet, diagnosis.len());
-    if !tested.ok {
-        return answers::refused(tested.refusal);
+    let mut d = sheet_draft::blank();
+    let mut entries = [0u64; 64];
+    let mut t = catalogue::blank();
+    let n = take(sheet, diagnosis.len(), &mut d, &mut entries, &mut t);
+    if !n.ok {
+        return answers::refused(n.refusal);
     }
-    let types = tested.types;
-    let parents = parents::parents_of(types, tested.self_word);
-    end_order(parents, listing, diagnosis)
+    end_order(&mut t, &d, &entries, n, listing, diagnosis)
 }
 
-// 9: a type is refused; the rows of the synthesis are written (FORMAT 8.6 to 8.11).
-fn type_refused(
-    types: Types,
-    extensions: Extensions,
-    resource: u8,
-    p: Parents,
-    diagnosis: &mut [u8],
-) -> Answer
-    requires { ⌜ ((s : Sheet) × Synthesizes s types extensions resource p) ⌝ }
-    requires { ⌜ mostRowBytes ≤ length (now diagnosis) ⌝ }
-    ensures { λ r. ⌜ RowsDue types extensions resource p (now (diagnosis .entry)) (now (diagnosis .exit)) r ⌝ }
+// What the filling of the catalogue is told.
+fn known(n: Decoding, o: Placing) -> Known
+    ensures { λ r. ⌜ r ≡ knownOf n o ⌝ }
 {
-    let report = synthesis::apply_associate_annotations(types, extensions, resource, p, diagnosis);
+    Known {
+        count: n.count,
+        words: o.words,
+        extensions: n.extensions,
+        resource: n.resource as usize,
+        childed: o.childed,
+        width: n.width,
+    }
+}
+
+// 9: a type is refused; the rows of the synthesis are written (FORMAT 8.6 to 8.11). The synthesis works on the map by value, so the
+// sheet is read again.
+fn type_refused(sheet: &[u8], diagnosis: &mut [u8]) -> Answer
+    requires { ⌜ HeldInOrder (now sheet) ⌝ }
+    requires { ⌜ 1536 ≤ length (now diagnosis) ⌝ }
+    ensures { λ r. ⌜ RowsDue (now (sheet .entry)) (now (diagnosis .entry)) (now (diagnosis .exit)) r ⌝ }
+{
+    let held = decoding::decode(sheet);
+    let types = held.types;
+    let extensions = held.extensions;
+    let p = parents::parents_of(types, held.self_word);
+    let report = synthesis::apply_associate_annotations(
+        types,
+        extensions,
+        held.resource,
+        p,
+        diagnosis,
+    );
     answers::type_refused(report.rows, report.more)
 }
 
 // Writes the schedule, if there is one: 8, 9, 10 or acceptance. The catalogue of the map tells whether a type is refused; the
 // synthesis runs only to write the rows.
 fn end_schedule(
-    types: Types,
-    extensions: Extensions,
-    resource: u8,
-    width: usize,
-    p: Parents,
+    sheet: &[u8],
+    t: &mut [u64; 1544],
+    d: &[u64; 704],
+    entries: &[u64; 64],
+    n: Decoding,
     listing: &mut [u8],
     diagnosis: &mut [u8],
 ) -> Answer
-    requires { ⌜ Started types extensions resource width p ⌝ }
-    requires { ⌜ mostRowBytes ≤ length (now diagnosis) ⌝ }
-    ensures { λ r. ⌜ Scheduled types extensions resource width p (now (listing .entry)) (now (diagnosis .entry)) r (now (listing .exit)) (now (diagnosis .exit)) ⌝ }
+    requires { ⌜ Whole (now sheet) (now d) (now entries) (now t) n ⌝ }
+    requires { ⌜ 1536 ≤ length (now diagnosis) ⌝ }
+    ensures { λ r. ⌜ Scheduled (now (sheet .entry)) (now (d .entry)) (now (entries .entry)) (now (t .entry)) n (now (listing .entry)) (now (diagnosis .entry)) r (now (listing .exit)) (now (diagnosis .exit)) ⌝ }
 {
-    let order = ordering::organize_type_map(p);
-    if !order.found {
+    let mut places = [0u64; 64];
+    let o = organize(t, d, entries, n, &mut places);
+    if !o.found {
+        let p = order_compact::parents_of(t, d, entries, n.count, n.own);
         return no_order(p, diagnosis);
     }
-    let mut table = catalogue::blank();
-    let lost = item_fill::fill(&mut table, types, extensions, resource, width, p, order);
-    if item_refusal::is_refused(&table, lost) {
-        return type_refused(types, extensions, resource, p, diagnosis);
+    let k = known(n, o);
+    let lost = item_draft::fill(t, sheet, d, entries, &places, k);
+    if item_refusal::is_refused(t, lost) {
+        return type_refused(sheet, diagnosis);
     }
-    let listed = item_schedule::write_schedule(listing, &table, order);
+    let listed = item_schedule::write_schedule(listing, t, &places, n.count);
     answers::listed(listed.short, listed.size)
 }
 
@@ -118,20 +188,12 @@ pub fn schedule(sheet: &[u8], listing: &mut [u8], diagnosis: &mut [u8]) -> Answe
     ensures { λ r. ⌜ Answered r (now (listing .exit)) (now (diagnosis .exit)) (outcome (scheduleInput (now (sheet .entry)) (now (listing .entry)) (now (diagnosis .entry)))) ⌝ }
     ensures { λ r. ⌜ LinesListed (now (sheet .entry)) (now (listing .entry)) (now (listing .exit)) (answerOf r .number) ⌝ }
 {
-    let tested = test(sheet, diagnosis.len());
-    if !tested.ok {
-        return answers::refused(tested.refusal);
+    let mut d = sheet_draft::blank();
+    let mut entries = [0u64; 64];
+    let mut t = catalogue::blank();
+    let n = take(sheet, diagnosis.len(), &mut d, &mut entries, &mut t);
+    if !n.ok {
+        return answers::refused(n.refusal);
     }
-    let types = tested.types;
-    let extensions = tested.extensions;
-    let parents = parents::parents_of(types, tested.self_word);
-    end_schedule(
-        types,
-        extensions,
-        tested.resource,
-        tested.words.count,
-        parents,
-        listing,
-        diagnosis,
-    )
+    end_schedule(sheet, &mut t, &d, &entries, n, listing, diagnosis)
 }

@@ -1,70 +1,86 @@
-use mathlib.Core.Path.{sym, subst}
-use borrow.Author.Tests.{not-false}
-use Rattle.item_fill.specs.Fill.{Blank}
-use Rattle.item_fill.specs.Asked.{blank-zeros}
-use Rattle.access.specs.ScheduleLaws.{starts-valid, no-order, synthesizes, holding, with-rows, orderly, accepted}
+use mathlib.Core.Path.{sym, _∙_}
+use borrow.Author.Tests.{not-true, not-false}
+use Rattle.definitions.specs.Answer.{schedule}
+use Rattle.ordering.specs.Reading.{valid}
+use Rattle.access.specs.EndLaws.{unordered-so, scheduled-so}
+use Rattle.access.specs.TableLaws.{readable, drafts, sketch, none-is, found-is}
+use Rattle.access.specs.ScheduleLaws.{fillable, refused-is, orderly}
 use borrow.Author.Needs.{needs}
 use Rattle.access.proofs.end_schedule.Statement.{statement}
 use Rattle.access.proofs.end_schedule.Tie as tie
 
-organize-type-map-requires : tie.Need-organize-type-map-requires
-organize-type-map-requires c κs = starts-valid _ _ _ _ _ (c .before .before .pre .0)
+organize-requires : tie.Need-organize-requires
+organize-requires c κs = search needs
+
+parents-of-requires : tie.Need-parents-of-requires
+parents-of-requires c κs =
+    drafts _ _ _ _ _ (c .before .before .before .before .before .before .before .before .before .pre .0)
 
 no-order-requires : tie.Need-no-order-requires
-no-order-requires c κs = let p = c .before .before .before .before .before .before .pre in (starts-valid _ _ _ _ _ (p .0), p .1)
+no-order-requires c κs =
+    let s = c .before .before .before .before .before .before .before .before .before .before .before in
+    let w = s .pre .0 in
+    let o = c .before .before .before .before .before .organize in
+    let p = c .before .parents-of in
+    (valid (p .result) _ (p .ensures .reads _ (sketch _ _ _ _ _ w _ _ (o .result) (o .ensures))), s .pre .1)
 
 same-length : tie.Need-same-length
 same-length c = search needs
 
 returns : tie.Need-returns
 returns c =
-    let o = c .before .before .before .before .before .before .organize-type-map in
+    let o = c .before .before .before .before .before .before .before .before .organize in
+    let p = c .before .before .before .before .parents-of in
     let n = c .before .before .no-order in
-    record { due = λ s h. no-order _ _ _ _ _ (o .result) (o .ensures) s h _ _ _ (n .result) (c .before .before .before .before .if1 .taken) (n .ensures) }
+    record {
+      due = λ w.
+          unordered-so schedule (p .result) _ (p .ensures .reads _ (sketch _ _ _ _ _ w _ _ (o .result) (o .ensures))) _ _ _ (n .result)
+          (none-is _ _ _ _ _ w _ _ (o .result) (o .ensures) (not-true _ (c .before .before .before .before .before .before .if1 .taken))) (n .ensures);
+    }
 
-blank-requires : tie.Need-blank-requires
-blank-requires c κs = search needs
+known-requires : tie.Need-known-requires
+known-requires c κs = search needs
 
 fill-requires : tie.Need-fill-requires
 fill-requires c κs =
-    let p = c .before .before .before .before .before .before .before .pre in
-    let o = c .before .before .before .before .organize-type-map in
-    let f = not-false _ (c .before .before .if1 .left) in
-    (subst Blank (sym (c .before .blank .ensures)) blank-zeros, (record { sheet = p .0 .s; holding = holding _ _ _ _ _ (o .result) (o .ensures) (p .0 .s) (p .0 .starts) f }, (o .ensures, f)))
+    let w = c .before .before .before .before .before .before .before .before .before .before .before .pre .0 in
+    let o = c .before .before .before .before .before .organize in
+    let f = not-false _ (c .before .before .before .if1 .left) in
+    let k = c .before .before .known in
+    (w .holds .short, fillable _ _ _ _ _ w _ _ (o .result) (o .ensures) f (k .result) (k .ensures))
 
 is-refused-requires : tie.Need-is-refused-requires
 is-refused-requires c κs = search needs
 
 type-refused-requires : tie.Need-type-refused-requires
 type-refused-requires c κs =
-    let p = c .before .before .before .before .before .before .before .before .before .before .before .before .pre in
-    let o = c .before .before .before .before .before .before .before .before .before .organize-type-map in
-    let f = not-false _ (c .before .before .before .before .before .before .before .if1 .left) in
-    ((p .0 .s, synthesizes _ _ _ _ _ (o .result) (o .ensures) (p .0 .s) (p .0 .starts) f), p .1)
+    let w = c .before .before .before .before .before .before .before .before .before .before .before .before .before .before .before .before .pre .0 in
+    let o = c .before .before .before .before .before .before .before .before .before .before .organize in
+    let f = not-false _ (c .before .before .before .before .before .before .before .before .if1 .left) in
+    (record { s = w .s; holds = w .holds; order = found-is _ _ _ _ _ w _ _ (o .result) (o .ensures) f }, c .before .before .before .before .before .before .before .before .before .before .before .before .before .before .before .before .pre .1)
 
 same-length-2 : tie.Need-same-length-2
 same-length-2 c = search needs
 
 returns-2 : tie.Need-returns-2
 returns-2 c =
-    let o = c .before .before .before .before .before .before .before .before .before .before .before .before .organize-type-map in
-    let f = not-false _ (c .before .before .before .before .before .before .before .before .before .before .if1 .left) in
+    let o = c .before .before .before .before .before .before .before .before .before .before .before .before .before .organize in
+    let f = not-false _ (c .before .before .before .before .before .before .before .before .before .before .before .if1 .left) in
+    let k = c .before .before .before .before .before .before .before .before .before .before .known in
     let g = c .before .before .before .before .before .before .before .fill in
     let x = c .before .before .before .before .before .is-refused in
     let y = c .before .before .type-refused in
-    record {
-      due = λ s h.
-          with-rows _ _ _ _ _ (o .result) (o .ensures) s h f _ (g .result) (x .result) (g .ensures) (x .ensures) _ _ _ (y .result) (c .before .before .before .before .if2 .taken) (y .ensures);
-    }
+    record { due = λ w. y .ensures .due _ (w .holds) (found-is _ _ _ _ _ w _ _ (o .result) (o .ensures) f) (sym (refused-is _ _ _ _ _ w _ _ (o .result) (o .ensures) f (k .result) (k .ensures) _ (g .result) (x .result) (g .ensures) (x .ensures)) ∙ c .before .before .before .before .if2 .taken) _ }
 
 write-schedule-requires : tie.Need-write-schedule-requires
 write-schedule-requires c κs =
-    let p = c .before .before .before .before .before .before .before .before .before .before .before .before .before .pre in
-    let o = c .before .before .before .before .before .before .before .before .before .before .organize-type-map in
-    let f = not-false _ (c .before .before .before .before .before .before .before .before .if1 .left) in
-    let g = c .before .before .before .before .before .fill in
-    let x = c .before .before .before .is-refused in
-    record { sheet = p .0 .s; orderly = orderly _ _ _ _ _ (o .result) (o .ensures) (p .0 .s) (p .0 .starts) f _ (g .result) (x .result) (g .ensures) (x .ensures) (c .before .before .if2 .left) }
+    let w = c .before .before .before .before .before .before .before .before .before .before .before .before .before .before .before .before .before .before .pre .0 in
+    let o = c .before .before .before .before .before .before .before .before .before .before .before .before .organize in
+    let f = not-false _ (c .before .before .before .before .before .before .before .before .before .before .if1 .left) in
+    let k = c .before .before .before .before .before .before .before .before .before .known in
+    let g = c .before .before .before .before .before .before .fill in
+    let x = c .before .before .before .before .is-refused in
+    record { sheet = w .s; orderly = orderly _ _ _ _ _ w _ _ (o .result) (o .ensures) f (k .result) (k .ensures) _ (g .result) (x .result) (g .ensures) (x .ensures) (c .before .before .before .if2 .left) }
 
 listed-requires : tie.Need-listed-requires
 listed-requires c κs = search needs
@@ -74,27 +90,29 @@ same-length-3 c = search needs
 
 returns-3 : tie.Need-returns-3
 returns-3 c =
-    let o = c .before .before .before .before .before .before .before .before .before .before .before .before .before .before .organize-type-map in
-    let f = not-false _ (c .before .before .before .before .before .before .before .before .before .before .before .before .if1 .left) in
-    let g = c .before .before .before .before .before .before .before .before .before .fill in
-    let x = c .before .before .before .before .before .before .before .is-refused in
-    let w = c .before .before .before .write-schedule in
-    let e = c .before .before .before .before .before .before .if2 .left in
+    let o = c .before .before .before .before .before .before .before .before .before .before .before .before .before .before .before .before .organize in
+    let f = not-false _ (c .before .before .before .before .before .before .before .before .before .before .before .before .before .before .if1 .left) in
+    let k = c .before .before .before .before .before .before .before .before .before .before .before .before .before .known in
+    let g = c .before .before .before .before .before .before .before .before .before .before .fill in
+    let x = c .before .before .before .before .before .before .before .before .is-refused in
+    let e = c .before .before .before .before .before .before .before .if2 .left in
+    let l = c .before .before .before .write-schedule in
     record {
-      due = λ s h.
-          accepted _ _ _ _ _ (o .result) (o .ensures) s h f _ (g .result) (x .result) (g .ensures) (x .ensures) e _ _ _ (w .result) (c .listed .result)
-          (w .ensures .lists s (orderly _ _ _ _ _ (o .result) (o .ensures) s h f _ (g .result) (x .result) (g .ensures) (x .ensures) e)) (c .listed .ensures);
+      due = λ w.
+          scheduled-so _ (readable _ _ _ _ _ w) (found-is _ _ _ _ _ w _ _ (o .result) (o .ensures) f) _ _ _ (l .result) (c .listed .result) (sym (refused-is _ _ _ _ _ w _ _ (o .result) (o .ensures) f (k .result) (k .ensures) _ (g .result) (x .result) (g .ensures) (x .ensures)) ∙ e)
+          (l .ensures .lists _ (orderly _ _ _ _ _ w _ _ (o .result) (o .ensures) f (k .result) (k .ensures) _ (g .result) (x .result) (g .ensures) (x .ensures) e)) (c .listed .ensures);
     }
 
 pub end-schedule-spec : {M : Type 1} → statement M
 end-schedule-spec =
     tie.close
     (tie.spec
-    organize-type-map-requires
+    organize-requires
+    parents-of-requires
     no-order-requires
     same-length
     returns
-    blank-requires
+    known-requires
     fill-requires
     is-refused-requires
     type-refused-requires

@@ -1,31 +1,33 @@
 use mathlib.Core.Path.{refl}
-use Rattle.definitions.specs.Answer.{order}
-use Rattle.access.specs.TestLaws.{refused-so, asked, is-valid, due}
-use borrow.Author.Needs.{needs}
 use borrow.Author.Tests.{not-true, not-false}
+use Rattle.definitions.specs.Answer.{order}
+use Rattle.access.specs.TestLaws.{refused-so, due-so}
+use borrow.Author.Needs.{needs}
 use Rattle.access.proofs.order.Statement.{statement}
 use Rattle.access.proofs.order.Tie as tie
 
-test-requires : tie.Need-test-requires
-test-requires c κs = search needs
+blank-requires : tie.Need-blank-requires
+blank-requires c κs = search needs
+
+blank-requires-2 : tie.Need-blank-requires-2
+blank-requires-2 c κs = search needs
+
+take-requires : tie.Need-take-requires
+take-requires c κs = search needs
 
 refused-requires : tie.Need-refused-requires
-refused-requires c κs = c .before .before .test .ensures .refused (not-true _ (c .if1 .taken)) .alone
+refused-requires c κs =
+    c .before .before .take .ensures .refused (not-true _ (c .if1 .taken)) .alone
 
 returns : tie.Need-returns
-returns c = refused-so _ _ _ (c .before .before .before .test .ensures .refused (not-true _ (c .before .if1 .taken))) order _ _ (c .refused .result) refl (c .refused .ensures)
-
-parents-of-requires : tie.Need-parents-of-requires
-parents-of-requires c κs =
-    let t = c .before .before .before .test in
-    asked _ _ (t .result) (t .ensures .passed (not-false _ (c .before .if1 .left)))
+returns c =
+    refused-so _ _ _ (c .before .before .before .take .ensures .refused (not-true _ (c .before .if1 .taken))) order _ _ (c .refused .result) refl (c .refused .ensures)
 
 end-order-requires : tie.Need-end-order-requires
 end-order-requires c κs =
-    let t = c .before .before .before .before .before .before .test in
-    let p = t .ensures .passed (not-false _ (c .before .before .before .before .if1 .left)) in
-    let q = c .before .before .parents-of in
-    (is-valid _ _ (t .result) p (q .result) (q .ensures), p .enough)
+    let t = c .before .before .before .before .before .before .before .take in
+    let p = t .ensures .passed (not-false _ (c .before .before .before .before .before .if1 .left)) in
+    (record { bytes = _; whole = p .whole }, p .enough)
 
 same-length : tie.Need-same-length
 same-length c = search needs
@@ -35,20 +37,20 @@ same-length-2 c = search needs
 
 returns-2 : tie.Need-returns-2
 returns-2 c =
-    let t = c .before .before .before .before .before .before .before .before .before .before .before .test in
-    let p = t .ensures .passed (not-false _ (c .before .before .before .before .before .before .before .before .before .if1 .left)) in
-    let q = c .before .before .before .before .before .before .before .parents-of in
+    let t = c .before .before .before .before .before .before .before .before .before .before .before .before .take in
+    let p = t .ensures .passed (not-false _ (c .before .before .before .before .before .before .before .before .before .before .if1 .left)) in
     let e = c .before .before .before .before .end-order in
-    due _ _ (t .result) p (q .result) (q .ensures) _ _ (e .result) _ _ refl (e .ensures)
+    due-so _ _ _ _ _ (t .result) p order _ _ _ _ (e .result) refl (e .ensures .due _ (p .whole))
 
 pub order-spec : {M : Type 1} → statement M
 order-spec =
     tie.close
     (tie.spec
-    test-requires
+    blank-requires
+    blank-requires-2
+    take-requires
     refused-requires
     returns
-    parents-of-requires
     end-order-requires
     same-length
     same-length-2
