@@ -8,7 +8,7 @@ use Rattle.definitions.specs.Records.{Sheet}
 use Rattle.definitions.specs.Map.{typeMapOf}
 use Rattle.definitions.specs.Order.{hasOrder}
 use Rattle.definitions.specs.Relisted.{Holds}
-use Rattle.definitions.specs.Answer.{order, schedule}
+use Rattle.definitions.specs.Answer.{mostRowBytes, order, schedule}
 use Rattle.line_laws.specs.Statements.{lineMap, anyRefused}
 use Rattle.item_draft.specs.declared.Known.{Known}
 use Rattle.item_names.specs.Names.{NamesPut}
@@ -27,7 +27,7 @@ use Rattle.access.specs.Ending.{ended}
 -- The bytes are refused by none of 1 to 7, and the tables have their sheet (FORMAT 7.3).
 pub record Taken (s : List ℕ) (room : ℕ) (d entries t : List ℕ) (r : Decoding) : Type 0 where
   pub short : length s ≤ 40960
-  pub enough : 1536 ≤ room
+  pub enough : mostRowBytes ≤ room
   pub whole : Whole s d entries t r
 
 -- Or they are refused by each call that lends a diagnosis slice of so many bytes, and both slices stay (FORMAT 7.3).

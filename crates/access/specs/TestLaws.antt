@@ -7,7 +7,7 @@ use native.Mathlib.Omega.{arith}
 use lib.ListN.{length}
 use Rattle.lists.specs.Tests.{never}
 use Rattle.definitions.specs.Map.{typeMapOf}
-use Rattle.definitions.specs.Answer.{Call, outcome}
+use Rattle.definitions.specs.Answer.{mostRowBytes, Call, outcome}
 use Rattle.sheet_decode.specs.declared.Decoding.{Decoding}
 use Rattle.sheet_decode.specs.Decodes.{Decodes}
 use Rattle.answers.specs.declared.Answer.{Answer}
@@ -23,7 +23,7 @@ module _ (s : List ℕ) (room : ℕ) (d entries t : List ℕ) (x : Decoding) whe
   pub as-early : (e : ℕ) → Early (length s) room e → 0 < e → x .ok ≡ false → x .refusal ≡ e → Takes s room d entries t x
   as-early e h l q r = record { refused = λ _. rw r (h .refused l s refl); passed = λ o. never o q }
 
-  pub as-decoded : length s ≤ 40960 → 1536 ≤ room → Decodes s d entries t x → Takes s room d entries t x
+  pub as-decoded : length s ≤ 40960 → mostRowBytes ≤ room → Decodes s d entries t x → Takes s room d entries t x
   as-decoded h g e = record {
     refused = λ q. record {
       alone = turned-alone s (x .refusal) (e .back q);

@@ -6,7 +6,7 @@ use sheet_decode::Decoding;
 ghost use mathlib.Core.Path.{_≡_};
 ghost use Prim.Native.Nat.{_≤_};
 ghost use lib.ListN.{length};
-ghost use Rattle.definitions.specs.Answer.{outcome};
+ghost use Rattle.definitions.specs.Answer.{mostRowBytes, outcome};
 ghost use Rattle.ordering.specs.Reading.{Valid};
 ghost use Rattle.sheet_decode.specs.Lists.{Tables};
 ghost use Rattle.sheet_decode.specs.Decodes.{Whole};
@@ -18,7 +18,7 @@ ghost use Rattle.access.specs.Tables.{Takes, Decoded, Organizes, Ordered
 // 8: the map has no order; its rows are written (FORMAT 8.3 to 8.5).
 fn no_order(p: Parents, diagnosis: &mut [u8]) -> Answer
     requires { ⌜ Valid p ⌝ }
-    requires { ⌜ 1536 ≤ length (now diagnosis) ⌝ }
+    requires { ⌜ mostRowBytes ≤ length (now diagnosis) ⌝ }
     ensures { λ r. ⌜ Unordered p (now (diagnosis .entry)) (now (diagnosis .exit)) r ⌝ }
 {
     let report = diagnosis::diagnose(p, diagnosis, answers::ROWS);
@@ -91,7 +91,7 @@ fn end_order(
     diagnosis: &mut [u8],
 ) -> Answer
     requires { ⌜ Decoded (now d) (now entries) (now t) n ⌝ }
-    requires { ⌜ 1536 ≤ length (now diagnosis) ⌝ }
+    requires { ⌜ mostRowBytes ≤ length (now diagnosis) ⌝ }
     ensures { λ r. ⌜ Ordered (now (d .entry)) (now (entries .entry)) (now (t .entry)) n (now (listing .entry)) (now (diagnosis .entry)) r (now (listing .exit)) (now (diagnosis .exit)) ⌝ }
 {
     let mut places = [0u64; 64];
@@ -136,7 +136,7 @@ fn known(n: Decoding, o: Placing) -> Known
 // sheet is read again.
 fn type_refused(sheet: &[u8], diagnosis: &mut [u8]) -> Answer
     requires { ⌜ HeldInOrder (now sheet) ⌝ }
-    requires { ⌜ 1536 ≤ length (now diagnosis) ⌝ }
+    requires { ⌜ mostRowBytes ≤ length (now diagnosis) ⌝ }
     ensures { λ r. ⌜ RowsDue (now (sheet .entry)) (now (diagnosis .entry)) (now (diagnosis .exit)) r ⌝ }
 {
     let held = decoding::decode(sheet);
@@ -165,7 +165,7 @@ fn end_schedule(
     diagnosis: &mut [u8],
 ) -> Answer
     requires { ⌜ Whole (now sheet) (now d) (now entries) (now t) n ⌝ }
-    requires { ⌜ 1536 ≤ length (now diagnosis) ⌝ }
+    requires { ⌜ mostRowBytes ≤ length (now diagnosis) ⌝ }
     ensures { λ r. ⌜ Scheduled (now (sheet .entry)) (now (d .entry)) (now (entries .entry)) (now (t .entry)) n (now (listing .entry)) (now (diagnosis .entry)) r (now (listing .exit)) (now (diagnosis .exit)) ⌝ }
 {
     let mut places = [0u64; 64];

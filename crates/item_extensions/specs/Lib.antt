@@ -1,4 +1,0 @@
-pub mod Extensions
-pub mod ExtensionLaws
-pub mod Extended
-pub mod Instance
