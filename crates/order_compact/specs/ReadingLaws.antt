@@ -26,11 +26,11 @@ use Rattle.order_compact.specs.Compact.{secondOf, keyIn, PlaceIs, Named,
 use Rattle.order_compact.specs.Reading.{Drawn, Compacts}
 
 -- the words of a key
-first-word : (key : ℕ) → firstWord (nameOfKey key) ≡ key / 256
+pub first-word : (key : ℕ) → firstWord (nameOfKey key) ≡ key / 256
 unfolding nameOfKey
 first-word key = by (eqb (key % 256) 0) (λ e. rw e) (λ e. rw e)
 
-second-word : (key : ℕ) → secondWord (nameOfKey key) ≡ secondOf key
+pub second-word : (key : ℕ) → secondWord (nameOfKey key) ≡ secondOf key
 unfolding nameOfKey secondOf
 second-word key =
     by (eqb (key % 256) 0)
@@ -47,7 +47,7 @@ place-is f (x ∷ l) d (suc r) w b e =
     rw (b 0 (omega arith)) (ap suc (place-is f l d r (omega arith) (λ k h. b (suc k) (omega arith)) (λ h. e (omega arith))))
 
 -- the place of a key is that of its name
-place-of-key : (m : TypeMap) (t : List ℕ) (key r : ℕ) → Looks m t key → PlaceIs (looked t key) (length (m .types)) r → r ≡ placeIn m (nameOfKey key)
+pub place-of-key : (m : TypeMap) (t : List ℕ) (key r : ℕ) → Looks m t key → PlaceIs (looked t key) (length (m .types)) r → r ≡ placeIn m (nameOfKey key)
 unfolding placeIn
 place-of-key m t key r l p =
     let n = length (m .types) in
@@ -65,10 +65,10 @@ place-of-key m t key r l p =
     let h : r < n = ltb-true r n (and-left (ltb r n) (sameName (nameOfKey key) (typeAt m r .name)) g) in
     sym (place-is f (m .types) noType r (omega arith) (λ k i. here k (omega arith) ∙ w .none k i) (λ i. here r h ∙ w .there)))
 
-abbrev parent : ℕ → ℕ → ℕ → Parent
+abbrev pub parent : ℕ → ℕ → ℕ → Parent
 parent x a b = record { place = x; first = a; second = b }
 
-same-parent : (x a b y c d : ℕ) → x ≡ y → a ≡ c → b ≡ d → parent x a b ≡ parent y c d
+pub same-parent : (x a b y c d : ℕ) → x ≡ y → a ≡ c → b ≡ d → parent x a b ≡ parent y c d
 same-parent x a b y c d e f g = rw (e, f, g)
 
 module _ (t d entries : List ℕ) (n w : ℕ) (o q p : Parents) (h : o .count ≡ n) (s : o .«self_word» ≡ w) (a : Named d entries o q) (b : Filled t d entries q p)
