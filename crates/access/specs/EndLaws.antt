@@ -17,8 +17,9 @@ use Rattle.synthesis_laws.specs.Rows.{rows-are-tested}
 use Rattle.ordering.specs.declared.Parents.{Parents}
 use Rattle.ordering.specs.Reading.{Reads}
 use Rattle.diagnosis.specs.Reported.{Reported}
-use Rattle.packing.specs.declared.Listed.{Listed}
-use Rattle.packing.specs.Order.{Listing}
+use Rattle.order_compact.specs.Reading.{Drawn, Compacts}
+use Rattle.order_listing.specs.declared.Listed.{Listed}
+use Rattle.order_listing.specs.Listing.{Listing}
 use Rattle.synthesis.specs.Synthesized.{Written}
 use Rattle.answers.specs.declared.Answer.{Answer}
 use Rattle.answers.specs.Answers.{parts, Answered}
@@ -29,10 +30,11 @@ use Rattle.access.specs.Ending.{diagnosed, listed, ended, Unordered}
 -- ---- the parts that both calls have
 
 -- 8
-pub diagnosed-so : (p : Parents) (d d′ : List ℕ) (rows : ℕ) (more : Bool) (a : Answer) → Reported p 256 d d′ rows more → Tells a (parts 8 0 rows more) → Unordered p d d′ a
-diagnosed-so p d d′ rows more a q t = record { due = λ m e l. answered a _ l d′ _ t (eight m e l) }
+pub diagnosed-so : (t d entries : List ℕ) (n w : ℕ) (p : Parents) (b b′ : List ℕ) (rows : ℕ) (more : Bool) (a : Answer) → Compacts t d entries n w p → Reported p 256 b b′ rows more
+    → Tells a (parts 8 0 rows more) → Unordered t d entries n w b b′ a
+diagnosed-so t d entries n w p b b′ rows more a c q f = record { due = λ m e l. answered a _ l b′ _ f (eight m (c .reads m e) l) }
   where
-    eight : (m : TypeMap) → Reads p m → (l : List ℕ) → record { answer = parts 8 0 rows more; listing = l; diagnosis = d′ } ≡ diagnosed 8 (orderRows m) l d
+    eight : (m : TypeMap) → Reads p m → (l : List ℕ) → record { answer = parts 8 0 rows more; listing = l; diagnosis = b′ } ≡ diagnosed 8 (orderRows m) l b
     eight m e l = rw (q .written m e, q .counted m e, q .rest m e)
 
 -- 10 and acceptance
@@ -47,10 +49,10 @@ listed-so bits l l′ d w a q t = answered a _ l′ d _ t due
         (λ s. rw (sym (q .short) ∙ s, q .listing, s, q .sized))
 
 -- 8 is due to either call where there is no order
-pub unordered-so : (call : Call) (p : Parents) (m : TypeMap) → Reads p m → (l d d′ : List ℕ) (a : Answer) → hasOrder m ≡ false → Unordered p d d′ a
-    → Answered a l d′ (ended call m l d)
+pub unordered-so : (call : Call) (t d entries : List ℕ) (n w : ℕ) (m : TypeMap) → Drawn m t d entries n w → (l b b′ : List ℕ) (a : Answer) → hasOrder m ≡ false
+    → Unordered t d entries n w b b′ a → Answered a l b′ (ended call m l b)
 unfolding ended
-unordered-so call p m e l d d′ a f q = answered-as a l d′ _ _ (q .due m e l) (sym (rw f))
+unordered-so call t d entries n w m e l b b′ a f q = answered-as a l b′ _ _ (q .due m e l) (sym (rw f))
 
 -- the order-only call with an order
 pub ordered-so : (m : TypeMap) (bits : List Bool) (l l′ d : List ℕ) (w : Listed) (a : Answer) → hasOrder m ≡ true → bits ≡ orderBits (organizeTypeMap m)

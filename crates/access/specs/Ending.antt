@@ -12,8 +12,7 @@ use Rattle.definitions.specs.Order.{hasOrder}
 use Rattle.definitions.specs.OrderRows.{orderRows}
 use Rattle.definitions.specs.Packing.{rowBytes}
 use Rattle.definitions.specs.Answer.{Call, Outcome, scheduleOf, bitsWritten, synthesisRows, overwrite}
-use Rattle.ordering.specs.declared.Parents.{Parents}
-use Rattle.ordering.specs.Reading.{Reads}
+use Rattle.order_compact.specs.Reading.{Drawn}
 use Rattle.answers.specs.declared.Answer.{Answer}
 use Rattle.answers.specs.Answers.{parts, Answered}
 
@@ -46,6 +45,6 @@ ended call m listing diagnosis =
 
 -- ---- what the parts of the code leave
 
--- 8, for every map that p reads
-pub record Unordered (p : Parents) (entry exit : List ℕ) (r : Answer) : Type 0 where
-  pub due : (m : TypeMap) → Reads p m → (listing : List ℕ) → Answered r listing exit (diagnosed 8 (orderRows m) listing entry)
+-- 8, for every map that the draft has
+pub record Unordered (t d entries : List ℕ) (n w : ℕ) (entry exit : List ℕ) (r : Answer) : Type 0 where
+  pub due : (m : TypeMap) → Drawn m t d entries n w → (listing : List ℕ) → Answered r listing exit (diagnosed 8 (orderRows m) listing entry)

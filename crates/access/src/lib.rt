@@ -1,13 +1,12 @@
 // The public calls.
 use answers::Answer;
 use item_draft::Known;
-use ordering::Parents;
 use sheet_decode::Decoding;
 ghost use mathlib.Core.Path.{_≡_};
 ghost use Prim.Native.Nat.{_≤_};
 ghost use lib.ListN.{length};
 ghost use Rattle.definitions.specs.Answer.{mostRowBytes, outcome};
-ghost use Rattle.ordering.specs.Reading.{Valid};
+ghost use Rattle.order_compact.specs.Compact.{Drafts};
 ghost use Rattle.sheet_decode.specs.Lists.{Tables};
 ghost use Rattle.sheet_decode.specs.Decodes.{Whole};
 ghost use Rattle.answers.specs.Answers.{answerOf, Answered, orderInput, scheduleInput};
@@ -16,12 +15,20 @@ ghost use Rattle.access.specs.Lines.{LinesListed};
 ghost use Rattle.access.specs.Tables.{Takes, Decoded, Organizes, Ordered, knownOf, HeldInOrder, RowsDue, Scheduled};
 
 // 8: the map has no order; its rows are written (FORMAT 8.3 to 8.5).
-fn no_order(p: Parents, diagnosis: &mut [u8]) -> Answer
-    requires { ⌜ Valid p ⌝ }
+fn no_order(
+    t: &[u64; 1544],
+    d: &[u64; 704],
+    entries: &[u64; 64],
+    n: Decoding,
+    diagnosis: &mut [u8],
+) -> Answer
+    requires { ⌜ Drafts (now d) (now entries) (n .count) ⌝ }
     requires { ⌜ mostRowBytes ≤ length (now diagnosis) ⌝ }
-    ensures { λ r. ⌜ Unordered p (now (diagnosis .entry)) (now (diagnosis .exit)) r ⌝ }
+    ensures { λ r. ⌜ Unordered (now (t .entry)) (now (d .entry)) (now (entries .entry)) (n .count) (n .own) (now (diagnosis .entry)) (now (diagnosis .exit)) r ⌝ }
 {
-    let report = diagnosis::diagnose(p, diagnosis, answers::ROWS);
+    let mut l = order_table::blank();
+    order_compact::fill(&mut l, t, d, entries, n.count, n.own);
+    let report = diagnosis::diagnose(&l, diagnosis, answers::ROWS);
     answers::no_order(report.rows, report.more)
 }
 
@@ -97,8 +104,7 @@ fn end_order(
     let mut places = [0u64; 64];
     let o = organize(t, d, entries, n, &mut places);
     if !o.found {
-        let p = order_compact::parents_of(t, d, entries, n.count, n.own);
-        return no_order(p, diagnosis);
+        return no_order(t, d, entries, n, diagnosis);
     }
     let listed = order_listing::write_order(listing, t, &places, n.count);
     answers::listed(listed.short, listed.size)
@@ -171,8 +177,7 @@ fn end_schedule(
     let mut places = [0u64; 64];
     let o = organize(t, d, entries, n, &mut places);
     if !o.found {
-        let p = order_compact::parents_of(t, d, entries, n.count, n.own);
-        return no_order(p, diagnosis);
+        return no_order(t, d, entries, n, diagnosis);
     }
     let k = known(n, o);
     let lost = item_draft::fill(t, sheet, d, entries, &places, k);

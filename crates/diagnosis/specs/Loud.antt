@@ -7,15 +7,17 @@ use Prim.Native.Nat.{ℕ, zero, suc, _+_, _*_, _≤_, _<_}
 use native.Mathlib.Omega.{arith}
 use borrow.Author.Tests.{ltb-true, not-false}
 use lib.Dec.{ltb}
-use lib.ListN.{length, getD, set, length-set}
 use Rattle.lists.specs.Lists.{all, each, firstOf}
 use Rattle.lists.specs.Tests.{by, never, or-false-left, or-false-right}
+use Rattle.rows.specs.Rows.{hasBit}
+use Rattle.bitsets.specs.Bitsets.{more}
 use Rattle.ordering.specs.Lists.{firstOf-nil, tab, all-tab-not, any-tab-out, each-tab-nil, elem, below-in}
 use Rattle.ordering.specs.Reading.{Parent, parentAt, howMany, listed, selfIn}
 use Rattle.ordering.specs.Rounds.{settled, isReady, free, next, final, final-rests}
 use Rattle.ordering.specs.declared.Parents.{Parents}
-use Rattle.diagnosis.specs.Rows.{Row, bad, answer, rows, off}
-use Rattle.diagnosis.specs.Path.{off-step}
+use Rattle.order_placed.specs.Placing.{off}
+use Rattle.order_placed.specs.PlacingLaws.{off-step}
+use Rattle.diagnosis.specs.Rows.{Row, bad, answer, rows}
 
 answered : (p : Parents) (t : ℕ) (qs : List Parent) (later : List Row) → answer p t qs later ≡ [] → (qs ≡ []) × (later ≡ [])
 answered p t [] later e = (refl, e)
@@ -32,20 +34,20 @@ module _ (p : Parents) where
       let w = all-tab-not (λ j. parentAt p (8 * t + j)) (settled p (final p)) (howMany p t) r in
       (w .0, w .1, or-false-right (selfIn p (parentAt p (8 * t + w .0))) (elem (parentAt p (8 * t + w .0) .place) (final p)) (w .2)))
 
-  pub loud : (d : ℕ) (path : List Bool) (t : ℕ) → p .count ≤ length path → t < p .count → elem t (final p) ≡ false → getD path t false ≡ false
+  pub loud : (d path t : ℕ) → t < p .count → elem t (final p) ≡ false → hasBit path t ≡ false
       → off (p .count) path ≡ d → rows d p path t ≡ [] → ⊥
   unfolding rows listed
-  loud zero path t l h e o f r = omega (arith, off-step (p .count) t path h (omega arith) o)
-  loud (suc d) path t l h e o f r =
-      let on : List Bool = set path t true in
+  loud zero path t h e o f r = omega (arith, off-step (p .count) t path h o)
+  loud (suc d) path t h e o f r =
+      let on : ℕ = more path t in
       let qs : List Parent = tab (λ j. parentAt p (8 * t + j)) (howMany p t) in
       let a = answered p t (firstOf (bad p on) qs) (each (λ (q : Parent). rows d p on (q .place)) qs) r in
       let w = waits t h e in
       let x : ℕ = parentAt p (8 * t + w .0) .place in
       let b : bad p on (parentAt p (8 * t + w .0)) ≡ false = any-tab-out (λ j. parentAt p (8 * t + j)) (bad p on) (howMany p t) (w .0) (firstOf-nil (bad p on) qs (a .0)) (w .1) in
-      loud d on x (rw (length-set path t true) l)
-      (ltb-true x (p .count) (not-false (ltb x (p .count)) (or-false-left (not (ltb x (p .count))) (getD on x false) b)))
+      loud d on x
+      (ltb-true x (p .count) (not-false (ltb x (p .count)) (or-false-left (not (ltb x (p .count))) (hasBit on x) b)))
       (w .2)
-      (or-false-right (not (ltb x (p .count))) (getD on x false) b)
-      (omega (arith, off-step (p .count) t path h (omega arith) o))
+      (or-false-right (not (ltb x (p .count))) (hasBit on x) b)
+      (omega (arith, off-step (p .count) t path h o))
       (each-tab-nil (λ j. parentAt p (8 * t + j)) (λ (q : Parent). rows d p on (q .place)) (howMany p t) (w .0) (a .1) (w .1))

@@ -1,11 +1,12 @@
--- The diagnosis of refusal 8 over places: its rows as the bytes that are written. A path is a list of flags, one for each
--- type, of those that are on it.
+-- The diagnosis of refusal 8 over places: its rows as the bytes that are written. A path is the set of the types that are on it.
 use mathlib.Core.Bool.{Bool, true, false, _&&_, _||_, not, cond}
 use mathlib.Core.List.{List, [], _∷_, map}
 use Prim.Native.Nat.{ℕ, zero, suc}
 use lib.Dec.{ltb}
-use lib.ListN.{length, getD, set, replicate}
+use lib.ListN.{getD}
 use Rattle.lists.specs.Lists.{null, filter, each, firstOf}
+use Rattle.rows.specs.Rows.{hasBit}
+use Rattle.bitsets.specs.Bitsets.{more}
 use Rattle.ordering.specs.Lists.{below}
 use Rattle.ordering.specs.Reading.{Parent, listed, selfIn}
 use Rattle.ordering.specs.Rounds.{placed, final, listsSelf}
@@ -28,8 +29,8 @@ abbrev pub parentRow : ℕ → Parents → ℕ → Parent → Row
 parentRow kind p t q = record { kind = kind; first = getD (p .firsts) t 0; second = getD (p .seconds) t 0; otherFirst = q .first; otherSecond = q .second }
 
 -- a parent that is undeclared or on the path; the path has the type itself on it
-abbrev pub bad : Parents → List Bool → Parent → Bool
-bad p path q = not (ltb (q .place) (p .count)) || getD path (q .place) false
+abbrev pub bad : Parents → ℕ → Parent → Bool
+bad p path q = not (ltb (q .place) (p .count)) || hasBit path (q .place)
 
 abbrev pub badKind : Parents → Parent → ℕ
 badKind p q = cond (ltb (q .place) (p .count)) 2 3
@@ -40,20 +41,13 @@ answer p t [] later = later
 answer p t (q ∷ qs) later = parentRow (badKind p q) p t q ∷ []
 
 -- The rows of type t, reached by a path. The number bounds the depth of the search.
-unfoldable pub rows : ℕ → Parents → List Bool → ℕ → List Row
+unfoldable pub rows : ℕ → Parents → ℕ → ℕ → List Row
 rows zero p path t = []
-rows (suc k) p path t = answer p t (firstOf (bad p (set path t true)) (listed p t)) (each (λ (q : Parent). rows k p (set path t true) (q .place)) (listed p t))
-
--- how many types are off the path
-unfoldable pub off : ℕ → List Bool → ℕ
-off n path = length (below (λ x. not (getD path x false)) n)
-
-abbrev pub nowhere : List Bool
-nowhere = replicate 64 false
+rows (suc k) p path t = answer p t (firstOf (bad p (more path t)) (listed p t)) (each (λ (q : Parent). rows k p (more path t) (q .place)) (listed p t))
 
 -- the rows of the types that are not placed, in name order
 unfoldable pub noParentRows : Parents → List ℕ → List Row
-noParentRows p out = each (rows (p .count) p nowhere) (unplaced p out)
+noParentRows p out = each (rows (p .count) p 0) (unplaced p out)
 
 -- a row for each listing of `self`
 abbrev pub selfRowsOf : Parents → ℕ → List Parent → List Row

@@ -5,11 +5,14 @@ use mathlib.Core.Path.{_≡_, refl, sym, ap, ap₂, _∙_}
 use Prim.Native.Nat.{ℕ, zero, suc, _<_}
 use native.Mathlib.Omega.{arith}
 use lib.Dec.{eqb, ltb}
-use lib.ListN.{length, getD, set, length-set, length-replicate}
+use lib.ListN.{length}
 use borrow.Author.Tests.{eqb-true, eqb-false, lt-ltb, ltb-true, ltb-false, not-false, not-true}
 use Rattle.lists.specs.Lists.{any, null, filter, each, firstOf}
 use Rattle.lists.specs.Tests.{by, never, or-false-right}
 use Rattle.lists.specs.Appending.{each-map, map-each, map-map, filter-map, null-map, map-same, first-alike}
+use Rattle.rows.specs.Rows.{hasBit}
+use Rattle.rows.specs.RowLaws.{bit-none}
+use Rattle.bitsets.specs.Bitsets.{more}
 use Rattle.definitions.specs.Records.{Name, TypeInfo}
 use Rattle.definitions.specs.Records as records
 use Rattle.definitions.specs.Comparisons.{elemName}
@@ -23,9 +26,8 @@ use Rattle.ordering.specs.Reading.{Parent, listed, selfIn, typeAt, placeIn, fir
 use Rattle.ordering.specs.Rounds.{placed, final}
 use Rattle.ordering.specs.Names.{unplaced, place-same, types-are, named-yes, named-no, self-is, self-lists, passes-are, last-waiting}
 use Rattle.ordering.specs.declared.Parents.{Parents}
-use Rattle.diagnosis.specs.Rows.{Row, bytes, parentRow, bad, badKind, answer, rows, nowhere, noParentRows, selfRowsOf, selfRows, chosen, orderRows}
-use Rattle.diagnosis.specs.Path.{on-same, on-other}
-use Rattle.diagnosis.specs.Walk.{on-nowhere}
+use Rattle.order_placed.specs.PlacingLaws.{on-same, on-other}
+use Rattle.diagnosis.specs.Rows.{Row, bytes, parentRow, bad, badKind, answer, rows, noParentRows, selfRowsOf, selfRows, chosen, orderRows}
 
 name-bytes : (n : Name) → nameBytes n ≡ firstWord n ∷ secondWord n ∷ []
 name-bytes [] = refl
@@ -74,14 +76,14 @@ module _ (p : Parents) (m : TypeMap) (r : Reads p m) where
   -- ---- rows of kinds 2 and 3
 
   -- the flags say which names are on the path
-  abbrev On : List Bool → List Name → Type 0
-  On flags path = (n : Name) → elemName n path ≡ (ltb (placeIn m n) (p .count) && getD flags (placeIn m n) false)
+  abbrev On : ℕ → List Name → Type 0
+  On flags path = (n : Name) → elemName n path ≡ (ltb (placeIn m n) (p .count) && hasBit flags (placeIn m n))
 
-  on-step : (flags : List Bool) (path : List Name) (t : ℕ) → t < p .count → t < length flags → On flags path → On (set flags t true) (typeAt m t .name ∷ path)
-  on-step flags path t h l o n =
+  on-step : (flags : ℕ) (path : List Name) (t : ℕ) → t < p .count → On flags path → On (more flags t) (typeAt m t .name ∷ path)
+  on-step flags path t h o n =
       rw (place-same p m r n t h, o n)
       (by (eqb (placeIn m n) t)
-      (λ q. let e = eqb-true (placeIn m n) t q in rw (q, e, lt-ltb t (p .count) h) (sym (on-same flags t l)))
+      (λ q. let e = eqb-true (placeIn m n) t q in rw (q, e, lt-ltb t (p .count) h) (sym (on-same flags t)))
       (λ q. rw (q, on-other flags t (placeIn m n) (eqb-false (placeIn m n) t q))))
 
   undeclared : (n : Name) → null (typeNamed m n) ≡ not (ltb (placeIn m n) (p .count))
@@ -90,21 +92,21 @@ module _ (p : Parents) (m : TypeMap) (r : Reads p m) where
       (λ q. rw (named-yes p m r n (ltb-true _ _ q), q))
       (λ q. rw (named-no p m r n (ltb-false _ _ q), q))
 
-  bad-is : (flags : List Bool) (path : List Name) → On flags path → (n : Name) → isBad m path n ≡ bad p flags (parentIn m n)
+  bad-is : (flags : ℕ) (path : List Name) → On flags path → (n : Name) → isBad m path n ≡ bad p flags (parentIn m n)
   unfolding isBad parentIn
   bad-is flags path o n =
       ap (λ (b : Bool). elemName n path || b) (undeclared n)
-      ∙ bad-bool (ltb (placeIn m n) (p .count)) (getD flags (placeIn m n) false) (elemName n path) (o n)
+      ∙ bad-bool (ltb (placeIn m n) (p .count)) (hasBit flags (placeIn m n)) (elemName n path) (o n)
 
   opened : (path : List Name) (n : Name) → (elemName n path || null (typeNamed m n)) ≡ isBad m path n
   unfolding isBad
   opened path n = refl
 
-  kind-is : (flags : List Bool) (path : List Name) → On flags path → (n : Name) → bad p flags (parentIn m n) ≡ true → cond {A = ℕ} (elemName n path) 2 3 ≡ badKind p (parentIn m n)
+  kind-is : (flags : ℕ) (path : List Name) → On flags path → (n : Name) → bad p flags (parentIn m n) ≡ true → cond {A = ℕ} (elemName n path) 2 3 ≡ badKind p (parentIn m n)
   unfolding parentIn
-  kind-is flags path o n c = kind-bool (ltb (placeIn m n) (p .count)) (getD flags (placeIn m n) false) (elemName n path) (o n) c
+  kind-is flags path o n c = kind-bool (ltb (placeIn m n) (p .count)) (hasBit flags (placeIn m n)) (elemName n path) (o n) c
 
-  bad-row : (flags : List Bool) (path : List Name) (t : ℕ) → t < p .count → On flags path → (n : Name) → isBad m path n ≡ true
+  bad-row : (flags : ℕ) (path : List Name) (t : ℕ) → t < p .count → On flags path → (n : Name) → isBad m path n ≡ true
       → rowBytes (badRow path (typeAt m t) n) ≡ bytes (parentRow (badKind p (parentIn m n)) p t (parentIn m n))
   unfolding badRow
   bad-row flags path t h o n b =
@@ -113,27 +115,27 @@ module _ (p : Parents) (m : TypeMap) (r : Reads p m) where
 
   -- a type's rows, at a depth
   Found : ℕ → Type 0
-  Found k = (flags : List Bool) (path : List Name) (t : ℕ) → t < p .count → length flags ≡ 64 → On flags path
+  Found k = (flags : ℕ) (path : List Name) (t : ℕ) → t < p .count → On flags path
       → map rowBytes (findCyclesOrBadTypes k m path (typeAt m t)) ≡ map bytes (rows k p flags t)
 
   -- a parent that is not bad is a type, and has its rows
-  parent-rows : (k : ℕ) → Found k → (flags : List Bool) (path : List Name) → length flags ≡ 64 → On flags path → (n : Name) → not (isBad m path n) ≡ true
+  parent-rows : (k : ℕ) → Found k → (flags : ℕ) (path : List Name) → On flags path → (n : Name) → not (isBad m path n) ≡ true
       → map rowBytes (each (findCyclesOrBadTypes k m path) (typeNamed m n)) ≡ map bytes (rows k p flags (parentIn m n .place))
   unfolding Found parentIn
-  parent-rows k f flags path l o n b =
+  parent-rows k f flags path o n b =
       let c : isBad m path n ≡ false = not-true (isBad m path n) b in
       let h : placeIn m n < p .count =
       ltb-true _ _ (not-false (ltb (placeIn m n) (p .count)) (sym (undeclared n) ∙ or-false-right (elemName n path) (null (typeNamed m n)) (opened path n ∙ c))) in
-      rw (named-yes p m r n h, append-nil) (f flags path (placeIn m n) h l o)
+      rw (named-yes p m r n h, append-nil) (f flags path (placeIn m n) h o)
 
-  later-rows : (k : ℕ) → Found k → (flags : List Bool) (path : List Name) → length flags ≡ 64 → On flags path → (ns : List Name) → any (isBad m path) ns ≡ false
+  later-rows : (k : ℕ) → Found k → (flags : ℕ) (path : List Name) → On flags path → (ns : List Name) → any (isBad m path) ns ≡ false
       → map rowBytes (each (λ n. each (findCyclesOrBadTypes k m path) (typeNamed m n)) ns) ≡ map bytes (each (λ (q : Parent). rows k p flags (q .place)) (map (parentIn m) ns))
-  later-rows k f flags path l o ns b =
+  later-rows k f flags path o ns b =
       map-each rowBytes (λ n. each (findCyclesOrBadTypes k m path) (typeNamed m n)) ns
       ∙ each-same (λ n. not (isBad m path n))
       (λ n. map rowBytes (each (findCyclesOrBadTypes k m path) (typeNamed m n)))
       (λ n. map bytes (rows k p flags (parentIn m n .place)))
-      ns (any-not (isBad m path) ns b) (parent-rows k f flags path l o)
+      ns (any-not (isBad m path) ns b) (parent-rows k f flags path o)
       ∙ sym (map-each bytes (λ (q : Parent). rows k p flags (q .place)) (map (parentIn m) ns) ∙ each-map (λ (q : Parent). map bytes (rows k p flags (q .place))) (parentIn m) ns)
 
   answers : (path : List Name) (t : ℕ) (ns : List Name) (later : List records.Row) (rest : List Row) → (ns ≡ [] → map rowBytes later ≡ map bytes rest)
@@ -144,11 +146,11 @@ module _ (p : Parents) (m : TypeMap) (r : Reads p m) where
 
   rows-found : (k : ℕ) → Found k
   unfolding Found findCyclesOrBadTypes rows
-  rows-found zero flags path t h l o = refl
-  rows-found (suc k) flags path t h l o =
-      let on : List Bool = set flags t true in
+  rows-found zero flags path t h o = refl
+  rows-found (suc k) flags path t h o =
+      let on : ℕ = more flags t in
       let way : List Name = typeAt m t .name ∷ path in
-      let w : On on way = on-step flags path t h (omega (arith, r .most)) o in
+      let w : On on way = on-step flags path t h o in
       let ps : List Name = typeAt m t .parents in
       let ns : List Name = firstOf (isBad m way) ps in
       let e : firstOf (bad p on) (listed p t) ≡ map (parentIn m) ns =
@@ -156,13 +158,13 @@ module _ (p : Parents) (m : TypeMap) (r : Reads p m) where
       ∙ ap (map (parentIn m)) (first-alike (λ n. bad p on (parentIn m n)) (isBad m way) (λ n. sym (bad-is on way w n)) ps) in
       answers way t ns (each (λ n. each (findCyclesOrBadTypes k m way) (typeNamed m n)) ps) (each (λ (q : Parent). rows k p on (q .place)) (listed p t))
       (λ z.
-      later-rows k (rows-found k) on way (length-set flags t true ∙ l) w ps (firstOf-nil (isBad m way) ps z)
+      later-rows k (rows-found k) on way w ps (firstOf-nil (isBad m way) ps z)
       ∙ ap (λ (qs : List Parent). map bytes (each (λ (q : Parent). rows k p on (q .place)) qs)) (sym (r .types t h .parents)))
       (λ n j z. bad-row on way t h w n (firstOf-holds (isBad m way) ps n j z))
       ∙ ap (λ (qs : List Parent). map bytes (answer p t qs (each (λ (q : Parent). rows k p on (q .place)) (listed p t)))) (sym e)
 
-  nowhere-on : On nowhere []
-  nowhere-on n = by (ltb (placeIn m n) (p .count)) (λ q. rw q (sym (on-nowhere (placeIn m n)))) (λ q. rw q)
+  none-on : On 0 []
+  none-on n = by (ltb (placeIn m n) (p .count)) (λ q. rw q (sym (bit-none (placeIn m n)))) (λ q. rw q)
 
   no-parent-rows : map rowBytes (rules.noParentRows m) ≡ map bytes (noParentRows p (final p))
   unfolding rules.noParentRows noParentRows Found
@@ -172,12 +174,12 @@ module _ (p : Parents) (m : TypeMap) (r : Reads p m) where
       ∙ each-map (λ (T : TypeInfo). map rowBytes (findCyclesOrBadTypes (length (m .types)) m [] T)) (typeAt m) (unplaced p (final p))
       ∙ each-same (λ t. ltb t (p .count))
       (λ t. map rowBytes (findCyclesOrBadTypes (length (m .types)) m [] (typeAt m t)))
-      (λ t. map bytes (rows (p .count) p nowhere t))
+      (λ t. map bytes (rows (p .count) p 0 t))
       (unplaced p (final p)) (below-all-lt (λ t. not (elem t (final p))) (p .count))
       (λ t h.
-      rows-found (length (m .types)) nowhere [] t (ltb-true t (p .count) h) (length-replicate 64 false) nowhere-on
-      ∙ ap (λ (k : ℕ). map bytes (rows k p nowhere t)) (sym (r .count)))
-      ∙ sym (map-each bytes (rows (p .count) p nowhere) (unplaced p (final p)))
+      rows-found (length (m .types)) 0 [] t (ltb-true t (p .count) h) none-on
+      ∙ ap (λ (k : ℕ). map bytes (rows k p 0 t)) (sym (r .count)))
+      ∙ sym (map-each bytes (rows (p .count) p 0) (unplaced p (final p)))
 
   -- ---- which of the two stands
 

@@ -25,10 +25,8 @@ use Rattle.types.specs.declared.Extensions.{Extensions}
 use Rattle.ordering.specs.Reading.{Parent, listed, noType, typeAt, placeIn, parentIn}
 use Rattle.ordering.specs.Rounds.{final, listsSelf}
 use Rattle.ordering.specs.Names.{whole-order, no-self, named-yes}
-use Rattle.ordering.specs.Organized.{placesIn, Organized}
 use Rattle.ordering.specs.declared.Parents.{Parents}
-use Rattle.ordering.specs.declared.Order.{Order}
-use Rattle.parent_laws.specs.Placed.{ParentsBelow, Ordered}
+use Rattle.parent_laws.specs.Placed.{ParentsBelow}
 use Rattle.parent_laws.specs.Earlier.{all-below}
 use Rattle.held_map.specs.HeldMap.{HeldMap}
 
@@ -70,17 +68,6 @@ module _ (s : Sheet) (ts : Types) (es : Extensions) (p : Parents) (h : HeldMap s
 
   pub parents-below : (t : ℕ) → t < p .count → ParentsBelow p t
   parents-below t l = all-below p all-placed none-self t l
-
-  -- an order that was found has every type
-  pub ordered : (o : Order) → Organized p o → o .found ≡ true → Ordered p o
-  ordered o g f =
-      let n : length (placesIn o) ≡ length (final p) = ap length (g .places) in
-      record {
-        places = g .places;
-        count = omega (arith, g .most, n, all-placed, lib.ListN.length-take (o .count) (o .items));
-        whole = all-placed;
-        noSelf = none-self;
-      }
 
   -- ---- the parents of a type
 

@@ -12,8 +12,8 @@ use Rattle.definitions.specs.Packing.{scheduleBits}
 use Rattle.definitions.specs.Answer.{schedule, scheduleOf}
 use Rattle.line_laws.specs.Statements.{Readable, lineMap, anyRefused}
 use Rattle.line_laws.specs.Within.{Within}
-use Rattle.packing.specs.Order.{Listing}
-use Rattle.packing.specs.declared.Listed.{Listed}
+use Rattle.order_listing.specs.Listing.{Listing}
+use Rattle.order_listing.specs.declared.Listed.{Listed}
 use Rattle.catalogue.specs.Catalogue.{Catalogued}
 use Rattle.item_pen.specs.Pen.{joined, Penned}
 use Rattle.item_pen.specs.declared.Pen.{Pen}

@@ -23,7 +23,6 @@ use Rattle.line_laws.specs.Statements.{Readable, lineMap, anyRefused}
 use Rattle.line_laws.specs.Within.{Within}
 use Rattle.line_laws.specs.Bounds.{items-at-most}
 use Rattle.line_laws.specs.Size.{schedule-at-most}
-use Rattle.packing.specs.PackingLaws.{wrote-overwrite}
 use Rattle.catalogue.specs.Catalogue.{Catalogued}
 use Rattle.law_classes.specs.ItemLaws.{items-by-sets}
 use Rattle.item_pen.specs.declared.Pen.{Pen}
@@ -34,6 +33,7 @@ use Rattle.item_writer.specs.SheetItems.{sound, items-are}
 use Rattle.rows.specs.Rows.{hasBit}
 use Rattle.rows.specs.RowLaws.{bit-none}
 use Rattle.order_rounds.specs.Organized.{Holds, Organized}
+use Rattle.order_listing.specs.ListingLaws.{wrote-overwrite}
 use Rattle.order_listing.specs.OrderLaws.{placed-of, names-are}
 use Rattle.order_listing.specs.Order.{nameOf, namesIn, namesBits}
 use Rattle.item_schedule.specs.declared.Pass.{Pass}

@@ -1,6 +1,6 @@
 // The schedule of a map, out of its catalogue and its order. One function counts its bits and writes them (FORMAT 6.1).
 use item_pen::Pen;
-use packing::Listed;
+use order_listing::Listed;
 ghost use mathlib.Core.Path.{_≡_};
 ghost use Rattle.item_schedule.specs.Schedule.{fresh, Passable, Passed, Schedulable, ListsSchedule};
 

@@ -1,22 +1,12 @@
--- What the steps of the compact form leave in its arrays, out of a draft.
-use mathlib.Core.Bool.{cond}
+-- What the steps that fill the table leave in it, out of a draft.
 use mathlib.Core.List.{List}
 use mathlib.Core.Path.{_≡_}
-use Prim.Native.Nat.{ℕ, _+_, _*_, _/_, _%_, _≤_, _<_}
-use lib.Dec.{ltb}
-use lib.ListN.{getD}
+use Prim.Native.Nat.{ℕ, _+_, _*_, _%_, _≤_, _<_}
+use lib.ListN.{length}
 use Rattle.bitsets.specs.Bitsets.{Lowest}
-use Rattle.ordering.specs.declared.Parents.{Parents}
 use Rattle.sheet_draft.specs.Draft.{keyAt, parentCountAt, parentAt}
+use Rattle.order_table.specs.Form.{numberOf, typeIn, listingIn, typesIn}
 use Rattle.order_parents.specs.Parents.{looked, rowOf, KeysOf}
-
--- The second word of a key, 255 for none.
-unfoldable pub secondOf : ℕ → ℕ
-secondOf key = (key % 256 + 255) % 256
-
--- The k-th parent of a row, 0 where it has fewer.
-unfoldable pub keyIn : List ℕ → ℕ → ℕ → ℕ
-keyIn d row k = cond (ltb k (parentCountAt d row)) (parentAt d row k) 0
 
 -- The place of the one type of a set; n where there is none.
 pub record PlaceIs (types n r : ℕ) : Type 0 where
@@ -29,21 +19,23 @@ pub record Drafts (d entries : List ℕ) (n : ℕ) : Type 0 where
   pub name : (a : ℕ) → a < n → keyAt d (rowOf entries a) < 65536
   pub parents : (a : ℕ) → a < n → KeysOf d (rowOf entries a)
 
--- The names, and how many parents each type lists; q was there before.
-pub record Named (d entries : List ℕ) (q p : Parents) : Type 0 where
-  pub count : p .count ≡ q .count
-  pub self : p .«self_word» ≡ q .«self_word»
-  pub first : (a : ℕ) → a < q .count → getD (p .firsts) a 0 ≡ keyAt d (rowOf entries a) / 256
-  pub second : (a : ℕ) → a < q .count → getD (p .seconds) a 0 ≡ secondOf (keyAt d (rowOf entries a))
-  pub many : (a : ℕ) → a < q .count → getD (p .counts) a 0 ≡ parentCountAt d (rowOf entries a)
+-- A listed parent: its key, and the place of the type that has it, one of n.
+pub record ParentIs (t : List ℕ) (key n x : ℕ) : Type 0 where
+  pub place : PlaceIs (looked t key) n (numberOf x)
+  pub name : x % 65536 ≡ key
 
--- The parents; q was there before.
-pub record Filled (t d entries : List ℕ) (q p : Parents) : Type 0 where
-  pub count : p .count ≡ q .count
-  pub self : p .«self_word» ≡ q .«self_word»
-  pub firsts : p .firsts ≡ q .firsts
-  pub seconds : p .seconds ≡ q .seconds
-  pub counts : p .counts ≡ q .counts
-  pub first : (i : ℕ) → i < 8 * q .count → getD (p .«parent_firsts») i 0 ≡ keyIn d (rowOf entries (i / 8)) (i % 8) / 256
-  pub second : (i : ℕ) → i < 8 * q .count → getD (p .«parent_seconds») i 0 ≡ secondOf (keyIn d (rowOf entries (i / 8)) (i % 8))
-  pub place : (i : ℕ) → i < 8 * q .count → PlaceIs (looked t (keyIn d (rowOf entries (i / 8)) (i % 8))) (q .count) (getD (p .places) i 0)
+-- Type a and its first k parents, out of a row; what stood of the types before it is there still.
+pub record TypePut (t d : List ℕ) (row a n k : ℕ) (old new : List ℕ) : Type 0 where
+  pub long : length new ≡ length old
+  pub types : typesIn new ≡ typesIn old
+  pub others : (b : ℕ) → b < a → typeIn new b ≡ typeIn old b
+  pub earlier : (i : ℕ) → i < 8 * a → listingIn new i ≡ listingIn old i
+  pub type : typeIn new a ≡ parentCountAt d row * 65536 + keyAt d row
+  pub parents : (j : ℕ) → j < k → ParentIs t (parentAt d row j) n (listingIn new (8 * a + j))
+
+-- The first b of n types; w is the number of the word `self`.
+pub record Stands (t d entries : List ℕ) (n w b : ℕ) (l : List ℕ) : Type 0 where
+  pub long : length l ≡ 577
+  pub types : typesIn l ≡ n * 65536 + w * 256
+  pub type : (a : ℕ) → a < b → typeIn l a ≡ parentCountAt d (rowOf entries a) * 65536 + keyAt d (rowOf entries a)
+  pub parents : (a k : ℕ) → a < b → k < parentCountAt d (rowOf entries a) → ParentIs t (parentAt d (rowOf entries a) k) n (listingIn l (8 * a + k))

@@ -1,7 +1,6 @@
 pub mod Compact
-pub mod Table
+pub mod FillLaws
 pub mod Reading
 pub mod ReadingLaws
-pub mod TableLaws
 pub mod SheetLaws
 pub mod Instance

@@ -3,7 +3,7 @@ use mathlib.Core.List.{List}
 use mathlib.Core.Path.{_≡_}
 use Prim.Native.Nat.{ℕ, _*_, _<_}
 use Rattle.definitions.specs.Map.{TypeMap}
-use Rattle.ordering.specs.Reading.{typeAt, Reads}
+use Rattle.ordering.specs.Reading.{typeAt, Valid, Reads}
 use Rattle.ordering.specs.Compact.{Within}
 use Rattle.ordering.specs.declared.Parents.{Parents}
 use Rattle.sheet_keys.specs.Keys.{nameOfKey}
@@ -20,4 +20,5 @@ pub record Drawn (m : TypeMap) (t d entries : List ℕ) (n w : ℕ) : Type 0 whe
 
 -- It reads every such map.
 pub record Compacts (t d entries : List ℕ) (n w : ℕ) (p : Parents) : Type 0 where
+  pub valid : Valid p
   pub reads : (m : TypeMap) → Drawn m t d entries n w → Reads p m

@@ -1,8 +1,8 @@
 -- What the compact form asks of the draft and the catalogue follows from what these are of a sheet.
 use mathlib.Core.Bool.{Bool}
 use mathlib.Core.List.{List}
-use mathlib.Core.Path.{_≡_, refl, ap, subst}
-use Prim.Native.Nat.{ℕ, _*_, _<_}
+use mathlib.Core.Path.{_≡_, ap, subst}
+use Prim.Native.Nat.{ℕ, _<_}
 use native.Mathlib.Omega.{arith}
 use lib.ListN.{length}
 use Rattle.definitions.specs.Records.{TypeInfo, Sheet}
@@ -14,11 +14,9 @@ use Rattle.parents.specs.Parents.{Readable}
 use Rattle.sheet_keys.specs.Keys.{nameOfKey}
 use Rattle.sheet_draft.specs.Draft.{keyAt, typeIn}
 use Rattle.sheet_draft.specs.Drafted.{Drafted}
-use Rattle.catalogue.specs.Catalogue.{Listed}
 use Rattle.order_parents.specs.Parents.{rowOf}
-use Rattle.order_parents.specs.SheetLaws.{ByName, key-within, type-within, rows-count, row-at, prepared-of, rows-of}
+use Rattle.order_parents.specs.SheetLaws.{ByName, key-within, type-within, rows-count, row-at, prepared-of}
 use Rattle.order_compact.specs.Compact.{Drafts}
-use Rattle.order_compact.specs.Reading.{Drawn}
 
 -- what the compact form asked of the types in name order is what the order asks of the map
 pub within-of : (m : TypeMap) → Readable (m .types) (m .self) → Within m
@@ -41,11 +39,3 @@ module _ (s : Sheet) (bs : List Bool) (d entries : List ℕ) (n : ℕ) (r : Draf
             omega (arith, k .first, w .words);
         parents = p .keys;
       }
-
-  pub drawn-of : (t : List ℕ) → line.Within s → Listed s t → Readable (typeMapOf s .types) (typeMapOf s .self) → Drawn (typeMapOf s) t d entries n (typeMapOf s .self)
-  drawn-of t w l e = record {
-    rows = rows-of s bs d entries n r size o t (typeMapOf s .self * 256) w l refl;
-    names = names-of;
-    within = within-of (typeMapOf s) e;
-    word = refl;
-  }

@@ -1,3 +1,4 @@
+pub mod Listing
 pub mod Order
 pub mod ListingLaws
 pub mod OrderLaws

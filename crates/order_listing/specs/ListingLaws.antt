@@ -11,10 +11,12 @@ use lib.ListN.{length, getD, drop, length-append}
 use Rattle.lists.specs.Lists.{each}
 use Rattle.lists.specs.Tabulating.{tabulate, length-tabulate, each-next}
 use Rattle.lists.specs.Tests.{by}
-use Rattle.definitions.specs.Bits.{toBits}
+use Rattle.definitions.specs.Answer.{overwrite}
+use Rattle.definitions.specs.Bits.{toBits, size, pack}
 use Rattle.definitions.specs.Packing.{nameBits, orderBits}
-use Rattle.bits.specs.NumberLaws.{length-toBits}
+use Rattle.bits.specs.NumberLaws.{length-toBits, length-packTo}
 use Rattle.bits.specs.Writing.{put, Wrote}
+use Rattle.bits.specs.WriteLaws.{length-put, put-pack}
 use Rattle.catalogue.specs.Layout.{keyAt}
 use Rattle.catalogue.specs.Catalogue.{nameOfKey}
 use Rattle.item_pen.specs.declared.Pen.{Pen}
@@ -79,6 +81,16 @@ names-most t order (suc n) =
     let p = size-more t order n (length (namesBits t order n)) (keyAt t (getD order n 0)) (k .0) refl (k .1) (k .2) (record { size = refl; most = names-most t order n }) in
     let e : length (namesBits t order (suc n)) ≡ length (namesBits t order (n + 1)) = ap (λ (x : ℕ). length (namesBits t order x)) (sym (add-one n)) in
     omega (arith, e, p .size, p .most)
+
+-- ---- what is written from the start of a listing
+
+-- a write leaves as many bytes
+pub wrote-long : {a b : List ℕ} {p q : ℕ} {bs : List Bool} → Wrote a b p q bs → length b ≡ length a
+wrote-long {a} {b} {p} {q} {bs} w = ap length (w .holds) ∙ length-put a p bs
+
+pub wrote-overwrite : {a b : List ℕ} {q : ℕ} {bs : List Bool} → Wrote a b 0 q bs → size (length bs) ≤ length a → b ≡ overwrite (pack bs) a
+unfolding pack
+wrote-overwrite {a} {b} {q} {bs} w h = rw (length-packTo (size (length bs)) bs) (w .holds ∙ put-pack a bs h)
 
 -- ---- all of it
 

@@ -1,15 +1,20 @@
 // The order-only call's listing, out of the names in the catalogue and the order.
 use item_pen::Pen;
-use packing::Listed;
 ghost use mathlib.Core.Path.{_≡_};
 ghost use Prim.Native.Nat.{_*_, _≤_};
 ghost use lib.ListN.{length};
 ghost use Rattle.definitions.specs.Packing.{nameBits};
 ghost use Rattle.catalogue.specs.Catalogue.{nameOfKey};
 ghost use Rattle.bits.specs.Writing.{Wrote};
-ghost use Rattle.packing.specs.Order.{Listing};
 ghost use Rattle.item_pen.specs.Pen.{RoomFor, Adds};
+ghost use Rattle.order_listing.specs.Listing.{Listing};
 ghost use Rattle.order_listing.specs.Order.{fresh, namesBits, orderIn, Placed};
+
+// Whether the listing was too short, and the size of what the call writes (FORMAT 7.4).
+pub struct Listed {
+    pub short: bool,
+    pub size: usize,
+}
 
 // A pen that has put nothing.
 fn start() -> Pen

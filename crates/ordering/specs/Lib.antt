@@ -1,7 +1,6 @@
 pub mod Lists
 pub mod Reading
 pub mod Rounds
-pub mod Organized
 pub mod Names
 pub mod Instance
 pub mod Compact

@@ -376,14 +376,6 @@ below-one (suc n) t h =
 pub below-all-lt : (f : ℕ → Bool) (n : ℕ) → all (λ x. ltb x n) (below f n) ≡ true
 below-all-lt f n = all-of (λ x. ltb x n) (below f n) (λ x e. lt-ltb x n (below-is f n x e .0))
 
--- numbers listed in an array so far, with one more
-pub grown : (f : ℕ → Bool) (p out : List ℕ) (start end t : ℕ) → end < length out → f t ≡ true → end ≡ start + length (below f t) → take end out ≡ p ++ below f t
-    → (end + 1 ≡ start + length (below f (t + 1))) × (take (end + 1) (set out end t) ≡ p ++ below f (t + 1))
-grown f p out start end t h e n l = (
-  rw (below-yes f t e, length-append) (omega arith),
-  rw (below-yes f t e, add-one end, take-suc-set out end t h, l, append-assoc),
-)
-
 -- a filter of what a function makes of them
 filter-only : {A : Type 0} (f : A → Bool) (h : ℕ → A) (b : Bool) (n : ℕ) → filter f (map h (only b n)) ≡ map h (only (b && f (h n)) n)
 filter-only f h true n = by (f (h n)) (λ t. rw t) (λ t. rw t)

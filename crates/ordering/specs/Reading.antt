@@ -4,7 +4,7 @@ use mathlib.Core.List.{List, [], map}
 use mathlib.Core.Path.{_≡_}
 use Prim.Native.Nat.{ℕ, _+_, _*_, _≤_, _<_}
 use lib.Dec.{eqb, ltb}
-use lib.ListN.{length, getD, take}
+use lib.ListN.{length, getD}
 use Rattle.lists.specs.Lists.{all, repeats, placeOf}
 use Rattle.definitions.specs.Records.{Name, domain, TypeInfo}
 use Rattle.definitions.specs.Comparisons.{sameName}
@@ -12,7 +12,6 @@ use Rattle.definitions.specs.Map.{TypeMap}
 use Rattle.definitions.specs.Packing.{nameBytes}
 use Rattle.ordering.specs.Lists.{tab, tab-length}
 use Rattle.ordering.specs.declared.Parents.{Parents}
-use Rattle.ordering.specs.declared.Placed.{Placed}
 
 -- ---- the compact form by itself
 
@@ -45,10 +44,6 @@ selfIn p q = eqb (q .first) (p .«self_word») && eqb (q .second) 255
 pub record Valid (p : Parents) : Type 0 where
   pub types : p .count ≤ 64
   pub parents : (t : ℕ) → t < p .count → howMany p t ≤ 8
-
--- a list of places
-unfoldable pub placesOf : Placed → List ℕ
-placesOf l = take (l .count) (l .items)
 
 -- ---- the type map that it stands for
 

@@ -9,51 +9,24 @@ use native.Mathlib.Omega.{arith}
 use lib.Dec.{eqb, ltb}
 use lib.ListN.{length, getD, length-append}
 use borrow.Author.Tests.{lt-ltb}
-use lib.Seq.{length-take-le}
 use Rattle.lists.specs.Lists.{any, all}
 use Rattle.lists.specs.Tests.{never, same-test, and-left, and-right, or-elim, or-left, or-right}
 use Rattle.lists.specs.Appending.{any-append}
 use Rattle.ordering.specs.Lists.{all-imp, elem, elem-left, elem-cases, all-of, tab, any-tab-same, below, below-in, below-is, below-most, below-none, below-full, below-split}
-use Rattle.ordering.specs.Reading.{Parent, parentAt, listed, selfIn, placesOf}
+use Rattle.ordering.specs.Reading.{Parent, listed, selfIn}
 use Rattle.ordering.specs.declared.Parents.{Parents}
-use Rattle.ordering.specs.declared.Placed.{Placed}
 
 -- a parent that holds its child back no longer: it is `self`, or placed
 abbrev pub settled : Parents → List ℕ → Parent → Bool
 settled p out q = selfIn p q || elem (q .place) out
 
--- the parents of types that are held apart
-abbrev pub parentsIn : ℕ → List ℕ → List ℕ → List ℕ → Parents
-parentsIn word places firsts seconds = record {
-  count = 0;
-  «self_word» = word;
-  firsts = [];
-  seconds = [];
-  counts = [];
-  places = places;
-  «parent_firsts» = firsts;
-  «parent_seconds» = seconds;
-}
-
--- whether each of so many parents from a place on is settled
-abbrev pub allPlaced : Parents → ℕ → ℕ → List ℕ → Bool
-allPlaced p base count out = all (settled p out) (tab (λ i. parentAt p (base + i)) count)
-
+-- whether each parent of a type is settled
 unfoldable pub isReady : Parents → List ℕ → ℕ → Bool
 isReady p out t = all (settled p out) (listed p t)
 
 -- type t is not placed yet, and is ready
 unfoldable pub free : Parents → List ℕ → ℕ → Bool
 free p out t = not (elem t out) && isReady p out t
-
--- the same of a type that lists so many parents
-abbrev pub freeIn : Parents → List ℕ → ℕ → ℕ → Bool
-freeIn p out t count = not (elem t out) && allPlaced p (8 * t) count out
-
-pub free-in : (p : Parents) (out : List ℕ) (t : ℕ) →
-    freeIn (parentsIn (p .«self_word») (p .places) (p .«parent_firsts») (p .«parent_seconds»)) out t (getD (p .counts) t 0) ≡ free p out t
-unfolding free isReady listed
-free-in p out t = refl
 
 -- one round: the types that are free now go behind those placed, in name order
 unfoldable pub next : Parents → List ℕ → List ℕ
@@ -70,26 +43,9 @@ placed p (suc k) = round p (placed p k)
 unfoldable pub final : Parents → List ℕ
 final p = placed p (p .count)
 
--- whether the parent at a place is `self`, and whether one of `count` from `base` on is, the arrays being held apart
-abbrev pub selfAt : ℕ → List ℕ → List ℕ → ℕ → Bool
-selfAt word firsts seconds at = eqb (getD firsts at 0) word && eqb (getD seconds at 0) 255
-
-unfoldable pub selfFrom : ℕ → List ℕ → List ℕ → ℕ → ℕ → Bool
-selfFrom word firsts seconds base count = any (selfAt word firsts seconds) (tab (λ i. base + i) count)
-
-pub self-from : (p : Parents) (t : ℕ) → any (selfIn p) (listed p t) ≡ selfFrom (p .«self_word») (p .«parent_firsts») (p .«parent_seconds») (8 * t) (getD (p .counts) t 0)
-unfolding listed selfFrom
-self-from p t =
-    any-tab-same (λ i. parentAt p (8 * t + i)) (selfIn p) (λ i. 8 * t + i) (selfAt (p .«self_word») (p .«parent_firsts») (p .«parent_seconds»)) (getD (p .counts) t 0)
-    (λ i h. refl)
-
 -- whether a parent is listed as `self`
 unfoldable pub listsSelf : Parents → Bool
 listsSelf p = any (λ (l : List Parent). any (selfIn p) l) (tab (listed p) (p .count))
-
-no-length : (l : List ℕ) → length l ≡ 0 → l ≡ []
-no-length [] e = refl
-no-length (x ∷ l) e = absurd (omega arith)
 
 by-length : {C : Type 0} (l : List ℕ) → (l ≡ [] → C) → (0 < length l → C) → C
 by-length [] f g = f refl
@@ -163,38 +119,6 @@ module _ (p : Parents) where
       (λ (l : k < suc n). ap (round p) (rests k n (le-of-suc-le-suc l) e) ∙ rw (e, append-nil))
       (eq-or-lt-of-le h)
 
-  -- where all are placed, a round adds nothing
-  pub none-left : (k : ℕ) → length (placed p k) ≡ p .count → next p (placed p k) ≡ []
-  unfolding next free
-  none-left k e = below-none (free p (placed p k)) (p .count) (λ x h. rw (count-full k e x h))
-
-  pub grows : (k : ℕ) → length (placed p k) ≤ length (placed p (suc k))
-  unfolding placed round
-  grows k = rw length-append (omega arith)
-
-  -- where after k rounds all types are placed, or the next round adds none, that is what all rounds place
-  pub final-full : (k : ℕ) → k ≤ p .count → length (placed p k) ≡ p .count → final p ≡ placed p k
-  unfolding final
-  final-full k h e = rests k (p .count) h (none-left k e)
-
-  pub final-stuck : (k : ℕ) → k ≤ p .count → length (placed p (suc k)) ≡ length (placed p k) → final p ≡ placed p (suc k)
-  unfolding final placed round
-  final-stuck k h e =
-      let z : next p (placed p k) ≡ [] = no-length (next p (placed p k)) (omega (arith, length-append (placed p k) (next p (placed p k)))) in
-      rests k (p .count) h z ∙ sym (rw (z, append-nil))
-
--- how long the list is after a round
-pub round-length : (p : Parents) (l : Placed) → length (l .items) ≡ 64 → l .count ≤ 64
-    → length (round p (placesOf l)) ≡ l .count + length (below (free p (placesOf l)) (p .count))
-unfolding round next placesOf
-round-length p l q h =
-    let k : l .count ≤ length (l .items) = omega arith in
-    rw (length-append, length-take-le (l .count) (l .items) k)
-
-pub final-most : (p : Parents) → length (final p) ≤ p .count
-unfolding final
-final-most p = count-most p (p .count)
-
 -- ---- after as many rounds as there are types no further round places one
 
 grows-or-rests : (p : Parents) (k : ℕ) → (next p (placed p k) ≡ []) ⊎ (k < length (placed p (suc k)))
@@ -215,7 +139,3 @@ final-rests p = ⊎-elim (λ (e : next p (placed p (p .count)) ≡ []). e) (λ (
 -- what is placed is a type
 pub placed-below : (p : Parents) (k : ℕ) → all (λ x. ltb x (p .count)) (placed p k) ≡ true
 placed-below p k = all-of (λ x. ltb x (p .count)) (placed p k) (λ x e. lt-ltb x (p .count) (earlier p k x e .0))
-
-pub final-below : (p : Parents) → all (λ x. ltb x (p .count)) (final p) ≡ true
-unfolding final
-final-below p = placed-below p (p .count)

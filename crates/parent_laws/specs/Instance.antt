@@ -1,6 +1,5 @@
--- A map, its compact form and its order: what is asked of them is no empty demand.
+-- A map and its compact form: what is asked of them is no empty demand.
 -- Type `a`, type `b` under `a`, type `c` under `b`, listed twice.
-use mathlib.Core.Bool.{true}
 use mathlib.Core.List.{List, [], _∷_, _++_}
 use mathlib.Core.Path.{refl}
 use Prim.Native.Nat.{ℕ, zero, suc, _<_}
@@ -9,11 +8,9 @@ use lib.ListN.{replicate}
 use Rattle.lists.specs.Tests.{cons-elim}
 use Rattle.definitions.specs.Map.{TypeMap}
 use Rattle.ordering.specs.Reading.{listed, placeIn, parentIn, ReadsType, Reads}
-use Rattle.ordering.specs.Rounds.{isReady, free, next, round, placed, final, listsSelf}
 use Rattle.ordering.specs.Instance.{under}
 use Rattle.ordering.specs.declared.Parents.{Parents}
-use Rattle.ordering.specs.declared.Order.{Order}
-use Rattle.parent_laws.specs.Placed.{Ordered, ParentsBelow}
+use Rattle.parent_laws.specs.Placed.{ParentsBelow}
 
 abbrev pub chain : TypeMap
 chain = record {
@@ -44,13 +41,6 @@ chained-types (suc (suc (suc t))) h = absurd (omega arith)
 
 pub chained-reads : Reads chained chain
 chained-reads = record { count = refl; most = omega arith; self = refl; word = omega arith; distinct = refl; types = chained-types }
-
-abbrev pub order : Order
-order = record { found = true; count = 3; items = 0 ∷ 1 ∷ 2 ∷ replicate 61 0 }
-
-pub chained-ordered : Ordered chained order
-unfolding final placed round next free isReady listed listsSelf
-chained-ordered = record { places = refl; count = refl; whole = refl; noSelf = refl }
 
 pub chained-below : ParentsBelow chained 2
 unfolding listed

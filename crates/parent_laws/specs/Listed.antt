@@ -2,13 +2,12 @@
 use mathlib.Core.List.{List·Memᴰ·head, Memᴰ·append-right}
 use mathlib.Core.Path.{refl, sym, subst}
 use Prim.Native.Nat.{ℕ, _+_, _*_, _<_}
-use native.Mathlib.Omega.{arith}
 use lib.ListN.{getD}
 use Rattle.lists.specs.Lists.{In}
 use Rattle.ordering.specs.Lists.{tab, tab-split}
-use Rattle.ordering.specs.Reading.{Parent, parentAt, howMany, listed, Valid}
+use Rattle.ordering.specs.Reading.{Parent, parentAt, howMany, listed}
 use Rattle.ordering.specs.declared.Parents.{Parents}
-use Rattle.parent_laws.specs.Placed.{ParentsBelow, ListedRoom}
+use Rattle.parent_laws.specs.Placed.{ParentsBelow}
 
 module _ (p : Parents) (t : ℕ) where
   -- the parent that type t lists at i
@@ -23,6 +22,3 @@ module _ (p : Parents) (t : ℕ) where
 
   pub parent-below : ParentsBelow p t → (i : ℕ) → i < howMany p t → getD (p .places) (8 * t + i) 0 < p .count
   parent-below b i h = b .lower (parent i) (parent-listed i h)
-
-  pub listed-room : Valid p → t < p .count → ParentsBelow p t → ListedRoom (p .counts) (p .places) t
-  listed-room v h b = record { type = omega (arith, v .types); parents = v .parents t h; place = λ i l. omega (arith, v .types, parent-below b i l) }

@@ -1,6 +1,5 @@
 use borrow.Author.Tests.{not-true, not-false}
 use Rattle.definitions.specs.Answer.{order}
-use Rattle.ordering.specs.Reading.{valid}
 use Rattle.access.specs.EndLaws.{unordered-so, ordered-so}
 use Rattle.access.specs.TableLaws.{drafts, sketch, none-is, found-is, placed-in, bits-are}
 use borrow.Author.Needs.{needs}
@@ -10,30 +9,22 @@ use Rattle.access.proofs.end_order.Tie as tie
 organize-requires : tie.Need-organize-requires
 organize-requires c κs = search needs
 
-parents-of-requires : tie.Need-parents-of-requires
-parents-of-requires c κs =
-    drafts _ _ _ _ _ (c .before .before .before .before .before .before .before .before .pre .0 .whole)
-
 no-order-requires : tie.Need-no-order-requires
 no-order-requires c κs =
-    let s = c .before .before .before .before .before .before .before .before .before .before in
-    let w = s .pre .0 .whole in
-    let o = c .before .before .before .before .before .organize in
-    let p = c .before .parents-of in
-    (valid (p .result) _ (p .ensures .reads _ (sketch _ _ _ _ _ w _ _ (o .result) (o .ensures))), s .pre .1)
+    let s = c .before .before .before .before .before .before .before .before .before in
+    (drafts _ _ _ _ _ (s .pre .0 .whole), s .pre .1)
 
 same-length : tie.Need-same-length
 same-length c = search needs
 
 returns : tie.Need-returns
 returns c =
-    let o = c .before .before .before .before .before .before .before .before .organize in
-    let p = c .before .before .before .before .parents-of in
+    let o = c .before .before .before .before .before .before .before .organize in
     let n = c .before .before .no-order in
     record {
       due = λ bytes w.
-          unordered-so order (p .result) _ (p .ensures .reads _ (sketch _ _ _ _ _ w _ _ (o .result) (o .ensures))) _ _ _ (n .result)
-          (none-is _ _ _ _ _ w _ _ (o .result) (o .ensures) (not-true _ (c .before .before .before .before .before .before .if1 .taken))) (n .ensures);
+          unordered-so order _ _ _ _ _ _ (sketch _ _ _ _ _ w _ _ (o .result) (o .ensures)) _ _ _ (n .result)
+          (none-is _ _ _ _ _ w _ _ (o .result) (o .ensures) (not-true _ (c .before .before .before .before .before .if1 .taken))) (n .ensures);
     }
 
 write-order-requires : tie.Need-write-order-requires
@@ -65,7 +56,6 @@ end-order-spec =
     tie.close
     (tie.spec
     organize-requires
-    parents-of-requires
     no-order-requires
     same-length
     returns

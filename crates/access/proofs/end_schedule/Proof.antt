@@ -1,7 +1,6 @@
 use mathlib.Core.Path.{sym, _∙_}
 use borrow.Author.Tests.{not-true, not-false}
 use Rattle.definitions.specs.Answer.{schedule}
-use Rattle.ordering.specs.Reading.{valid}
 use Rattle.access.specs.EndLaws.{unordered-so, scheduled-so}
 use Rattle.access.specs.TableLaws.{readable, drafts, sketch, none-is, found-is}
 use Rattle.access.specs.ScheduleLaws.{fillable, refused-is, orderly}
@@ -12,30 +11,22 @@ use Rattle.access.proofs.end_schedule.Tie as tie
 organize-requires : tie.Need-organize-requires
 organize-requires c κs = search needs
 
-parents-of-requires : tie.Need-parents-of-requires
-parents-of-requires c κs =
-    drafts _ _ _ _ _ (c .before .before .before .before .before .before .before .before .before .pre .0)
-
 no-order-requires : tie.Need-no-order-requires
 no-order-requires c κs =
-    let s = c .before .before .before .before .before .before .before .before .before .before .before in
-    let w = s .pre .0 in
-    let o = c .before .before .before .before .before .organize in
-    let p = c .before .parents-of in
-    (valid (p .result) _ (p .ensures .reads _ (sketch _ _ _ _ _ w _ _ (o .result) (o .ensures))), s .pre .1)
+    let s = c .before .before .before .before .before .before .before .before .before .before in
+    (drafts _ _ _ _ _ (s .pre .0), s .pre .1)
 
 same-length : tie.Need-same-length
 same-length c = search needs
 
 returns : tie.Need-returns
 returns c =
-    let o = c .before .before .before .before .before .before .before .before .organize in
-    let p = c .before .before .before .before .parents-of in
+    let o = c .before .before .before .before .before .before .before .organize in
     let n = c .before .before .no-order in
     record {
       due = λ w.
-          unordered-so schedule (p .result) _ (p .ensures .reads _ (sketch _ _ _ _ _ w _ _ (o .result) (o .ensures))) _ _ _ (n .result)
-          (none-is _ _ _ _ _ w _ _ (o .result) (o .ensures) (not-true _ (c .before .before .before .before .before .before .if1 .taken))) (n .ensures);
+          unordered-so schedule _ _ _ _ _ _ (sketch _ _ _ _ _ w _ _ (o .result) (o .ensures)) _ _ _ (n .result)
+          (none-is _ _ _ _ _ w _ _ (o .result) (o .ensures) (not-true _ (c .before .before .before .before .before .if1 .taken))) (n .ensures);
     }
 
 known-requires : tie.Need-known-requires
@@ -108,7 +99,6 @@ end-schedule-spec =
     tie.close
     (tie.spec
     organize-requires
-    parents-of-requires
     no-order-requires
     same-length
     returns

@@ -1,20 +1,29 @@
 -- The kind goes by whether the parent is declared.
+use native.Mathlib.Omega.{arith}
 use borrow.Author.Tests.{lt-ltb, le-ltb}
+use Rattle.ordering.specs.Reading.{parentAt}
+use Rattle.order_table.specs.Form.{formOf}
 use borrow.Author.Needs.{needs}
 use Rattle.diagnosis.proofs.bad_kind.Statement.{statement}
 use Rattle.diagnosis.proofs.bad_kind.Tie as tie
 
-element-copy-out-place : tie.Need-element-copy-out-place
-element-copy-out-place c = search needs
+place-at-requires : tie.Need-place-at-requires
+place-at-requires c κs = search needs
 
-cast-place : tie.Need-cast-place
-cast-place c = search needs
+types-in-requires : tie.Need-types-in-requires
+types-in-requires c κs = search needs
 
 returns : tie.Need-returns
-returns c = rw (lt-ltb _ _ (c .if1 .taken))
+returns c =
+    let a = c .before .before .before .args in
+    let p = formOf (a .l .now) in
+    rw (lt-ltb (parentAt p (a .at) .place) (p .count) (omega (arith, c .before .before .place-at .ensures, c .before .types-in .ensures, c .if1 .taken)))
 
 returns-2 : tie.Need-returns-2
-returns-2 c = rw (le-ltb _ _ (c .if1 .left))
+returns-2 c =
+    let a = c .before .before .before .args in
+    let p = formOf (a .l .now) in
+    rw (le-ltb (parentAt p (a .at) .place) (p .count) (omega (arith, c .before .before .place-at .ensures, c .before .types-in .ensures, c .if1 .left)))
 
 pub bad-kind-spec : {M : Type 1} → statement M
-bad-kind-spec = tie.close (tie.spec element-copy-out-place cast-place returns returns-2)
+bad-kind-spec = tie.close (tie.spec place-at-requires types-in-requires returns returns-2)

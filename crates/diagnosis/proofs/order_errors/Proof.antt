@@ -1,7 +1,5 @@
 -- Where the rows of kind 1 do not stand, no placed type lists `self`.
 use mathlib.Core.Path.{sym, _∙_}
-use native.Mathlib.Omega.{arith}
-use Rattle.ordering.specs.Rounds.{final, final-most}
 use Rattle.diagnosis.specs.Rows.{orderRows}
 use Rattle.diagnosis.specs.Walk.{plain-final}
 use borrow.Author.Needs.{needs}
@@ -25,20 +23,10 @@ place-all-requires : tie.Need-place-all-requires
 place-all-requires c κs = search needs
 
 generate-type-no-parent-errors-requires : tie.Need-generate-type-no-parent-errors-requires
-unfolding final
 generate-type-no-parent-errors-requires c κs =
     let s = c .before .before .before .before .before in
-    let e = c .before .place-all .ensures in
-    let v = s .pre .0 in (
-      record {
-        valid = v;
-        room = omega (arith, e .0, final-most (s .args .p), v .types);
-        rounds = s .args .p .count;
-        list = e .1;
-        plain = plain-final (s .args .p) (sym (c .before .before .before .self-stands .ensures) ∙ c .before .before .if1 .left);
-      },
-      s .pre .1,
-    )
+    let plain = plain-final _ (sym (c .before .before .before .self-stands .ensures) ∙ c .before .before .if1 .left) in
+    (record { valid = s .pre .0; plain = plain; places = c .before .place-all .ensures .places plain }, s .pre .1)
 
 same-length-2 : tie.Need-same-length-2
 same-length-2 c = search needs
@@ -46,7 +34,7 @@ same-length-2 c = search needs
 returns-2 : tie.Need-returns-2
 unfolding orderRows
 returns-2 c =
-    rw (← (c .before .before .before .before .before .before .self-stands .ensures), c .before .before .before .before .before .if1 .left, ← (c .before .before .before .before .place-all .ensures .1))
+    rw (← (c .before .before .before .before .before .before .self-stands .ensures), c .before .before .before .before .before .if1 .left)
     (c .before .before .generate-type-no-parent-errors .ensures)
 
 pub order-errors-spec : {M : Type 1} → statement M

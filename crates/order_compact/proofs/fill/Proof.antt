@@ -1,8 +1,9 @@
 use mathlib.Core.Path.{_≡_, sym, subst}
 use Prim.Native.Nat.{_-_, _≤_, _<_}
 use native.Mathlib.Omega.{arith}
-use Rattle.order_compact.specs.Table.{Stands}
-use Rattle.order_compact.specs.TableLaws.{stands-start, stands-more, stands-reads}
+use Rattle.order_compact.specs.Compact.{Stands}
+use Rattle.order_compact.specs.FillLaws.{stands-start, stands-more}
+use Rattle.order_compact.specs.ReadingLaws.{stands-reads}
 use Rattle.order_compact.proofs.fill.Statement.{statement}
 use Rattle.order_compact.proofs.fill.Tie as tie
 
@@ -50,7 +51,7 @@ returns c =
     let s = c .before .before .before .before in
     let l = c .before .loop in
     let e : l .a ≡ s .args .count = omega arith in
-    stands-reads (s .args .t .now) (s .args .d .now) (s .args .entries .now) (s .args .count) (s .args .self-word) (l .l) (s .pre .1)
+    stands-reads (s .args .t .now) (s .args .d .now) (s .args .entries .now) (s .args .count) (s .args .self-word) (l .l) (omega (arith, s .fits .self-word)) (s .pre .1)
     (subst (λ b. Stands (s .args .t .now) (s .args .d .now) (s .args .entries .now) (s .args .count) (s .args .self-word) b (l .l)) e (l .inv .1))
 
 pub fill-spec : {M : Type 1} → statement M

@@ -8,26 +8,20 @@ use Rattle.order_compact.proofs.place_of.Tie as tie
 type-of-requires : tie.Need-type-of-requires
 type-of-requires c κs = search needs
 
-cast-result : tie.Need-cast-result
-cast-result c = search needs
-
 returns : tie.Need-returns
 returns c =
     let e = c .before .type-of .ensures in
-    record { none = λ z. refl; some = λ z. absurd (omega (arith, e)) }
+    (record { none = λ z. refl; some = λ z. absurd (omega (arith, e)) }, omega arith)
 
 lowest-requires : tie.Need-lowest-requires
 lowest-requires c κs = search needs
 
-cast-result-2 : tie.Need-cast-result-2
-cast-result-2 c = search needs
-
 returns-2 : tie.Need-returns-2
 returns-2 c =
-    let e = c .before .before .type-of .ensures in
-    record { none = λ z. absurd (omega (arith, e)); some = λ z. subst (λ x. Lowest x (c .lowest .result)) e (c .lowest .ensures) }
+    let e = c .before .before .type-of .ensures in (
+      record { none = λ z. absurd (omega (arith, e)); some = λ z. subst (λ x. Lowest x (c .lowest .result)) e (c .lowest .ensures) },
+      omega (arith, c .lowest .ensures .place),
+    )
 
 pub place-of-spec : {M : Type 1} → statement M
-place-of-spec =
-    tie.close
-    (tie.spec type-of-requires cast-result returns lowest-requires cast-result-2 returns-2)
+place-of-spec = tie.close (tie.spec type-of-requires returns lowest-requires returns-2)

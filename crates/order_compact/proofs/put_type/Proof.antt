@@ -5,8 +5,8 @@ use Prim.Native.Nat.{ℕ, _-_, _≤_, _<_}
 use native.Mathlib.Omega.{arith}
 use lib.ListN.{length}
 use Rattle.sheet_draft.specs.Draft.{parentCountAt}
-use Rattle.order_compact.specs.Table.{TypePut}
-use Rattle.order_compact.specs.TableLaws.{type-start, type-more}
+use Rattle.order_compact.specs.Compact.{TypePut}
+use Rattle.order_compact.specs.FillLaws.{type-start, type-more}
 use Rattle.order_compact.proofs.put_type.Statement.{statement}
 use Rattle.order_compact.proofs.put_type.Tie as tie
 
@@ -31,8 +31,8 @@ loop-holds c = (omega arith, λ old l p. p)
 parent-at-requires : tie.Need-parent-at-requires Inv-loop μ-loop
 parent-at-requires c κs = search needs
 
-place-in-requires : tie.Need-place-in-requires Inv-loop μ-loop
-place-in-requires c κs =
+place-of-requires : tie.Need-place-of-requires Inv-loop μ-loop
+place-of-requires c κs =
     let s = c .before .before .before .before .before .before .before in
     let k = c .before .before .loop .k in
     let h : k < parentCountAt (s .args .d .now) (s .args .row) = omega (arith, c .before .before .before .before .before .before .parent-count-at .ensures .0) in
@@ -49,7 +49,7 @@ put-parent-requires c κs =
     let s = c .before .before .before .before .before .before .before .before .before in
     let k = c .before .before .before .before .loop .k in
     let h : k < parentCountAt (s .args .d .now) (s .args .row) = omega (arith, c .before .before .before .before .before .before .before .before .parent-count-at .ensures .0) in
-    (omega arith, omega (arith, c .before .before .parent-at .ensures, s .pre .1 .1 .keys k h), omega (arith, c .before .place-in .ensures .1))
+    (omega arith, omega (arith, c .before .before .parent-at .ensures, s .pre .1 .1 .keys k h), omega (arith, c .before .place-of .ensures .1))
 
 add-k : tie.Need-add-k Inv-loop μ-loop
 add-k c = omega arith
@@ -63,7 +63,7 @@ loop-again c =
     let l = c .before .before .before .before .before .loop in
     let h = c .before .before .before .before .before .before .before .before .before .parent-count-at .ensures in
     let g = c .before .before .before .parent-at .ensures in
-    let f = c .before .before .place-in .ensures .0 in
+    let f = c .before .before .place-of .ensures .0 in
     let i = s .pre .1 .1 .keys (l .k) (omega (arith, h .0)) in (
       omega arith,
       λ old e p. type-more _ _ _ _ _ (s .pre .1 .0 .0) (l .k) _ _ old (l .l) _ (omega (arith, h .1)) e (l .inv .1 old e p) (c .put-parent .ensures) g (omega (arith, g, i)) f,
@@ -89,7 +89,7 @@ put-type-spec =
     put-type-requires
     loop-holds
     parent-at-requires
-    place-in-requires
+    place-of-requires
     mul-put-parent
     add-put-parent
     put-parent-requires

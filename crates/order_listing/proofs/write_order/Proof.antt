@@ -4,9 +4,8 @@ use native.Mathlib.Omega.{arith}
 use borrow.Author.Tests.{lt-ltb, le-ltb}
 use lib.ListN.{length}
 use Rattle.definitions.specs.Bits.{size}
-use Rattle.packing.specs.PackingLaws.{wrote-overwrite, wrote-long}
 use Rattle.order_listing.specs.Order.{orderIn}
-use Rattle.order_listing.specs.ListingLaws.{order-long}
+use Rattle.order_listing.specs.ListingLaws.{wrote-long, wrote-overwrite, order-long}
 use Rattle.order_listing.proofs.write_order.Statement.{statement}
 use Rattle.order_listing.proofs.write_order.Tie as tie
 

@@ -1,3 +1,0 @@
-pub mod Room
-pub mod Order
-pub mod PackingLaws
