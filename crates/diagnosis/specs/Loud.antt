@@ -1,9 +1,9 @@
 -- Each type that is not placed has a row, from every path that leads to it. So each step of the search belongs to a row: the
 -- search enters such types alone, goes at most as deep as there are types, and ends at the row past the limit.
-use mathlib.Core.Bool.{Bool, true, false, not}
+use mathlib.Core.Bool.{false, not}
 use mathlib.Core.List.{List, [], _∷_, cons≢nil}
 use mathlib.Core.Path.{_≡_, refl, ap}
-use Prim.Native.Nat.{ℕ, zero, suc, _+_, _*_, _≤_, _<_}
+use Prim.Native.Nat.{ℕ, zero, suc, _+_, _*_, _<_}
 use native.Mathlib.Omega.{arith}
 use borrow.Author.Tests.{ltb-true, not-false}
 use lib.Dec.{ltb}

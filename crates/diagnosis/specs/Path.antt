@@ -2,7 +2,7 @@
 use mathlib.Core.Bool.{true, false, not}
 use mathlib.Core.List.{[]}
 use mathlib.Core.Path.{_≡_, refl, sym, ap, _∙_, subst}
-use Prim.Native.Nat.{ℕ, zero, suc, _+_, _*_, _<_}
+use Prim.Native.Nat.{ℕ, zero, suc, _+_, _*_}
 use borrow.Author.Tests.{eqb-true, eqb-false, lt-ltb}
 use lib.Dec.{eqb}
 use Rattle.lists.specs.Lists.{any}

@@ -1,5 +1,5 @@
-// Why a map has no order: `find_cycles_or_bad_types` and the rows of kinds 1, 2 and 3, over the table of the compact form. A type is
-// its place in name order.
+// Why a map has no order: `find_cycles_or_bad_types` and the rows of kinds 1, 2 and 3, over the table of the compact form. A type
+// is its place in name order.
 use emitting::Row;
 ghost use mathlib.Core.Path.{_≡_};
 ghost use mathlib.Core.Bool.{_&&_, not};

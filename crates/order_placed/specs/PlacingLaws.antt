@@ -3,9 +3,9 @@ use mathlib.Core.Bool.{Bool, true, false, _&&_, _||_, not, or-false, or-true}
 use mathlib.Core.List.{List, [], _∷_, _++_}
 use mathlib.Core.Logic.{_⊎_, inl, inr, ⊎-elim}
 use mathlib.Core.Path.{_≡_, refl, sym, ap, _∙_, subst}
-use Prim.Native.Nat.{ℕ, zero, suc, _+_, _*_, _≤_, _<_}
+use Prim.Native.Nat.{ℕ, zero, suc, _+_, _*_, _<_}
 use native.Mathlib.Omega.{arith}
-use borrow.Author.Tests.{eq-eqb, ne-eqb, eqb-true, eqb-false, lt-ltb, not-true, not-false}
+use borrow.Author.Tests.{eq-eqb, ne-eqb, eqb-true, eqb-false, lt-ltb, not-true}
 use lib.Dec.{eqb, ltb}
 use lib.ListN.{length}
 use Rattle.lists.specs.Lists.{any, all, null}
@@ -15,7 +15,7 @@ use Rattle.rows.specs.Rows.{hasBit}
 use Rattle.rows.specs.RowLaws.{bit-none}
 use Rattle.bitsets.specs.Bitsets.{more}
 use Rattle.bitsets.specs.BitLaws.{bit-more}
-use Rattle.ordering.specs.Lists.{all-imp, all-same, tab, all-tab-in, all-tab-of, any-tab-out, elem, only, below, below-in, below-one, below-split, below-same}
+use Rattle.ordering.specs.Lists.{all-imp, tab, all-tab-in, all-tab-of, any-tab-out, elem, only, below, below-in, below-one, below-split, below-same}
 use Rattle.ordering.specs.Reading.{Parent, parentAt, howMany, listed, selfIn}
 use Rattle.ordering.specs.Rounds.{settled, isReady, free, next, round, placed, final, stays, was, earlier, final-rests}
 use Rattle.ordering.specs.declared.Parents.{Parents}

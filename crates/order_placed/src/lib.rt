@@ -1,5 +1,5 @@
-// Which types the rounds of the order place, as a set, whatever parents are listed: what the diagnosis of a map without an order asks.
-// A type is its place in name order.
+// Which types the rounds of the order place, as a set, whatever parents are listed: what the diagnosis of a map without an order
+// asks. A type is its place in name order.
 ghost use mathlib.Core.Path.{_≡_};
 ghost use mathlib.Core.Bool.{not};
 ghost use Prim.Native.Nat.{_<_};
@@ -100,8 +100,8 @@ fn is_free(l: &[u64; 577], t: usize, out: u64) -> bool
     true
 }
 
-// The placed types, with those that are free when their turn comes. A type joins at once, and not at the end of a round: the set that
-// remains is the same.
+// The placed types, with those that are free when their turn comes. A type joins at once, and not at the end of a round: the set
+// that remains is the same.
 fn place_more(l: &[u64; 577], from: u64) -> u64
     requires { ⌜ Valid (formOf (now l)) ⌝ }
     ensures { λ r. ⌜ Passed (formOf (now (l .entry))) from r ⌝ }

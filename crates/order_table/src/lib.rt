@@ -1,7 +1,7 @@
-// The compact form of a map as one lent table of numbers: the names of the types and their listed parents, by the places of the types
-// in name order. This crate alone knows where what stands in it. Each number is a name as a key, and a count or a place times
-// 65536: for a type how many parents it lists, for a listed parent the place of the type that it names, which is the number of types
-// where no type has the name. The last number has how many types there are, with the name `self`.
+// The compact form of a map as one lent table of numbers: the names of the types and their listed parents, by the places of the
+// types in name order. This crate alone knows where what stands in it. Each number is a name as a key, and a count or a place
+// times 65536: for a type how many parents it lists, for a listed parent the place of the type that it names, which is the number
+// of types where no type has the name. The last number has how many types there are, with the name `self`.
 ghost use mathlib.Core.Path.{_≡_};
 ghost use Prim.Native.Nat.{_+_, _*_, _<_};
 ghost use lib.ListN.{set, replicate, getD};

@@ -8,8 +8,8 @@ use native.Mathlib.Nat.{le-of-suc-le-suc, not-suc-le-zero, le-of-eq, eq-or-lt-of
 use native.Mathlib.Numerals.{add-one}
 use native.Mathlib.Omega.{arith}
 use lib.Dec.{eqb, ltb}
-use lib.ListN.{length, getD, take, set, length-append, List·getD-append}
-use lib.Seq.{take-suc-set, getD-at, ext-getD}
+use lib.ListN.{length, getD, take, length-append, List·getD-append}
+use lib.Seq.{getD-at, ext-getD}
 use borrow.Author.Tests.{eq-eqb, ne-eqb, eqb-true, lt-ltb}
 use Rattle.lists.specs.Lists.{any, all, sameList, keep, filter, each, firstOf, placeOf}
 use Rattle.lists.specs.Tests.{by, never, same-test, and-left, and-right, or-elim, or-left, or-right, or-false-left, or-false-right}

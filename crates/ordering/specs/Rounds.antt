@@ -3,16 +3,16 @@ use mathlib.Core.Bool.{Bool, true, false, _&&_, _||_, not}
 use mathlib.Core.List.{List, [], _∷_, _++_, append-nil}
 use mathlib.Core.Logic.{_⊎_, inl, inr, ⊎-elim}
 use mathlib.Core.Path.{_≡_, refl, sym, ap, _∙_}
-use Prim.Native.Nat.{ℕ, zero, suc, _+_, _*_, _≤_, _<_}
+use Prim.Native.Nat.{ℕ, zero, suc, _+_, _≤_, _<_}
 use native.Mathlib.Nat.{le-of-suc-le-suc, not-suc-le-zero, eq-or-lt-of-le}
 use native.Mathlib.Omega.{arith}
 use lib.Dec.{eqb, ltb}
-use lib.ListN.{length, getD, length-append}
+use lib.ListN.{length, length-append}
 use borrow.Author.Tests.{lt-ltb}
 use Rattle.lists.specs.Lists.{any, all}
 use Rattle.lists.specs.Tests.{never, same-test, and-left, and-right, or-elim, or-left, or-right}
 use Rattle.lists.specs.Appending.{any-append}
-use Rattle.ordering.specs.Lists.{all-imp, elem, elem-left, elem-cases, all-of, tab, any-tab-same, below, below-in, below-is, below-most, below-none, below-full, below-split}
+use Rattle.ordering.specs.Lists.{all-imp, elem, elem-left, elem-cases, all-of, tab, below, below-in, below-is, below-most, below-none, below-full, below-split}
 use Rattle.ordering.specs.Reading.{Parent, listed, selfIn}
 use Rattle.ordering.specs.declared.Parents.{Parents}
 

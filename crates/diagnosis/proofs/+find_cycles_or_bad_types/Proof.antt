@@ -13,7 +13,7 @@ use Rattle.ordering.specs.Lists.{tab, each-tab-step}
 use Rattle.ordering.specs.Reading.{Parent, parentAt, howMany, listed}
 use Rattle.order_table.specs.Form.{formOf}
 use Rattle.order_placed.specs.Placing.{off}
-use Rattle.diagnosis.specs.Rows.{Row, rows, bad}
+use Rattle.diagnosis.specs.Rows.{rows, bad}
 use Rattle.diagnosis.specs.Emit.{emit}
 use Rattle.diagnosis.specs.Walk.{At, fewer, rows-bad, rows-on, pass, declared, onward}
 use Prim.Native.Nat.{ℕ, _+_, _-_, _*_, _≤_, _<_}

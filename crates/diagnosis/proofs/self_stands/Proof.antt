@@ -1,5 +1,5 @@
 use mathlib.Core.Bool.{Bool, _&&_}
-use mathlib.Core.Path.{ap₂, _∙_}
+use mathlib.Core.Path.{ap₂}
 use borrow.Author.Needs.{needs}
 use Rattle.diagnosis.proofs.self_stands.Statement.{statement}
 use Rattle.diagnosis.proofs.self_stands.Tie as tie

@@ -3,7 +3,6 @@ use mathlib.Core.Bool.{true}
 use mathlib.Core.Path.{_≡_, refl, sym, _∙_}
 use Prim.Native.Nat.{_+_, _*_, _-_, _≤_, _<_}
 use native.Mathlib.Omega.{arith}
-use borrow.Author.Needs.{needs}
 use borrow.Author.Tests.{not-true, not-false}
 use Rattle.lists.specs.Lists.{all}
 use Rattle.ordering.specs.Lists.{tab, all-tab-step, all-tab-fails}

@@ -3,7 +3,6 @@ use mathlib.Core.Bool.{false}
 use mathlib.Core.Path.{_≡_, refl, sym, _∙_}
 use Prim.Native.Nat.{_+_, _*_, _-_, _≤_, _<_}
 use native.Mathlib.Omega.{arith}
-use borrow.Author.Needs.{needs}
 use Rattle.lists.specs.Lists.{any}
 use Rattle.ordering.specs.Lists.{tab, any-tab-step, any-tab-at}
 use Rattle.ordering.specs.Reading.{parentAt, howMany, listed, selfIn}

@@ -1,6 +1,5 @@
 -- What has joined is placed by some round, and the types left become fewer.
-use mathlib.Core.Path.{_≡_, subst}
-use native.Mathlib.Omega.{arith}
+use mathlib.Core.Path.{subst}
 use borrow.Author.Needs.{needs}
 use Rattle.order_table.specs.Form.{formOf}
 use Rattle.order_placed.specs.Placing.{off, Sound, Passed}

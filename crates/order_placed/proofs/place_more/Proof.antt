@@ -1,7 +1,7 @@
 -- The types passed that were free have joined.
 use mathlib.Core.Logic.{⊎-elim}
 use mathlib.Core.Path.{_≡_, sym, _∙_, subst}
-use Prim.Native.Nat.{_+_, _-_, _≤_}
+use Prim.Native.Nat.{_-_, _≤_}
 use native.Mathlib.Omega.{arith}
 use Rattle.order_table.specs.Form.{formOf}
 use Rattle.order_placed.specs.Placing.{Joined}
