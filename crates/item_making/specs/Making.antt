@@ -13,6 +13,7 @@ use Rattle.definitions.specs.Comparisons.{dotted}
 use Rattle.definitions.specs.LegalSchedule.{mostMarks}
 use Rattle.ordering.specs.Lists.{below}
 use Rattle.rows.specs.Rows.{hasBit}
+use Rattle.bitsets.specs.Bitsets.{Rest}
 use Rattle.catalogue.specs.Layout.{keyAt, headAt, marksAt, tallyAt, extensionCountAt, secondAt, resourceIn}
 use Rattle.catalogue.specs.Catalogue.{nameOfKey, virtualHead, parentsIn}
 use Rattle.item_making.specs.declared.Making.{Making}
@@ -71,6 +72,10 @@ firstBits t m p = parentBits (firstIn t m p)
 unfoldable pub recordBits : List ℕ → ℕ → List Bool
 recordBits t e = each parentBits (parentsIn t e)
 
+-- Those behind the first ones.
+unfoldable pub othersBits : List ℕ → ℕ → List Bool
+othersBits t records = parentBits (resourceIn t ∷ []) ++ eachOf (recordBits t) records
+
 unfoldable pub parentsBits : List ℕ → Making → List Bool
 parentsBits t m = each parentBits (parentsOf t m)
 
@@ -98,6 +103,10 @@ pub record Gathers (t : List ℕ) (g : Gathered) (set : ℕ) (r : Gathered) : Ty
 unfoldable pub allMarksBits : List ℕ → ℕ → ℕ → List Bool
 allMarksBits t marks classes = toBits 9 marks ++ each (marksBits t) (classesOf t classes)
 
+-- What stands behind the first parents of a making.
+unfoldable pub behindBits : List ℕ → Making → ℕ → List Bool
+behindBits t m marks = othersBits t (m .records) ++ allMarksBits t marks (m .classes)
+
 -- What a type and its classes give.
 pub record GathersAll (t : List ℕ) (a classes : ℕ) (r : Gathered) : Type 0 where
   pub marks : r .marks ≡ marksIn t (classesOf t classes)
@@ -116,3 +125,15 @@ makingBits t a word parents cs =
 
 unfoldable pub madeBits : List ℕ → ℕ → Making → List Bool
 madeBits t a m = makingBits t a (m .word) (parentsOf t m) (classesOf t (m .classes))
+
+-- ---- a making of one class
+
+-- It has one, and no extension adds parents to it.
+pub record Alone (m : Making) : Type 0 where
+  pub records : m .records ≡ 0
+  pub some : 0 < m .classes
+  pub one : Rest (m .classes) 0
+
+-- What stands behind its first parents: `resource`, the number of marks, the marks (FORMAT 6.2).
+unfoldable pub tailBits : List ℕ → ℕ → List Bool
+tailBits t c = (parentBits (resourceIn t ∷ []) ++ toBits 9 (tallyAt t c % 8)) ++ marksBits t c

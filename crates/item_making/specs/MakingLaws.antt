@@ -1,14 +1,15 @@
 -- Laws of what is made, as the code counts and adds it.
-use mathlib.Core.Bool.{Bool, true, false, cond, _&&_, not, and-true, and-assoc}
+use mathlib.Core.Bool.{Bool, true, false, cond, _&&_, not, and-true, and-false, and-assoc}
 use mathlib.Core.List.{List, [], _∷_, _++_, map, append-assoc, append-nil}
 use mathlib.Core.Path.{_≡_, refl, sym, ap, ap₂, _∙_}
 use Prim.Native.Nat.{ℕ, zero, suc, _+_, _*_, _-_, _/_, _%_, _^_, _≤_, _<_, min}
 use native.Mathlib.Omega.{arith}
+use borrow.Author.Tests.{eq-eqb, ne-eqb, eqb-true}
 use lib.Bits.{bitAnd, bitXor}
-use lib.Dec.{eqb}
+use lib.Dec.{eqb, ltb}
 use lib.ListN.{length, drop, length-append, length-map}
 use Rattle.lists.specs.Lists.{In, all, each}
-use Rattle.lists.specs.Tests.{by, and-left}
+use Rattle.lists.specs.Tests.{by, never, and-left}
 use Rattle.lists.specs.Appending.{each-append, each-map, each-each, all-append}
 use Rattle.lists.specs.Tabulating.{length-tabulate}
 use Rattle.definitions.specs.Bits.{odd, toBits}
@@ -17,15 +18,19 @@ use Rattle.definitions.specs.Packing.{nameBits, parentBits, countedBits}
 use Rattle.definitions.specs.Comparisons.{dotted}
 use Rattle.definitions.specs.LegalSchedule.{mostMarks}
 use Rattle.bits.specs.NumberLaws.{length-toBits, toBits-split}
+use Rattle.ordering.specs.Lists.{below-same, below-none, below-one}
 use Rattle.rows.specs.Rows.{hasBit}
+use Rattle.rows.specs.RowLaws.{bit-without, bit-none}
 use Rattle.law_classes.specs.Numbers.{bit-both}
 use Rattle.catalogue.specs.Layout.{keyAt, headAt, marksAt, tallyAt, extensionCountAt, extensionParentAt, secondAt, resourceIn}
 use Rattle.catalogue.specs.Catalogue.{nameOfKey, virtualHead, parentsIn}
 use Rattle.bitsets.specs.Bitsets.{Lowest, Rest}
+use Rattle.item_pen.specs.declared.Field.{Field}
+use Rattle.item_pen.specs.Pen.{fieldBits, flushed, TakesIn}
 use Rattle.item_fields.specs.Fields.{headBits}
 use Rattle.item_making.specs.declared.Making.{Making}
 use Rattle.item_making.specs.declared.Gathered.{Gathered}
-use Rattle.item_making.specs.Making.{members, eachOf, total, ones, others, classesOf, nameIn, firstIn, Recorded, added, parentsOf, firstBits, recordBits, parentsBits, marksBits, marksIn, allVirtual, Gathers, allMarksBits, GathersAll, makingBits, madeBits}
+use Rattle.item_making.specs.Making.{members, eachOf, total, ones, others, classesOf, nameIn, firstIn, Recorded, added, parentsOf, firstBits, recordBits, othersBits, parentsBits, marksBits, marksIn, allVirtual, Gathers, allMarksBits, GathersAll, makingBits, madeBits, behindBits, Alone, tailBits}
 use Rattle.item_making.specs.Walks.{members-next, members-none, members-most, member-of, each-next, each-none, total-next, total-none, total-append, total-most, total-same, total-each, from-next, from-end}
 
 -- ---- records
@@ -199,6 +204,42 @@ made-parts t a m key count g k e h =
     ∙ ap₂ (λ (x y : ℕ). false ∷ nameBits (nameOfKey x) ++ (W ++ (v ∷ (toBits 5 y ++ P) ++ M))) k e
     ∙ ap₂ (λ (b : Bool) (n : ℕ). false ∷ nameBits (nameIn t a) ++ (W ++ (b ∷ (toBits 5 (length (parentsOf t m)) ++ P) ++ (toBits 9 n ++ each (marksBits t) (classesOf t (m .classes)))))) (h .flag) (h .marks)
 
+pub behind-are : (t : List ℕ) (m : Making) (marks : ℕ) → othersBits t (m .records) ++ allMarksBits t marks (m .classes) ≡ behindBits t m marks
+unfolding behindBits
+behind-are t m marks = refl
+
+pub others-are : (t : List ℕ) (records : ℕ) → parentBits (resourceIn t ∷ []) ++ eachOf (recordBits t) records ≡ othersBits t records
+unfolding othersBits
+others-are t records = refl
+
+pub resource-parts : (t : List ℕ) (a : ℕ) (m : Making) (key count : ℕ) (g : Gathered) → key ≡ keyAt t a → count ≡ length (parentsOf t m) → GathersAll t a (m .classes) g →
+    (headBits key (m .word) (g .flag) count ++ eachOf (firstBits t m) (m .firsts)) ++ behindBits t m (g .marks) ≡ madeBits t a m
+unfolding behindBits othersBits
+resource-parts t a m key count g k e h =
+    let H = headBits key (m .word) (g .flag) count in
+    let F = eachOf (firstBits t m) (m .firsts) in
+    let O = parentBits (resourceIn t ∷ []) ++ eachOf (recordBits t) (m .records) in
+    let M = allMarksBits t (g .marks) (m .classes) in
+    append-assoc H F (O ++ M)
+    ∙ ap (λ (l : List Bool). H ++ l) (sym (append-assoc F O M) ∙ ap (λ (l : List Bool). l ++ M) (parents-parts t m))
+    ∙ made-parts t a m key count g k e h
+
+-- ---- fields that are held back
+
+-- what is written first stands first
+pub held-some : (held f : Field) (xs : List Bool) → (ys : List Bool) × (fieldBits held ++ xs ≡ flushed held f ++ ys)
+unfolding flushed
+held-some held f xs = by (ltb 56 (held .width + f .width)) (λ e. (xs, rw e)) (λ e. (fieldBits held ++ xs, rw e))
+
+pub held-next : (g : ℕ → List Bool) (held f n : Field) (left k r : ℕ) → Lowest left k → Rest left r → TakesIn held f n → fieldBits f ≡ g k
+    → fieldBits held ++ eachOf g left ≡ flushed held f ++ (fieldBits n ++ eachOf g r)
+held-next g held f n left k r w d t e =
+    let E = eachOf g r in
+    ap (λ (l : List Bool). fieldBits held ++ l) (each-next g left k r w d ∙ ap (λ (l : List Bool). l ++ E) (sym e))
+    ∙ sym (append-assoc (fieldBits held) (fieldBits f) E)
+    ∙ ap (λ (l : List Bool). l ++ E) (sym (t .bits))
+    ∙ append-assoc (flushed held f) (fieldBits n) E
+
 -- ---- how many bits
 
 -- the bits made of each member, summed
@@ -290,3 +331,66 @@ made-long t a m key s w f x y k e z hw hf hx hy =
       length-toBits 9 (marksIn t (classesOf t (m .classes))),
       length-toBits 9 0,
     )
+
+-- ---- a making of one class
+
+-- a set of one class is in order, whatever its dom
+pub classes-alone : (t : List ℕ) (x c : ℕ) → c < 64 → ((j : ℕ) → hasBit x j ≡ eqb c j) → classesOf t x ≡ c ∷ []
+unfolding classesOf members
+classes-alone t x c h is =
+    let S = secondAt t 0 in
+    let in-it : (j : ℕ) → hasBit (bitAnd x S) j ≡ (eqb c j && hasBit S j) = λ j. bit-both x S j ∙ ap (λ b. b && hasBit S j) (is j) in
+    let out : (j : ℕ) → hasBit (bitXor x (bitAnd x S)) j ≡ (eqb c j && not (hasBit S j)) = λ j. bit-without x S j ∙ ap (λ b. b && not (hasBit S j)) (is j) in
+    let at : (b : Bool) (j : ℕ) → hasBit S c ≡ b → (eqb c j && hasBit S j) ≡ (eqb c j && b) =
+    λ b j e. by (eqb c j) (λ q. rw q (ap (hasBit S) (sym (eqb-true c j q)) ∙ e)) (λ q. rw q) in
+    by (hasBit S c)
+    (λ e.
+    ap₂ (λ (a b : List ℕ). a ++ b)
+    (below-same (hasBit (bitAnd x S)) (λ j. eqb c j) 64 (λ j l. in-it j ∙ at true j e ∙ and-true (eqb c j)) ∙ below-one 64 c h)
+    (below-none (hasBit (bitXor x (bitAnd x S))) 64 (λ j l. out j ∙ by (eqb c j) (λ q. rw q (ap (λ k. not (hasBit S k)) (sym (eqb-true c j q)) ∙ ap not e)) (λ q. rw q))))
+    (λ e.
+    ap₂ (λ (a b : List ℕ). a ++ b)
+    (below-none (hasBit (bitAnd x S)) 64 (λ j l. in-it j ∙ at false j e ∙ and-false (eqb c j)))
+    (below-same (hasBit (bitXor x (bitAnd x S))) (λ j. eqb c j) 64
+    (λ j l. out j ∙ by (eqb c j) (λ q. rw q (ap (λ k. not (hasBit S k)) (sym (eqb-true c j q)) ∙ ap not e)) (λ q. rw q)) ∙ below-one 64 c h))
+
+-- nothing is left behind the lowest of it
+pub alone-is : (x c : ℕ) → Lowest x c → Rest x 0 → (j : ℕ) → hasBit x j ≡ eqb c j
+alone-is x c w z j =
+    by (eqb c j)
+    (λ q. ap (hasBit x) (sym (eqb-true c j q)) ∙ w .there ∙ sym q)
+    (λ q.
+    sym (and-true (hasBit x j))
+    ∙ ap (λ b. hasBit x j && b) (sym (ap not (ne-eqb j c (λ e. never (eq-eqb c j (sym e)) q))))
+    ∙ sym (z .bits c w j)
+    ∙ bit-none j
+    ∙ sym q)
+
+module _ (t : List ℕ) (m : Making) (l : Alone m) (c : ℕ) (w : Lowest (m .classes) c) where
+  class-is : classesOf t (m .classes) ≡ c ∷ []
+  class-is = classes-alone t (m .classes) c (w .place) (alone-is (m .classes) c w (l .one))
+
+  -- what stands behind its first parents
+  pub alone-behind : (marks : ℕ) → marks ≡ marksIn t (classesOf t (m .classes)) → tailBits t c ≡ behindBits t m marks
+  unfolding tailBits behindBits othersBits allMarksBits marksIn
+  alone-behind marks e =
+      let R = parentBits (resourceIn t ∷ []) in
+      let C = toBits 9 (tallyAt t c % 8) in
+      let none : eachOf (recordBits t) (m .records) ≡ [] = each-none (recordBits t) (m .records) (l .records) in
+      let count : tallyAt t c % 8 ≡ marks = omega arith ∙ ap (total (λ c. tallyAt t c % 8)) (sym class-is) ∙ sym e in
+      append-assoc R C (marksBits t c)
+      ∙ ap₂ (λ (x y : List Bool). x ++ (C ++ y)) (sym (append-nil R) ∙ ap (λ (x : List Bool). R ++ x) (sym none)) (sym (append-nil (marksBits t c)) ∙ ap (each (marksBits t)) (sym class-is))
+      ∙ ap (λ (x : ℕ). (R ++ eachOf (recordBits t) (m .records)) ++ (toBits 9 x ++ each (marksBits t) (classesOf t (m .classes)))) count
+
+-- what stands behind the first parents, as it is added
+module _ (t : List ℕ) (c tally marks : ℕ) (e : tally ≡ tallyAt t c) (h : marks ≡ marksAt t c) where
+  abbrev start : List Bool
+  start = parentBits (resourceIn t ∷ []) ++ toBits 9 (tallyAt t c % 8)
+
+  pub tail-short : start ++ toBits (tally / 8 % 64) marks ≡ tailBits t c
+  unfolding tailBits
+  tail-short = ap (λ (l : List Bool). start ++ l) (marks-are t c tally marks e h)
+
+  pub tail-long : 32 ≤ tally / 8 % 64 → (start ++ toBits (tally / 8 % 64 - 32) (marks / 4294967296)) ++ toBits 32 marks ≡ tailBits t c
+  tail-long l =
+      append-assoc start (toBits (tally / 8 % 64 - 32) (marks / 4294967296)) (toBits 32 marks) ∙ ap (λ (l : List Bool). start ++ l) (marks-parts (tally / 8 % 64) marks l) ∙ tail-short

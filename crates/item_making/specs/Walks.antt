@@ -2,12 +2,13 @@
 use mathlib.Core.Bool.{Bool, true, false, _&&_, not}
 use mathlib.Core.List.{List, [], _∷_, _++_, List·Memᴰ·head, List·Memᴰ·tail}
 use mathlib.Core.Path.{_≡_, refl, sym, ap, ap₂, _∙_}
-use Prim.Native.Nat.{ℕ, zero, suc, _+_, _*_, _-_, _≤_, _<_}
+use Prim.Native.Nat.{ℕ, zero, suc, _+_, _*_, _-_, _/_, _%_, _^_, _≤_, _<_}
 use native.Mathlib.Decide.{decLt}
-use native.Mathlib.Nat.{mul-suc}
+use native.Mathlib.Nat.{mul-suc, pow-suc}
 use native.Mathlib.Omega.{arith}
 use borrow.Author.Tests.{eq-eqb, ne-eqb}
 use lib.Bits.{bitAnd}
+use lib.Count as counting
 use lib.Dec.{eqb}
 use lib.ListN.{length, drop, length-append}
 use Rattle.lists.specs.Lists.{In, each}
@@ -56,6 +57,42 @@ members-next left k r w t = below-lowest (hasBit left) (hasBit r) k (w .there) (
 pub members-none : (left : ℕ) → left ≡ 0 → members left ≡ []
 unfolding members
 members-none left e = below-none (hasBit left) 64 (λ x h. ap (λ (y : ℕ). hasBit y x) e ∙ bit-none x)
+
+-- how many a set has is how many of its bits are set
+only-long : (b : Bool) (x y : ℕ) → length (only b x) ≡ length (only b y)
+only-long true x y = refl
+only-long false x y = refl
+
+-- the numbers below n + 1 with f: 0, if it is one, and those behind it
+below-behind : (f : ℕ → Bool) (n : ℕ) → length (below f (suc n)) ≡ length (only (f 0) 0) + length (below (λ k. f (suc k)) n)
+below-behind f zero = omega arith
+below-behind f (suc n) =
+    omega (
+      arith,
+      length-append (below f (suc n)) (only (f (suc n)) (suc n)),
+      below-behind f n,
+      length-append (below (λ k. f (suc k)) n) (only (f (suc n)) n),
+      only-long (f (suc n)) (suc n) n,
+    )
+
+lowest-bit : (x : ℕ) → length (only (hasBit x 0) 0) ≡ x % 2
+unfolding hasBit
+lowest-bit x =
+    elim (decLt (x % 2) 1) [
+      | yes l ↦ rw (ne-eqb (x % 2) 1 (λ e. absurd (omega arith))) (omega arith)
+      | no l ↦ rw (eq-eqb (x % 2) 1 (omega arith)) (omega arith)
+    ]
+
+bits-long : (d x : ℕ) → x < 2 ^ d → length (below (hasBit x) d) ≡ counting.ones x
+unfolding counting.ones hasBit
+bits-long zero x h = let e : x ≡ 0 = omega arith in rw e refl
+bits-long (suc d) x h =
+    let b = bits-long d (x / 2) (omega (arith, pow-suc 2 d)) in
+    omega (arith, below-behind (hasBit x) d, lowest-bit x, b, counting.ones-step x)
+
+pub members-long : (x : ℕ) → x < 2 ^ 64 → length (members x) ≡ counting.ones x
+unfolding members
+members-long x h = bits-long 64 x h
 
 pub members-most : (x : ℕ) → length (members x) ≤ 64
 unfolding members

@@ -1,16 +1,19 @@
 // What is made for a type and a word, out of the catalogue, added to a pen: a synthesized resource (FORMAT 6.2) and an extension line (FORMAT 6.3).
+use item_pen::Field;
 use item_pen::Pen;
+ghost use mathlib.Core.Bool.{true};
 ghost use mathlib.Core.List.{[], _∷_, _++_};
 ghost use mathlib.Core.Path.{_≡_};
 ghost use Prim.Native.Nat.{_+_, _*_, _%_, _≤_, _<_};
 ghost use lib.ListN.{length};
 ghost use Rattle.definitions.specs.Bits.{toBits};
 ghost use Rattle.definitions.specs.LegalSchedule.{mostMarks};
-ghost use Rattle.catalogue.specs.Layout.{keyAt, headAt, extensionCountAt};
-ghost use Rattle.item_pen.specs.Pen.{RoomFor, Adds};
+ghost use Rattle.definitions.specs.Packing.{parentBits};
+ghost use Rattle.catalogue.specs.Layout.{keyAt, headAt, tallyAt, resourceIn, extensionCountAt};
+ghost use Rattle.item_pen.specs.Pen.{Full, fieldBits, Holds, RoomFor, Adds};
 ghost use Rattle.item_fields.specs.Fields.{lineBits};
-ghost use Rattle.item_making.specs.Making.{members, eachOf, Recorded, added, recordBits, firstBits, parentsBits, marksBits, Gathers};
-ghost use Rattle.item_making.specs.Making.{allMarksBits, GathersAll, parentsOf, madeBits};
+ghost use Rattle.item_making.specs.Making.{members, eachOf, classesOf, marksIn, Recorded, added, recordBits, firstBits, marksBits, Gathers};
+ghost use Rattle.item_making.specs.Making.{allMarksBits, GathersAll, parentsOf, madeBits, othersBits, behindBits, tailBits, Alone};
 
 // What is made for a type and a word: the word; the extension records that add parents; the types whose names begin the first parents; the classes; and whether a
 // first parent is P.r, for a type P, or the type itself.
@@ -32,13 +35,7 @@ struct Gathered {
 fn count_of(set: u64) -> u64
     ensures { λ r. ⌜ (r ≡ length (members set)) × (r ≤ 64) ⌝ }
 {
-    let mut n: u64 = 0;
-    let mut left = set;
-    while left != 0 {
-        n += 1;
-        left = bitsets::rest(left);
-    }
-    n
+    u64::count_ones(set) as u64
 }
 
 // How many parents extension records add (FORMAT 4.5).
@@ -74,31 +71,34 @@ fn gather(t: &[u64; 1544], g: Gathered, set: u64) -> Gathered
 }
 
 // A first parent: the class of an own making, P.r of an inherited one (FORMAT 4.3, 4.4).
-fn add_first(buf: &mut [u8], pen: Pen, t: &[u64; 1544], m: Making, p: usize) -> Pen
+fn first_field(t: &[u64; 1544], m: Making, p: usize) -> Field
     requires { ⌜ p < 64 ⌝ }
-    requires { ⌜ RoomFor (now buf) pen 0 (firstBits (now t) m p) ⌝ }
-    ensures { λ r. ⌜ Adds (now (buf .entry)) (now (buf .exit)) pen r 0 (firstBits (now (t .entry)) m p) ⌝ }
+    ensures { λ r. ⌜ Holds r (length (firstBits (now (t .entry)) m p)) (firstBits (now (t .entry)) m p) × (r .width ≤ 26) ⌝ }
 {
     let key = catalogue::key_at(t, p);
     if m.inherited {
-        return item_pen::add(buf, pen, item_fields::passing_field(key, m.word));
+        return item_fields::passing_field(key, m.word);
     }
-    item_pen::add(buf, pen, item_fields::parent_field(key))
+    item_fields::parent_field(key)
 }
 
-// The first parents.
-fn add_firsts(buf: &mut [u8], pen: Pen, t: &[u64; 1544], m: Making) -> Pen
-    requires { ⌜ RoomFor (now buf) pen 0 (eachOf (firstBits (now t) m) (m .firsts)) ⌝ }
-    ensures { λ r. ⌜ Adds (now (buf .entry)) (now (buf .exit)) pen r 0 (eachOf (firstBits (now (t .entry)) m) (m .firsts)) ⌝ }
+// The head and the first parents, several written together.
+fn add_firsts(buf: &mut [u8], pen: Pen, t: &[u64; 1544], m: Making, head: Field) -> Pen
+    requires { ⌜ Full head ⌝ }
+    requires { ⌜ RoomFor (now buf) pen 0 (fieldBits head ++ eachOf (firstBits (now t) m) (m .firsts)) ⌝ }
+    ensures { λ r. ⌜ Adds (now (buf .entry)) (now (buf .exit)) pen r 0 (fieldBits head ++ eachOf (firstBits (now (t .entry)) m) (m .firsts)) ⌝ }
 {
     let mut to = pen;
+    let mut held = head;
     let mut left = m.firsts;
     while left != 0 {
         let p = bitsets::lowest(left);
-        to = add_first(buf, to, t, m, p);
+        let f = first_field(t, m, p);
+        to = item_pen::make_room(buf, to, held, f);
+        held = item_pen::take_in(held, f);
         left = bitsets::rest(left);
     }
-    to
+    item_pen::add(buf, to, held)
 }
 
 // The parents of an extension record (FORMAT 4.5).
@@ -134,19 +134,18 @@ fn add_records(buf: &mut [u8], pen: Pen, t: &[u64; 1544], records: u64) -> Pen
     to
 }
 
-// All parents: the first ones, `resource`, those of the extension (FORMAT 4.5).
-fn add_parents(buf: &mut [u8], pen: Pen, t: &[u64; 1544], m: Making) -> Pen
-    requires { ⌜ Recorded (now t) (m .records) ⌝ }
-    requires { ⌜ RoomFor (now buf) pen 0 (parentsBits (now t) m) ⌝ }
-    ensures { λ r. ⌜ Adds (now (buf .entry)) (now (buf .exit)) pen r 0 (parentsBits (now (t .entry)) m) ⌝ }
+// The parents behind the first ones: `resource`, those of the extension (FORMAT 4.5).
+fn add_others(buf: &mut [u8], pen: Pen, t: &[u64; 1544], records: u64) -> Pen
+    requires { ⌜ Recorded (now t) records ⌝ }
+    requires { ⌜ RoomFor (now buf) pen 0 (othersBits (now t) records) ⌝ }
+    ensures { λ r. ⌜ Adds (now (buf .entry)) (now (buf .exit)) pen r 0 (othersBits (now (t .entry)) records) ⌝ }
 {
-    let to = add_firsts(buf, pen, t, m);
     let resource = item_pen::join(
         item_pen::number(2, 1),
         item_pen::number(8, catalogue::resource_in(t)),
     );
-    let then = item_pen::add(buf, to, resource);
-    add_records(buf, then, t, m.records)
+    let to = item_pen::add(buf, pen, resource);
+    add_records(buf, to, t, records)
 }
 
 // The marks of a class, up to 63 bits: more than 56 in two parts.
@@ -212,6 +211,64 @@ fn count_parents(t: &[u64; 1544], m: Making) -> u64
     count_of(m.firsts) + 1 + count_added(t, m.records)
 }
 
+// `resource`, and the number of marks of a class.
+fn tail_start(t: &[u64; 1544], c: usize) -> Field
+    requires { ⌜ c < 64 ⌝ }
+    ensures { λ r. ⌜ Holds r 19 (parentBits (resourceIn (now (t .entry)) ∷ []) ++ toBits 9 (tallyAt (now (t .entry)) c % 8)) ⌝ }
+{
+    let resource = item_pen::join(
+        item_pen::number(2, 1),
+        item_pen::number(8, catalogue::resource_in(t)),
+    );
+    let count = catalogue::tally_at(t, c) % 8;
+    item_pen::join(resource, item_pen::number(9, count))
+}
+
+// What stands behind the first parents where a class is the only one and no extension adds parents: `resource`, the number of its marks, the marks (FORMAT 6.2). More
+// than 56 bits go in two parts.
+fn add_tail(buf: &mut [u8], pen: Pen, t: &[u64; 1544], c: usize) -> Pen
+    requires { ⌜ c < 64 ⌝ }
+    requires { ⌜ RoomFor (now buf) pen 0 (tailBits (now t) c) ⌝ }
+    ensures { λ r. ⌜ Adds (now (buf .entry)) (now (buf .exit)) pen r 0 (tailBits (now (t .entry)) c) ⌝ }
+{
+    let start = tail_start(t, c);
+    let width = ((catalogue::tally_at(t, c) >> 3) % 64) as usize;
+    let marks = catalogue::marks_at(t, c);
+    if width <= 37 {
+        let f = item_pen::join(start, item_pen::number(width, marks));
+        return item_pen::add(buf, pen, f);
+    }
+    let f = item_pen::join(start, item_pen::number(width - 32, marks >> 32));
+    let to = item_pen::add(buf, pen, f);
+    item_pen::add(buf, to, item_pen::number(32, marks))
+}
+
+// Whether a making has one class, and no extension adds parents to it.
+fn is_alone(m: Making) -> bool
+    ensures { λ r. ⌜ (r ≡ true → Alone m) ⌝ }
+{
+    if m.records != 0 {
+        return false;
+    }
+    if m.classes == 0 {
+        return false;
+    }
+    bitsets::rest(m.classes) == 0
+}
+
+// What stands behind the first parents: the others, the number of marks, the marks.
+fn add_behind(buf: &mut [u8], pen: Pen, t: &[u64; 1544], m: Making, marks: u64) -> Pen
+    requires { ⌜ Recorded (now t) (m .records) × (marks ≡ marksIn (now t) (classesOf (now t) (m .classes))) ⌝ }
+    requires { ⌜ RoomFor (now buf) pen 0 (behindBits (now t) m marks) ⌝ }
+    ensures { λ r. ⌜ Adds (now (buf .entry)) (now (buf .exit)) pen r 0 (behindBits (now (t .entry)) m marks) ⌝ }
+{
+    if is_alone(m) {
+        return add_tail(buf, pen, t, bitsets::lowest(m.classes));
+    }
+    let to = add_others(buf, pen, t, m.records);
+    add_marks(buf, to, t, marks, m.classes)
+}
+
 // A synthesized resource, field by field.
 fn add_resource(buf: &mut [u8], pen: Pen, t: &[u64; 1544], a: usize, m: Making) -> Pen
     requires { ⌜ (a < 64) × Recorded (now t) (m .records) ⌝ }
@@ -221,9 +278,8 @@ fn add_resource(buf: &mut [u8], pen: Pen, t: &[u64; 1544], a: usize, m: Making) 
     let g = gather_all(t, a, m.classes);
     let parents = count_parents(t, m);
     let head = item_fields::head_field(catalogue::key_at(t, a), m.word, g.flag, parents);
-    let to = item_pen::add(buf, item_pen::counted(pen), head);
-    let then = add_parents(buf, to, t, m);
-    add_marks(buf, then, t, g.marks, m.classes)
+    let to = add_firsts(buf, item_pen::counted(pen), t, m, head);
+    add_behind(buf, to, t, m, g.marks)
 }
 
 // How many bits a first parent has.
@@ -231,12 +287,7 @@ fn first_width(t: &[u64; 1544], m: Making, p: usize) -> usize
     requires { ⌜ p < 64 ⌝ }
     ensures { λ r. ⌜ (r ≡ length (firstBits (now (t .entry)) m p)) × (r ≤ 26) ⌝ }
 {
-    let key = catalogue::key_at(t, p);
-    if m.inherited {
-        let f = item_fields::passing_field(key, m.word);
-        return f.width;
-    }
-    let f = item_fields::parent_field(key);
+    let f = first_field(t, m, p);
     f.width
 }
 
@@ -292,7 +343,7 @@ pub fn create_synthetic_resource(
     requires { ⌜ RoomFor (now buf) pen 1 (madeBits (now t) a m) ⌝ }
     ensures { λ r. ⌜ Adds (now (buf .entry)) (now (buf .exit)) pen r 1 (madeBits (now (t .entry)) a m) ⌝ }
 {
-    if !pen.down {
+    if !item_pen::is_down(pen) {
         if m.records == 0 {
             return item_pen::pass_over(item_pen::counted(pen), width_of(t, a, m));
         }
@@ -307,5 +358,9 @@ pub fn extension_line(buf: &mut [u8], pen: Pen, t: &[u64; 1544], a: usize, word:
     ensures { λ r. ⌜ Adds (now (buf .entry)) (now (buf .exit)) pen r 1 (lineBits (keyAt (now (t .entry)) a) (headAt (now (t .entry)) a) word) ⌝ }
 {
     let line = item_fields::line_field(catalogue::key_at(t, a), catalogue::head_at(t, a), word);
-    item_pen::add(buf, item_pen::counted(pen), line)
+    let then = item_pen::counted(pen);
+    if !item_pen::is_down(then) {
+        return item_pen::pass_over(then, line.width);
+    }
+    item_pen::add(buf, then, line)
 }

@@ -1,8 +1,9 @@
 -- What a pen does to the bytes that it is lent.
 use mathlib.Core.Bool.{Bool, true, cond}
-use mathlib.Core.List.{List, []}
+use mathlib.Core.List.{List, [], _++_}
 use mathlib.Core.Path.{_≡_}
 use Prim.Native.Nat.{ℕ, _+_, _*_, _-_, _/_, _%_, _^_, _≤_, _<_}
+use lib.Dec.{eqb, ltb}
 use lib.ListN.{length}
 use Rattle.lists.specs.Lists.{each}
 use Rattle.definitions.specs.Bits.{toBits}
@@ -45,34 +46,26 @@ pub record Penned (down : Bool) (before after : List ℕ) (p q : ℕ) (bs : List
   pub next : q ≡ p + length bs
   pub holds : after ≡ cond down (put before p bs) before
 
--- ---- a pen that holds bits back
+-- ---- a pen
 
--- The bit behind what it holds back.
-abbrev pub endOf : Pen → ℕ
-endOf P = P .at + P .width
+-- Whether it is down.
+abbrev pub isDown : Pen → Bool
+isDown P = eqb (P .count % 2) 1
 
--- The bytes as they are once what it holds back is written.
-unfoldable pub shown : List ℕ → Pen → List ℕ
-shown buf P = cond (P .down) (put buf (P .at) (toBits (P .width) (P .value))) buf
-
--- What it holds back is a field.
-pub record Steady (P : Pen) : Type 0 where
-  pub few : P .width ≤ 56
-  pub most : P .value < 2 ^ P .width
+-- A pen that has put nothing.
+abbrev pub fresh : Bool → Pen
+fresh down = record { count = cond down 1 0; at = 0 }
 
 -- What adding k items, or parts of an item for 0, with the bits bs asks.
 pub record RoomFor (buf : List ℕ) (P : Pen) (k : ℕ) (bs : List Bool) : Type 0 where
-  pub steady : Steady P
-  pub fits : P .down ≡ true → endOf P + length bs ≤ 8 * length buf
-  pub small : endOf P + length bs < 2 ^ 64
-  pub few : P .items + k < 2 ^ 64
+  pub fits : isDown P ≡ true → P .at + length bs ≤ 8 * length buf
+  pub small : P .at + length bs < 2 ^ 64
+  pub few : P .count + 2 * k < 2 ^ 64
 
 -- They were added.
 pub record Adds (before after : List ℕ) (P Q : Pen) (k : ℕ) (bs : List Bool) : Type 0 where
-  pub same : Q .down ≡ P .down
-  pub items : Q .items ≡ P .items + k
-  pub steady : Steady Q
-  pub penned : Penned (P .down) (shown before P) (shown after Q) (endOf P) (endOf Q) bs
+  pub items : Q .count ≡ P .count + 2 * k
+  pub penned : Penned (isDown P) before after (P .at) (Q .at) bs
 
 -- One item more is counted, whatever the bytes are.
 pub record Counted (P Q : Pen) : Type 0 where
@@ -82,10 +75,16 @@ pub record Counted (P Q : Pen) : Type 0 where
 pub record PassesOver (P : Pen) (n : ℕ) (Q : Pen) : Type 0 where
   pub adds : (buf : List ℕ) (bs : List Bool) → length bs ≡ n → Adds buf buf P Q 0 bs
 
--- Nothing is held back any more; q is the bit behind the last.
-pub record Finished (before after : List ℕ) (P : Pen) (q : ℕ) : Type 0 where
-  pub next : q ≡ endOf P
-  pub holds : after ≡ shown before P
+-- ---- fields that are held back
+
+-- What is written before a field is held beside the one that is: nothing where both have at most 56 bits.
+unfoldable pub flushed : Field → Field → List Bool
+flushed held f = cond (ltb 56 (held .width + f .width)) (fieldBits held) []
+
+-- What is held then.
+pub record TakesIn (held f r : Field) : Type 0 where
+  pub full : Full r
+  pub bits : flushed held f ++ fieldBits r ≡ fieldBits held ++ fieldBits f
 
 -- ---- lists of items
 

@@ -1,11 +1,13 @@
 -- Laws of fields and of the pen.
-use mathlib.Core.Bool.{Bool, true, false, cond}
+use mathlib.Core.Bool.{Bool, true, false}
 use mathlib.Core.List.{List, [], _∷_, _++_, append-assoc, append-nil}
 use mathlib.Core.Path.{_≡_, refl, sym, ap, ap₂, _∙_, subst}
 use Prim.Native.Nat.{ℕ, zero, suc, _+_, _*_, _-_, _/_, _%_, _^_, _≤_, _<_}
 use native.Mathlib.Nat.{mod-lt, add-zero, one-mul}
 use native.Mathlib.Omega.{arith}
+use borrow.Author.Tests.{lt-ltb, le-ltb}
 use lib.Arith.{digits-lt}
+use lib.Dec.{eqb}
 use lib.ListN.{length, length-append}
 use lib.Pow
 use Rattle.lists.specs.Tests.{by}
@@ -16,7 +18,7 @@ use Rattle.bits.specs.NumberLaws.{length-toBits, toBits-split, toBits-low}
 use Rattle.bits.specs.WriteLaws.{put-append, length-put, left-less, left-none}
 use Rattle.item_pen.specs.declared.Field.{Field}
 use Rattle.item_pen.specs.declared.Pen.{Pen}
-use Rattle.item_pen.specs.Pen.{fieldBits, Full, Holds, Room, Penned, endOf, shown, Steady, RoomFor, Adds, Counted, Finished, joined, RoomForAll, AddsAll, PassesOver}
+use Rattle.item_pen.specs.Pen.{fieldBits, Full, Holds, Room, Penned, isDown, fresh, RoomFor, Adds, Counted, joined, RoomForAll, AddsAll, PassesOver, flushed}
 
 -- ---- fields
 
@@ -87,37 +89,23 @@ pub penned-long : (down : Bool) {a b : List ℕ} {p q : ℕ} {xs : List Bool} �
 penned-long true {a} {b} {p} {q} {xs} v = ap length (v .holds) ∙ length-put a p xs
 penned-long false v = ap length (v .holds)
 
--- ---- a pen that holds bits back
-
-shown-is : (down : Bool) (buf : List ℕ) (P : Pen) → P .down ≡ down → shown buf P ≡ cond down (put buf (P .at) (toBits (P .width) (P .value))) buf
-unfolding shown
-shown-is down buf P e = rw e
-
-pub shown-up : (buf : List ℕ) (P : Pen) → P .down ≡ false → shown buf P ≡ buf
-shown-up buf P e = shown-is false buf P e
-
-pub shown-down : (buf : List ℕ) (P : Pen) → P .down ≡ true → shown buf P ≡ put buf (P .at) (toBits (P .width) (P .value))
-shown-down buf P e = shown-is true buf P e
-
-shown-long : (buf : List ℕ) (P : Pen) → length (shown buf P) ≡ length buf
-shown-long buf P =
-    by (P .down)
-    (λ e. ap length (shown-down buf P e) ∙ length-put buf (P .at) (toBits (P .width) (P .value)))
-    (λ e. ap length (shown-up buf P e))
+-- ---- a pen
 
 pub adds-long : {a b : List ℕ} {P Q : Pen} {k : ℕ} {xs : List Bool} → Adds a b P Q k xs → length b ≡ length a
-adds-long {a} {b} {P} {Q} {k} {xs} w = sym (shown-long b Q) ∙ penned-long (P .down) (w .penned) ∙ shown-long a P
+adds-long {a} {b} {P} {Q} {k} {xs} w = penned-long (isDown P) (w .penned)
 
-pub adds-none : (buf : List ℕ) (P : Pen) → Steady P → Adds buf buf P P 0 []
-adds-none buf P h = record { same = refl; items = omega arith; steady = h; penned = penned-none (P .down) (shown buf P) (endOf P) }
+-- it stays down or up
+pub adds-same : {a b : List ℕ} {P Q : Pen} {k : ℕ} {xs : List Bool} → Adds a b P Q k xs → isDown Q ≡ isDown P
+adds-same {a} {b} {P} {Q} {k} {xs} w = let e : Q .count % 2 ≡ P .count % 2 = omega (arith, w .items) in ap (λ (r : ℕ). eqb r 1) e
+
+pub adds-none : (buf : List ℕ) (P : Pen) → Adds buf buf P P 0 []
+adds-none buf P = record { items = omega arith; penned = penned-none (isDown P) buf (P .at) }
 
 pub adds-then : {a b c : List ℕ} {P Q R : Pen} {k m : ℕ} {xs ys : List Bool} → Adds a b P Q k xs → Adds b c Q R m ys → Adds a c P R (k + m) (xs ++ ys)
 adds-then {a} {b} {c} {P} {Q} {R} {k} {m} {xs} {ys} v w =
     record {
-      same = w .same ∙ v .same;
       items = omega (arith, v .items, w .items);
-      steady = w .steady;
-      penned = penned-then (P .down) (v .penned) (subst (λ d. Penned d (shown b Q) (shown c R) (endOf Q) (endOf R) ys) (v .same) (w .penned));
+      penned = penned-then (isDown P) (v .penned) (subst (λ d. Penned d b c (Q .at) (R .at) ys) (adds-same v) (w .penned));
     }
 
 -- the bits by another name
@@ -131,14 +119,14 @@ room-as {a} {P} {k} e w = subst (RoomFor a P k) e w
 pub room-head : {a : List ℕ} {P : Pen} (k m : ℕ) (xs ys : List Bool) → RoomFor a P (k + m) (xs ++ ys) → RoomFor a P k xs
 room-head {a} {P} k m xs ys r =
     let l = length-append xs ys in
-    record { steady = r .steady; fits = λ d. omega (arith, r .fits d); small = omega (arith, r .small); few = omega (arith, r .few) }
+    record { fits = λ d. omega (arith, r .fits d); small = omega (arith, r .small); few = omega (arith, r .few) }
 
 pub room-tail : {a b : List ℕ} {P Q : Pen} (k m : ℕ) (xs ys : List Bool) → Adds a b P Q k xs → RoomFor a P (k + m) (xs ++ ys) → RoomFor b Q m ys
 room-tail {a} {b} {P} {Q} k m xs ys w r =
     let l = length-append xs ys in
     let n = adds-long w in
     let o = w .penned .next in
-    record { steady = w .steady; fits = λ d. omega (arith, r .fits (sym (w .same) ∙ d)); small = omega (arith, r .small); few = omega (arith, r .few, w .items) }
+    record { fits = λ d. omega (arith, r .fits (sym (adds-same w) ∙ d)); small = omega (arith, r .small); few = omega (arith, r .few, w .items) }
 
 -- ---- what is left to add of n items with the bits bs
 
@@ -149,8 +137,8 @@ pub record Pending (a : List ℕ) (P : Pen) (n : ℕ) (bs : List Bool) (b : List
   pub whole : done ++ rest ≡ bs
   pub adds : Adds a b P Q count done
 
-pub pending-all : (a : List ℕ) (P : Pen) (n : ℕ) (bs : List Bool) → Steady P → Pending a P n bs a P n bs
-pending-all a P n bs h = record { count = 0; done = []; sum = omega arith; whole = refl; adds = adds-none a P h }
+pub pending-all : (a : List ℕ) (P : Pen) (n : ℕ) (bs : List Bool) → Pending a P n bs a P n bs
+pending-all a P n bs = record { count = 0; done = []; sum = omega arith; whole = refl; adds = adds-none a P }
 
 -- the next k items, with the bits xs
 module _ {a b : List ℕ} {P Q : Pen} {n m : ℕ} {bs rest : List Bool} (k : ℕ) (more : ℕ) (xs ys : List Bool) (e : rest ≡ xs ++ ys) (h : m ≡ k + more) where
@@ -162,8 +150,7 @@ module _ {a b : List ℕ} {P Q : Pen} {n m : ℕ} {bs rest : List Bool} (k : ℕ
       let o = p .adds .penned .next in
       let u = adds-long (p .adds) in
       record {
-        steady = p .adds .steady;
-        fits = λ d. omega (arith, r .fits (sym (p .adds .same) ∙ d));
+        fits = λ d. omega (arith, r .fits (sym (adds-same (p .adds)) ∙ d));
         small = omega (arith, r .small);
         few = omega (arith, r .few, p .adds .items, p .sum);
       }
@@ -222,8 +209,8 @@ abbrev pub PendingAll : List ℕ → Pen → List (List Bool) → List ℕ → P
 PendingAll a P xs b Q rest = Pending a P (length xs) (joined xs) b Q (length rest) (joined rest)
 
 -- all of them, by another name
-pub all-start : {a : List ℕ} {P : Pen} (zs rest : List (List Bool)) → rest ≡ zs → Steady P → PendingAll a P zs a P rest
-all-start {a} {P} zs rest e h = subst (PendingAll a P zs a P) (sym e) (pending-all a P (length zs) (joined zs) h)
+pub all-start : {a : List ℕ} {P : Pen} (zs rest : List (List Bool)) → rest ≡ zs → PendingAll a P zs a P rest
+all-start {a} {P} zs rest e = subst (PendingAll a P zs a P) (sym e) (pending-all a P (length zs) (joined zs))
 
 module _ {rest : List (List Bool)} (zs xs ys : List (List Bool)) (e : rest ≡ xs ++ ys) where
   bits-part : joined rest ≡ joined xs ++ joined ys
@@ -241,111 +228,68 @@ module _ {rest : List (List Bool)} (zs xs ys : List (List Bool)) (e : rest ≡ x
 pub all-none : (zs : List (List Bool)) {rest : List (List Bool)} {a b : List ℕ} {P Q : Pen} → rest ≡ [] → PendingAll a P zs b Q rest → AddsAll a b P Q zs
 all-none zs e p = pending-none (ap length e) (ap joined e) p
 
-penned-as : {d e : Bool} {a b : List ℕ} {p q : ℕ} {xs : List Bool} → e ≡ d → Penned d a b p q xs → Penned e a b p q xs
-penned-as {d} {e} {a} {b} {p} {q} {xs} h w = subst (λ d. Penned d a b p q xs) (sym h) w
-
 -- ---- what is added
 
 module _ (buf : List ℕ) (P : Pen) (f : Field) (full : Full f) (room : RoomFor buf P 0 (fieldBits f)) where
-  f-long : length (fieldBits f) ≡ f .width
-  f-long = length-toBits (f .width) (f .value)
+  -- room for a field
+  pub field-room : Room (isDown P) buf (P .at) (f .width) (f .value)
+  field-room =
+      let l = length-toBits (f .width) (f .value) in
+      record { few = full .few; most = full .most; fits = λ d. omega (arith, room .fits d); small = omega (arith, room .small) }
 
-  -- counted
-  pub add-up : P .down ≡ false → Adds buf buf P (record { down = false; items = P .items; at = P .at + f .width; width = P .width; value = P .value }) 0 (fieldBits f)
-  add-up d =
-      let Q : Pen = record { down = false; items = P .items; at = P .at + f .width; width = P .width; value = P .value } in
-      record {
-        same = sym d;
-        items = omega arith;
-        steady = record { few = room .steady .few; most = room .steady .most };
-        penned = penned-as d (record { next = omega (arith, f-long); holds = shown-up buf Q refl ∙ sym (shown-up buf P d) });
-      }
+-- a first field
+module _ (down : Bool) (buf : List ℕ) (f : Field) where
+  pub begun-up : down ≡ false → Adds buf buf (fresh down) (record { count = 0; at = f .width }) 0 (fieldBits f)
+  begun-up d =
+      subst (λ b. Adds buf buf (fresh b) (record { count = 0; at = f .width }) 0 (fieldBits f)) (sym d)
+      (record { items = refl; penned = record { next = omega (arith, length-toBits (f .width) (f .value)); holds = refl } })
 
-  -- held back
-  pub add-held : P .down ≡ true → P .width + f .width ≤ 56
-      → Adds buf buf P (record { down = true; items = P .items; at = P .at; width = P .width + f .width; value = P .value * 2 ^ f .width % 2 ^ 64 + f .value }) 0 (fieldBits f)
-  add-held d few =
-      let v = P .value * 2 ^ f .width % 2 ^ 64 + f .value in
-      let Q : Pen = record { down = true; items = P .items; at = P .at; width = P .width + f .width; value = v } in
-      let j = join-holds (P .width) (P .value) (f .width) (f .value) (room .steady .most) (full .most) few in
-      let xs = toBits (P .width) (P .value) in
-      record {
-        same = sym d;
-        items = omega arith;
-        steady = record { few = few; most = j .full .most };
-        penned = penned-as d (record {
-          next = omega (arith, f-long);
-          holds =
-              shown-down buf Q refl
-              ∙ ap (put buf (P .at)) (j .bits)
-              ∙ put-append buf (P .at) xs (fieldBits f)
-              ∙ ap₂ (λ (b : List ℕ) (q : ℕ). put b q (fieldBits f)) (sym (shown-down buf P d)) (ap (λ (k : ℕ). P .at + k) (length-toBits (P .width) (P .value)));
-        });
-      }
+  pub begun-down : (after : List ℕ) → down ≡ true → after ≡ put buf 0 (fieldBits f) → Adds buf after (fresh down) (record { count = 1; at = f .width }) 0 (fieldBits f)
+  begun-down after d e =
+      subst (λ b. Adds buf after (fresh b) (record { count = 1; at = f .width }) 0 (fieldBits f)) (sym d)
+      (record { items = refl; penned = record { next = omega (arith, length-toBits (f .width) (f .value)); holds = e } })
 
-  -- held back behind what was written
-  pub add-after : (after : List ℕ) (q : ℕ) → P .down ≡ true → Penned true buf after (P .at) q (toBits (P .width) (P .value))
-      → Adds buf after P (record { down = true; items = P .items; at = q; width = f .width; value = f .value }) 0 (fieldBits f)
-  add-after after q d w =
-      let Q : Pen = record { down = true; items = P .items; at = q; width = f .width; value = f .value } in
-      let n : q ≡ P .at + P .width = w .next ∙ ap (λ (k : ℕ). P .at + k) (length-toBits (P .width) (P .value)) in
-      record {
-        same = sym d;
-        items = omega arith;
-        steady = record { few = full .few; most = full .most };
-        penned = penned-as d (record {
-          next = omega (arith, f-long, n);
-          holds = shown-down after Q refl ∙ ap₂ (λ (b : List ℕ) (k : ℕ). put b k (fieldBits f)) (w .holds ∙ sym (shown-down buf P d)) n;
-        });
-      }
+-- ---- fields that are held back
 
-  -- room for what is held back
-  pub room-held : P .down ≡ true → Room true buf (P .at) (P .width) (P .value)
-  room-held down = record {
-    few = room .steady .few;
-    most = room .steady .most;
-    fits = λ d. omega (arith, room .fits down);
-    small = omega (arith, room .small);
-  }
+module _ (held f : Field) where
+  pub flushed-none : held .width + f .width ≤ 56 → flushed held f ≡ []
+  unfolding flushed
+  flushed-none h = rw (le-ltb 56 (held .width + f .width) h)
 
--- one item more
-pub passed-over : (P : Pen) (n : ℕ) → P .down ≡ false → Steady P → PassesOver P n (record { down = false; items = P .items; at = P .at + n; width = P .width; value = P .value })
-passed-over P n d h =
-    let Q : Pen = record { down = false; items = P .items; at = P .at + n; width = P .width; value = P .value } in
+  pub flushed-all : 56 < held .width + f .width → flushed held f ≡ fieldBits held
+  unfolding flushed
+  flushed-all h = rw (lt-ltb 56 (held .width + f .width) h)
+
+-- ---- a pen that has put nothing
+
+pub fresh-is : (down : Bool) → isDown (fresh down) ≡ down
+fresh-is true = refl
+fresh-is false = refl
+
+pub fresh-few : (down : Bool) → fresh down .count ≤ 1
+fresh-few true = omega arith
+fresh-few false = omega arith
+
+-- a field that was written
+pub once-down : (buf after : List ℕ) (P : Pen) (f : Field) (q : ℕ) → isDown P ≡ true → Wrote buf after (P .at) q (fieldBits f) → Adds buf after P (record { count = P .count; at = q }) 0 (fieldBits f)
+once-down buf after P f q d w =
     record {
-      adds = λ buf bs e. record {
-        same = sym d;
-        items = omega arith;
-        steady = record { few = h .few; most = h .most };
-        penned = penned-as d (record { next = omega (arith, e); holds = shown-up buf Q refl ∙ sym (shown-up buf P d) });
-      };
+      items = omega arith;
+      penned = subst (λ b. Penned b buf after (P .at) q (fieldBits f)) (sym d) (record { next = w .next; holds = w .holds });
     }
 
-pub counted-is : (P : Pen) → Steady P → Counted P (record { down = P .down; items = P .items + 1; at = P .at; width = P .width; value = P .value })
-unfolding shown put
-counted-is P h =
-    let Q : Pen = record { down = P .down; items = P .items + 1; at = P .at; width = P .width; value = P .value } in
-    record {
-      adds = λ buf. record {
-        same = refl;
-        items = refl;
-        steady = record { few = h .few; most = h .most };
-        penned = penned-none (P .down) (shown buf P) (endOf P);
-      };
-    }
-
--- what is held back is written
-pub room-finish : (buf : List ℕ) (P : Pen) → RoomFor buf P 0 [] → Room (P .down) buf (P .at) (P .width) (P .value)
-room-finish buf P room = record {
-  few = room .steady .few;
-  most = room .steady .most;
-  fits = λ d. omega (arith, room .fits d);
-  small = omega (arith, room .small);
+-- bits that are passed over
+pub passed-over : (P : Pen) (n : ℕ) → isDown P ≡ false → PassesOver P n (record { count = P .count; at = P .at + n })
+passed-over P n d = record {
+  adds = λ buf bs e. record {
+    items = omega arith;
+    penned = subst (λ b. Penned b buf buf (P .at) (P .at + n) bs) (sym d) (record { next = omega (arith, e); holds = refl });
+  };
 }
 
-pub finish-is : (buf after : List ℕ) (P : Pen) (q : ℕ) → Penned (P .down) buf after (P .at) q (toBits (P .width) (P .value)) → Finished buf after P q
-unfolding shown
-finish-is buf after P q w = record { next = omega (arith, w .next, length-toBits (P .width) (P .value)); holds = w .holds }
+-- one item more
+pub counted-is : (P : Pen) → Counted P (record { count = P .count + 2; at = P .at })
+counted-is P = record { adds = λ buf. record { items = omega arith; penned = penned-none (isDown P) buf (P .at) } }
 
 -- ---- 16 bits at a time
 

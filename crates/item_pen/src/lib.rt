@@ -1,13 +1,13 @@
 // A pen over lent bytes. Down, it writes bits; up, it only counts them: what counts a schedule's bits is what writes them.
 use bits::Cursor;
 ghost use mathlib.Core.Bool.{false};
-ghost use mathlib.Core.List.{[], _++_};
+ghost use mathlib.Core.List.{_++_};
 ghost use mathlib.Core.Path.{_≡_};
 ghost use Prim.Native.Nat.{_+_, _*_, _/_, _^_, _≤_, _<_};
 ghost use lib.ListN.{length, drop};
 ghost use Rattle.definitions.specs.Bits.{toBits, bitsOf, num};
-ghost use Rattle.bits.specs.Writing.{put};
-ghost use Rattle.item_pen.specs.Pen.{Holds, fieldBits, Full, Merged, Room, Penned, endOf, Steady, RoomFor, Adds, Counted, PassesOver, Finished};
+ghost use Rattle.bits.specs.Writing.{put, Wrote};
+ghost use Rattle.item_pen.specs.Pen.{Holds, fieldBits, Full, Merged, Room, Penned, isDown, fresh, RoomFor, Adds, Counted, PassesOver, flushed, TakesIn};
 
 // Bits that are made before they are written: the last `width` bits of a number that has no others.
 pub struct Field {
@@ -15,13 +15,10 @@ pub struct Field {
     pub value: u64,
 }
 
-// How many items it has put, where the next bit that it writes goes, and the bits that it holds back to write several fields at once.
+// Where the next bit goes, and twice the number of items that were put, one more where the pen is down: two numbers, so that a pen is handed on in registers.
 pub struct Pen {
-    pub down: bool,
-    pub items: usize,
+    pub count: usize,
     pub at: usize,
-    pub width: usize,
-    pub value: u64,
 }
 
 // A number in n bits (FORMAT 2.1).
@@ -121,10 +118,10 @@ fn put_wide(buf: &mut [u8], at: usize, n: usize, v: u64)
     put_eight(buf, i, merged(old, at % 8, n, v));
 }
 
-// The same near the end of the bytes, 16 bits at a time.
-fn put_near(buf: &mut [u8], at: usize, n: usize, v: u64)
+// The same near the end of the bytes, and for what is written once, 16 bits at a time. The answer is the bit behind them.
+fn put_near(buf: &mut [u8], at: usize, n: usize, v: u64) -> usize
     requires { ⌜ (n ≤ 56) × (at + n ≤ 8 * length (now buf)) × (at + n < 2 ^ 64) ⌝ }
-    ensures { λ _. ⌜ now (buf .exit) ≡ put (now (buf .entry)) at (toBits n v) ⌝ }
+    ensures { λ r. ⌜ Wrote (now (buf .entry)) (now (buf .exit)) at r (toBits n v) ⌝ }
 {
     let mut c = Cursor { at: at };
     let mut left = n;
@@ -132,22 +129,23 @@ fn put_near(buf: &mut [u8], at: usize, n: usize, v: u64)
         left -= 16;
         c = c.write(buf, 16, (v >> left) as usize);
     }
-    c.write(buf, left, v as usize);
+    let end = c.write(buf, left, v as usize);
+    end.at
 }
 
-// The n bits of v at bit `at`, and zeros to the end of the byte that the last of them is in. No other byte is touched.
-fn put_bits(buf: &mut [u8], at: usize, n: usize, v: u64)
+// The n bits of v at bit `at`, and zeros to the end of the byte that the last of them is in. No other byte is touched. The answer is the bit behind them.
+fn put_bits(buf: &mut [u8], at: usize, n: usize, v: u64) -> usize
     requires { ⌜ (n ≤ 56) × (v < 2 ^ n) × (at + n ≤ 8 * length (now buf)) × (at + n < 2 ^ 64) ⌝ }
-    ensures { λ _. ⌜ now (buf .exit) ≡ put (now (buf .entry)) at (toBits n v) ⌝ }
+    ensures { λ r. ⌜ Wrote (now (buf .entry)) (now (buf .exit)) at r (toBits n v) ⌝ }
 {
     if n == 0 {
-        return;
+        return at;
     }
     if buf.len() < at / 8 + 8 {
-        put_near(buf, at, n, v);
-        return;
+        return put_near(buf, at, n, v);
     }
     put_wide(buf, at, n, v);
+    at + n
 }
 
 // With the pen down the n bits of v go to bit `at`, and zeros to the end of their last byte; with the pen up nothing is touched. The answer is the bit behind them.
@@ -158,76 +156,109 @@ pub fn put(buf: &mut [u8], at: usize, down: bool, n: usize, v: u64) -> usize
     if !down {
         return at + n;
     }
-    put_bits(buf, at, n, v);
-    at + n
+    put_bits(buf, at, n, v)
 }
 
-// One more field. What the pen holds back is written where the field finds no room beside it.
+// Whether the pen is down.
+pub fn is_down(pen: Pen) -> bool
+    ensures { λ r. ⌜ r ≡ isDown pen ⌝ }
+{
+    pen.count % 2 == 1
+}
+
+// A pen that has put a first field, at the first bit.
+pub fn begin(buf: &mut [u8], down: bool, f: Field) -> Pen
+    requires { ⌜ Full f ⌝ }
+    requires { ⌜ RoomFor (now buf) (fresh down) 0 (fieldBits f) ⌝ }
+    ensures { λ r. ⌜ Adds (now (buf .entry)) (now (buf .exit)) (fresh down) r 0 (fieldBits f) ⌝ }
+{
+    if !down {
+        return Pen {
+            count: 0,
+            at: f.width,
+        };
+    }
+    put_near(buf, 0, f.width, f.value);
+    Pen {
+        count: 1,
+        at: f.width,
+    }
+}
+
+// One more field.
 pub fn add(buf: &mut [u8], pen: Pen, f: Field) -> Pen
     requires { ⌜ Full f ⌝ }
     requires { ⌜ RoomFor (now buf) pen 0 (fieldBits f) ⌝ }
     ensures { λ r. ⌜ Adds (now (buf .entry)) (now (buf .exit)) pen r 0 (fieldBits f) ⌝ }
 {
-    if !pen.down {
-        return Pen {
-            down: false,
-            items: pen.items,
-            at: pen.at + f.width,
-            width: pen.width,
-            value: pen.value,
-        };
-    }
-    if pen.width + f.width <= 56 {
-        return Pen {
-            down: true,
-            items: pen.items,
-            at: pen.at,
-            width: pen.width + f.width,
-            value: (pen.value << f.width) + f.value,
-        };
-    }
-    let at = put(buf, pen.at, true, pen.width, pen.value);
+    let at = put(buf, pen.at, pen.count % 2 == 1, f.width, f.value);
     Pen {
-        down: true,
-        items: pen.items,
+        count: pen.count,
         at: at,
-        width: f.width,
-        value: f.value,
     }
+}
+
+// One more field, one that a listing has once.
+pub fn add_once(buf: &mut [u8], pen: Pen, f: Field) -> Pen
+    requires { ⌜ Full f ⌝ }
+    requires { ⌜ RoomFor (now buf) pen 0 (fieldBits f) ⌝ }
+    ensures { λ r. ⌜ Adds (now (buf .entry)) (now (buf .exit)) pen r 0 (fieldBits f) ⌝ }
+{
+    if !is_down(pen) {
+        return pass_over(pen, f.width);
+    }
+    let at = put_near(buf, pen.at, f.width, f.value);
+    Pen {
+        count: pen.count,
+        at: at,
+    }
+}
+
+// Fields are held back to be written together. What is held is written where a field finds no room beside it.
+pub fn make_room(buf: &mut [u8], pen: Pen, held: Field, f: Field) -> Pen
+    requires { ⌜ Full held × Full f ⌝ }
+    requires { ⌜ RoomFor (now buf) pen 0 (flushed held f) ⌝ }
+    ensures { λ r. ⌜ Adds (now (buf .entry)) (now (buf .exit)) pen r 0 (flushed held f) ⌝ }
+{
+    if held.width + f.width <= 56 {
+        return pen;
+    }
+    let at = put(buf, pen.at, pen.count % 2 == 1, held.width, held.value);
+    Pen {
+        count: pen.count,
+        at: at,
+    }
+}
+
+// What is held then.
+pub fn take_in(held: Field, f: Field) -> Field
+    requires { ⌜ Full held × Full f ⌝ }
+    ensures { λ r. ⌜ TakesIn held f r ⌝ }
+{
+    if held.width + f.width <= 56 {
+        return join(held, f);
+    }
+    f
 }
 
 // One more item.
 pub fn counted(pen: Pen) -> Pen
-    requires { ⌜ (pen .items + 1 < 2 ^ 64) × Steady pen ⌝ }
+    requires { ⌜ pen .count + 2 < 2 ^ 64 ⌝ }
     ensures { λ r. ⌜ Counted pen r ⌝ }
 {
     Pen {
-        down: pen.down,
-        items: pen.items + 1,
+        count: pen.count + 2,
         at: pen.at,
-        width: pen.width,
-        value: pen.value,
     }
 }
 
 // With the pen up: n bits that are not even made.
 pub fn pass_over(pen: Pen, n: usize) -> Pen
-    requires { ⌜ (pen .down ≡ false) × Steady pen × (endOf pen + n < 2 ^ 64) ⌝ }
+    requires { ⌜ (isDown pen ≡ false) × (pen .at + n < 2 ^ 64) ⌝ }
     ensures { λ r. ⌜ PassesOver pen n r ⌝ }
 {
     Pen {
-        down: false,
-        items: pen.items,
+        count: pen.count,
         at: pen.at + n,
-        width: pen.width,
-        value: pen.value,
     }
-}
-
-// What the pen holds back is written.
-pub fn finish(buf: &mut [u8], pen: Pen) -> usize
-    requires { ⌜ RoomFor (now buf) pen 0 [] ⌝ }
-    ensures { λ r. ⌜ Finished (now (buf .entry)) (now (buf .exit)) pen r ⌝ }
-{
-    put(buf, pen.at, pen.down, pen.width, pen.value)
 }

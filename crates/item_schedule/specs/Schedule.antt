@@ -16,7 +16,6 @@ use Rattle.order_listing.specs.Listing.{Listing}
 use Rattle.order_listing.specs.declared.Listed.{Listed}
 use Rattle.catalogue.specs.Catalogue.{Catalogued}
 use Rattle.item_pen.specs.Pen.{joined, Penned}
-use Rattle.item_pen.specs.declared.Pen.{Pen}
 use Rattle.order_listing.specs.Order.{namesIn, namesBits, Placed}
 use Rattle.item_writer.specs.Items.{Sound, WordsAre, allItems}
 use Rattle.item_schedule.specs.declared.Pass.{Pass}
@@ -29,10 +28,6 @@ bitsIn t order n items = toBits 7 n ++ (namesBits t order n ++ (toBits 16 items 
 
 -- ---- one pass
 
--- A pen that has put nothing.
-abbrev pub fresh : Bool → Pen
-fresh down = record { down = down; items = 0; at = 0; width = 0; value = 0 }
-
 -- What a pass asks: a table and an order that the code can read, and room where the pen is down.
 pub record Passable (down : Bool) (buf t words order : List ℕ) (n items : ℕ) : Type 0 where
   pub sound : Sound t
@@ -40,7 +35,7 @@ pub record Passable (down : Bool) (buf t words order : List ℕ) (n items : ℕ)
   pub placed : Placed order n
   pub fits : down ≡ true → length (bitsIn t order n items) ≤ 8 * length buf
   pub small : length (bitsIn t order n items) < 2 ^ 64
-  pub few : length (allItems t) < 2 ^ 64
+  pub few : length (allItems t) < 2 ^ 32
 
 -- What it answers: how many items there are, and the bits, counted or written.
 pub record Passed (down : Bool) (before after t order : List ℕ) (n items : ℕ) (r : Pass) : Type 0 where

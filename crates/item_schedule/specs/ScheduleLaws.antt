@@ -1,7 +1,7 @@
 -- What the passes write is the schedule of the sheet.
-use mathlib.Core.Bool.{Bool, true, false, cond}
-use mathlib.Core.List.{List, [], _++_, map, append-assoc}
-use mathlib.Core.Path.{_≡_, refl, sym, ap, ap₂, _∙_, subst}
+use mathlib.Core.Bool.{Bool, true, false}
+use mathlib.Core.List.{List, _++_, map, append-assoc}
+use mathlib.Core.Path.{_≡_, sym, ap, ap₂, _∙_, subst}
 use Prim.Native.Nat.{ℕ, _+_, _/_, _≤_, _<_}
 use native.Mathlib.Omega.{arith}
 use borrow.Author.Tests.{lt-ltb, le-ltb}
@@ -26,8 +26,8 @@ use Rattle.line_laws.specs.Size.{schedule-at-most}
 use Rattle.catalogue.specs.Catalogue.{Catalogued}
 use Rattle.law_classes.specs.ItemLaws.{items-by-sets}
 use Rattle.item_pen.specs.declared.Pen.{Pen}
-use Rattle.item_pen.specs.Pen.{joined, shown, RoomFor, Adds, Finished, RoomForAll, AddsAll}
-use Rattle.item_pen.specs.PenLaws.{adds-long, adds-then, room-head, room-tail}
+use Rattle.item_pen.specs.Pen.{joined, fresh, Penned, RoomFor, Adds, RoomForAll, AddsAll}
+use Rattle.item_pen.specs.PenLaws.{adds-then, fresh-is, fresh-few, room-head, room-tail}
 use Rattle.item_writer.specs.Items.{allItems, Cleared, WordsAre}
 use Rattle.item_writer.specs.SheetItems.{sound, items-are}
 use Rattle.rows.specs.Rows.{hasBit}
@@ -37,24 +37,11 @@ use Rattle.order_listing.specs.ListingLaws.{wrote-overwrite}
 use Rattle.order_listing.specs.OrderLaws.{placed-of, names-are}
 use Rattle.order_listing.specs.Order.{nameOf, namesIn, namesBits}
 use Rattle.item_schedule.specs.declared.Pass.{Pass}
-use Rattle.item_schedule.specs.Schedule.{bitsIn, fresh, Passable, Passed, Orderly, ListsSchedule}
+use Rattle.item_schedule.specs.Schedule.{bitsIn, Passable, Passed, Orderly, ListsSchedule}
 
 -- ---- one pass, part by part
 
--- a pen that has put nothing shows the bytes as they are
-fresh-shown : (down : Bool) (buf : List ℕ) → shown buf (fresh down) ≡ buf
-unfolding shown put toBits
-fresh-shown true buf = refl
-fresh-shown false buf = refl
-
--- what is added finds room to be written
-pub room-done : {a b : List ℕ} {P Q : Pen} {k : ℕ} {xs : List Bool} → Adds a b P Q k xs → RoomFor a P k xs → RoomFor b Q 0 []
-room-done {a} {b} {P} {Q} {k} {xs} w r =
-    let n = adds-long w in
-    let o = w .penned .next in
-    record { steady = w .steady; fits = λ d. omega (arith, r .fits (sym (w .same) ∙ d)); small = omega (arith, r .small); few = omega (arith, r .few, w .items) }
-
-module _ (down : Bool) (buf t words order : List ℕ) (n items : ℕ) (h : Passable down buf t words order n items) (P : Pen) (e : P ≡ fresh down) where
+module _ (down : Bool) (buf t words order : List ℕ) (n items : ℕ) (h : Passable down buf t words order n items) where
   abbrev m : ℕ
   m = length (allItems t)
 
@@ -70,21 +57,20 @@ module _ (down : Bool) (buf t words order : List ℕ) (n items : ℕ) (h : Passa
   behindNames = toBits 16 items ++ joined (allItems t)
 
   abbrev pub Whole : Type 0
-  Whole = RoomFor buf P (0 + (0 + (0 + m))) (typesBits ++ behindTypes)
+  Whole = RoomFor buf (fresh down) (0 + (0 + (0 + m))) (typesBits ++ behindTypes)
 
   pub whole : Whole
   unfolding bitsIn
-  whole = subst (λ (Q : Pen). RoomFor buf Q (0 + (0 + (0 + m))) (typesBits ++ behindTypes)) (sym e) (record {
-    steady = record { few = omega arith; most = omega arith };
-    fits = λ d. omega (arith, h .fits d);
+  whole = record {
+    fits = λ d. omega (arith, h .fits (sym (fresh-is down) ∙ d));
     small = omega (arith, h .small);
-    few = omega (arith, h .few);
-  })
+    few = omega (arith, h .few, fresh-few down);
+  }
 
-  pub for-types : RoomFor buf P 0 typesBits
+  pub for-types : RoomFor buf (fresh down) 0 typesBits
   for-types = room-head 0 (0 + (0 + m)) typesBits behindTypes whole
 
-  module _ {b₁ : List ℕ} {P₁ : Pen} (w₁ : Adds buf b₁ P P₁ 0 typesBits) where
+  module _ {b₁ : List ℕ} {P₁ : Pen} (w₁ : Adds buf b₁ (fresh down) P₁ 0 typesBits) where
     r₁ : RoomFor b₁ P₁ (0 + (0 + m)) behindTypes
     r₁ = room-tail 0 (0 + (0 + m)) typesBits behindTypes w₁ whole
 
@@ -103,24 +89,15 @@ module _ (down : Bool) (buf t words order : List ℕ) (n items : ℕ) (h : Passa
         for-items = room-tail 0 m (toBits 16 items) (joined (allItems t)) w₃ r₂
 
         module _ {b₄ : List ℕ} {P₄ : Pen} (w₄ : AddsAll b₃ b₄ P₃ P₄ (allItems t)) where
-          added : Adds buf b₄ P P₄ (0 + (0 + (0 + m))) (typesBits ++ behindTypes)
+          added : Adds buf b₄ (fresh down) P₄ (0 + (0 + (0 + m))) (typesBits ++ behindTypes)
           added = adds-then w₁ (adds-then w₂ (adds-then w₃ w₄))
 
-          pub for-none : RoomFor b₄ P₄ 0 []
-          for-none = room-done added whole
-
-          pub passed : (exit : List ℕ) (q : ℕ) → Finished b₄ exit P₄ q → Passed down buf exit t order n items (record { items = P₄ .items; bits = q })
+          pub passed : Passed down buf b₄ t order n items (record { items = P₄ .count / 2; bits = P₄ .at })
           unfolding bitsIn
-          passed exit q f =
-              let bs = typesBits ++ behindTypes in
-              let v : Adds buf b₄ (fresh down) P₄ (0 + (0 + (0 + m))) bs = subst (λ (Q : Pen). Adds buf b₄ Q P₄ (0 + (0 + (0 + m))) bs) e added in
-              record {
-                counted = omega (arith, v .items);
-                penned = record {
-                  next = f .next ∙ v .penned .next;
-                  holds = f .holds ∙ v .penned .holds ∙ ap (λ (b : List ℕ). cond down (put b 0 bs) b) (fresh-shown down buf);
-                };
-              }
+          passed = record {
+            counted = omega (arith, added .items, fresh-few down);
+            penned = subst (λ d. Penned d buf b₄ 0 (P₄ .at) (typesBits ++ behindTypes)) (fresh-is down) (added .penned);
+          }
 
 -- ---- the numbers of bits
 

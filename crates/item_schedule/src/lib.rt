@@ -1,26 +1,11 @@
 // The schedule of a map, out of its catalogue and its order. One function counts its bits and writes them (FORMAT 6.1).
-use item_pen::Pen;
 use order_listing::Listed;
-ghost use mathlib.Core.Path.{_≡_};
-ghost use Rattle.item_schedule.specs.Schedule.{fresh, Passable, Passed, Schedulable, ListsSchedule};
+ghost use Rattle.item_schedule.specs.Schedule.{Passable, Passed, Schedulable, ListsSchedule};
 
 // What a pass comes to: how many items there are, and how many bits.
 struct Pass {
     items: usize,
     bits: usize,
-}
-
-// A pen that has put nothing.
-fn start(down: bool) -> Pen
-    ensures { λ r. ⌜ r ≡ fresh down ⌝ }
-{
-    Pen {
-        down: down,
-        items: 0,
-        at: 0,
-        width: 0,
-        value: 0,
-    }
 }
 
 // Counts the schedule, or writes it from the first bit on: the number of types, their names in order, the number of items, the items. `items` is that number.
@@ -36,14 +21,13 @@ fn add_all(
     requires { ⌜ Passable down (now buf) (now t) (now words) (now order) n items ⌝ }
     ensures { λ r. ⌜ Passed down (now (buf .entry)) (now (buf .exit)) (now (t .entry)) (now (order .entry)) n items r ⌝ }
 {
-    let types = item_pen::add(buf, start(down), item_pen::number(7, n as u64));
+    let types = item_pen::begin(buf, down, item_pen::number(7, n as u64));
     let names = order_listing::add_names(buf, types, t, order, n);
-    let count = item_pen::add(buf, names, item_pen::number(16, items as u64));
+    let count = item_pen::add_once(buf, names, item_pen::number(16, items as u64));
     let all = item_writer::add_items(buf, count, t, words);
-    let bits = item_pen::finish(buf, all);
     Pass {
-        items: all.items,
-        bits,
+        items: all.count / 2,
+        bits: all.at,
     }
 }
 

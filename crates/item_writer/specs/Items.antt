@@ -98,6 +98,10 @@ allItems t = each (typeItems t) (tabulate (λ a. a) (countIn t))
 pub record PassingIs (t : List ℕ) (parents mask r : ℕ) : Type 0 where
   pub bits : (p : ℕ) → hasBit r p ≡ passes t parents mask p
 
+-- What all types of a set pass on; it may be less.
+pub record CommonIs (t : List ℕ) (types r : ℕ) : Type 0 where
+  pub each : (p : ℕ) → hasBit types p ≡ true → (j : ℕ) → hasBit r j ≡ true → hasBit (passedAt t p) j ≡ true
+
 -- The records with one more, if it has the key.
 pub record WithRecord (t : List ℕ) (records e key r : ℕ) : Type 0 where
   pub bits : (i : ℕ) → hasBit r i ≡ (hasBit records i || (eqb e i && eqb (extensionKeyAt t e) key))

@@ -6,7 +6,7 @@ use Prim.Native.Nat.{ℕ, zero, suc, _+_, _*_, _-_, _/_, _%_, _^_, _≤_, _<_}
 use native.Mathlib.Decide.{decLt}
 use native.Mathlib.Omega.{arith}
 use borrow.Author.Tests.{eq-eqb, ne-eqb, eqb-true, eqb-false, lt-ltb, le-ltb, ltb-true, ltb-false}
-use lib.Bits.{bitAnd, bitOr, bitXor, and-le-l}
+use lib.Bits.{bitAnd, bitOr, and-le-l}
 use lib.Dec.{eqb, ltb}
 use lib.ListN.{length, getD, drop, set, replicate, length-set}
 use lib.Seq.{getD-set-same, getD-set-other}
@@ -16,21 +16,22 @@ use Rattle.lists.specs.Tabulating.{tabulate}
 use Rattle.lists.specs.Places.{zero-at}
 use Rattle.definitions.specs.Records.{Name}
 use Rattle.definitions.specs.Comparisons.{dotted}
-use Rattle.ordering.specs.Lists.{only, below, below-same, below-none, below-one}
+use Rattle.ordering.specs.Lists.{only, below, below-same, below-one}
 use Rattle.rows.specs.Rows.{bit, hasBit}
-use Rattle.rows.specs.RowLaws.{bit-either, bit-without, bit-one, bit-none, bit-is, one-shifted}
+use Rattle.rows.specs.RowLaws.{bit-either, bit-one, bit-none, bit-is, one-shifted}
 use Rattle.law_classes.specs.Numbers.{bit-both, some-bit}
 use Rattle.law_classes.specs.SetLaws.{below-of, in-below}
 use Rattle.catalogue.specs.Layout.{keyAt, headAt, parentsAt, ownAt, aboveAt, passedAt, wordAt, maskAt, extensionKeyAt}
-use Rattle.catalogue.specs.Layout.{countIn, wordsIn, extensionsIn, extendedIn, resourceIn, secondAt}
+use Rattle.catalogue.specs.Layout.{countIn, wordsIn, extensionsIn, extendedIn, resourceIn}
 use Rattle.catalogue.specs.Catalogue.{addedIn, parentsIn}
 use Rattle.bitsets.specs.Bitsets.{Lowest, Rest}
 use Rattle.item_spread.specs.Spread.{United, WithIf}
 use Rattle.item_fields.specs.Fields.{lineBits}
 use Rattle.item_making.specs.Making.{members, nameIn, firstIn, classesOf, added, parentsOf, makingBits, madeBits}
 use Rattle.item_making.specs.Walks.{members-next, members-none, from-next, from-end}
+use Rattle.item_making.specs.MakingLaws.{classes-alone}
 use Rattle.item_writer.specs.declared.Site.{Site}
-use Rattle.item_writer.specs.Items.{Sound, some, passes, passingIn, addedFor, ownBits, inheritedBits, RecordsAre, ownItems, inheritedItems, wordItems, makes, typeItems, allItems, PassingIs, WithRecord, WordsFill, Cleared, WordsAre}
+use Rattle.item_writer.specs.Items.{Sound, some, passes, passingIn, addedFor, ownBits, inheritedBits, RecordsAre, ownItems, inheritedItems, wordItems, makes, typeItems, allItems, PassingIs, CommonIs, WithRecord, WordsFill, Cleared, WordsAre}
 
 -- ---- sets
 
@@ -49,24 +50,7 @@ members-one c h = below-same (hasBit (2 ^ c)) (λ x. eqb c x) 64 (λ x l. bit-on
 
 -- a set of one class is in order, whatever its dom
 pub classes-one : (t : List ℕ) (c : ℕ) → c < 64 → classesOf t (2 ^ c) ≡ c ∷ []
-unfolding classesOf members
-classes-one t c h =
-    let S = secondAt t 0 in
-    let x = 2 ^ c in
-    let in-it : (j : ℕ) → hasBit (bitAnd x S) j ≡ (eqb c j && hasBit S j) = λ j. bit-both x S j ∙ ap (λ b. b && hasBit S j) (bit-one c j) in
-    let out : (j : ℕ) → hasBit (bitXor x (bitAnd x S)) j ≡ (eqb c j && not (hasBit S j)) = λ j. bit-without x S j ∙ ap (λ b. b && not (hasBit S j)) (bit-one c j) in
-    let at : (b : Bool) (j : ℕ) → hasBit S c ≡ b → (eqb c j && hasBit S j) ≡ (eqb c j && b) =
-    λ b j e. by (eqb c j) (λ q. rw q (ap (hasBit S) (sym (eqb-true c j q)) ∙ e)) (λ q. rw q) in
-    by (hasBit S c)
-    (λ e.
-    ap₂ (λ (a b : List ℕ). a ++ b)
-    (below-same (hasBit (bitAnd x S)) (λ j. eqb c j) 64 (λ j l. in-it j ∙ at true j e ∙ and-true (eqb c j)) ∙ below-one 64 c h)
-    (below-none (hasBit (bitXor x (bitAnd x S))) 64 (λ j l. out j ∙ by (eqb c j) (λ q. rw q (ap (λ k. not (hasBit S k)) (sym (eqb-true c j q)) ∙ ap not e)) (λ q. rw q))))
-    (λ e.
-    ap₂ (λ (a b : List ℕ). a ++ b)
-    (below-none (hasBit (bitAnd x S)) 64 (λ j l. in-it j ∙ at false j e ∙ and-false (eqb c j)))
-    (below-same (hasBit (bitXor x (bitAnd x S))) (λ j. eqb c j) 64
-    (λ j l. out j ∙ by (eqb c j) (λ q. rw q (ap (λ k. not (hasBit S k)) (sym (eqb-true c j q)) ∙ ap not e)) (λ q. rw q)) ∙ below-one 64 c h))
+classes-one t c h = classes-alone t (2 ^ c) c h (bit-one c)
 
 -- ---- the parents that pass a class on
 
@@ -100,6 +84,42 @@ passing-all t parents mask out left e h =
           ∙ ap (λ b. hasBit out p || (b && some (bitAnd (passedAt t p) mask))) (sym (ap (λ (x : ℕ). hasBit x p) e ∙ bit-none p))
           ∙ h .bits p;
     }
+
+-- what all that are gone through pass on
+pub record CommonTo (t : List ℕ) (types out left : ℕ) : Type 0 where
+  pub each : (p : ℕ) → hasBit types p ≡ true → hasBit left p ≡ false → (j : ℕ) → hasBit out j ≡ true → hasBit (passedAt t p) j ≡ true
+
+pub common-none : (t : List ℕ) (types out : ℕ) → CommonTo t types out types
+common-none t types out = record { each = λ p h n. never h n }
+
+pub common-more : (t : List ℕ) (types out left k r x : ℕ) → Lowest left k → Rest left r → x ≡ passedAt t k → CommonTo t types out left → CommonTo t types (bitAnd out x) r
+common-more t types out left k r x w d e h =
+    record {
+      each = λ p i n j b.
+          let both = sym (bit-both out x j) ∙ b in
+          by (eqb p k)
+          (λ q. ap (λ (y : ℕ). hasBit (passedAt t y) j) (eqb-true p k q) ∙ ap (λ (y : ℕ). hasBit y j) (sym e) ∙ and-right (hasBit out j) (hasBit x j) both)
+          (λ q. h .each p i (sym (and-true (hasBit left p)) ∙ ap (λ b. hasBit left p && b) (sym (ap not q)) ∙ sym (d .bits k w p) ∙ n) j (and-left (hasBit out j) (hasBit x j) both));
+    }
+
+pub common-all : (t : List ℕ) (types out left : ℕ) → left ≡ 0 → CommonTo t types out left → CommonIs t types out
+common-all t types out left e h = record { each = λ p i. h .each p i (ap (λ (x : ℕ). hasBit x p) e ∙ bit-none p) }
+
+-- where all pass a class of the mask on, each does
+pub all-pass : (t : List ℕ) (parents mask common : ℕ) → common < 2 ^ 64 → CommonIs t parents common → (bitAnd common mask ≡ 0 → ⊥) → PassingIs t parents mask parents
+unfolding hasBit
+all-pass t parents mask common small c n =
+    let x = bitAnd common mask in
+    let b = some-bit 64 x (omega (arith, and-le-l common mask)) n in
+    let there : hasBit x (b .0) ≡ true = eq-eqb _ _ (b .2) in
+    let both = sym (bit-both common mask (b .0)) ∙ there in
+    let meets : (p : ℕ) → hasBit parents p ≡ true → some (bitAnd (passedAt t p) mask) ≡ true =
+    λ p i.
+    let y = bitAnd (passedAt t p) mask in
+    let in-y : hasBit y (b .0) ≡ true =
+    bit-both (passedAt t p) mask (b .0) ∙ and-both (c .each p i (b .0) (and-left (hasBit common (b .0)) (hasBit mask (b .0)) both)) (and-right (hasBit common (b .0)) (hasBit mask (b .0)) both) in
+    ap not (ne-eqb y 0 (λ e. never in-y (ap (λ (z : ℕ). hasBit z (b .0)) e ∙ bit-none (b .0)))) in
+    record { bits = λ p. by (hasBit parents p) (λ i. i ∙ sym (ap₂ (λ a b. a && b) i (meets p i))) (λ i. i ∙ sym (ap (λ a. a && some (bitAnd (passedAt t p) mask)) i)) }
 
 -- ---- the records of a type and a word
 

@@ -5,9 +5,9 @@ ghost use mathlib.Core.List.{[]};
 ghost use mathlib.Core.Path.{_≡_};
 ghost use Prim.Native.Nat.{_≤_, _<_};
 ghost use lib.ListN.{length};
-ghost use Rattle.catalogue.specs.Layout.{countIn, wordsIn};
+ghost use Rattle.catalogue.specs.Layout.{parentsAt, countIn, wordsIn};
 ghost use Rattle.item_pen.specs.Pen.{RoomForAll, AddsAll};
-ghost use Rattle.item_writer.specs.Items.{Sound, PassingIs, WithRecord, RecordsAre, Sited, ownItems, inheritedItems, wordItems, typeItems, allItems};
+ghost use Rattle.item_writer.specs.Items.{Sound, PassingIs, CommonIs, WithRecord, RecordsAre, Sited, ownItems, inheritedItems, wordItems, typeItems, allItems};
 ghost use Rattle.item_writer.specs.Items.{WordsFill, Cleared, WordsAre};
 
 // A type and a word with a making, and the extension records for both.
@@ -29,6 +29,31 @@ fn passing(t: &[u64; 1544], parents: u64, mask: u64) -> u64
         left = bitsets::rest(left);
     }
     out
+}
+
+// What all types of a set pass on.
+fn common_of(t: &[u64; 1544], types: u64) -> u64
+    ensures { λ r. ⌜ CommonIs (now (t .entry)) types r ⌝ }
+{
+    let mut out: u64 = 18446744073709551615;
+    let mut left = types;
+    while left != 0 {
+        let p = bitsets::lowest(left);
+        out = out & catalogue::passed_at(t, p);
+        left = bitsets::rest(left);
+    }
+    out
+}
+
+// The parents that pass a class of the mask on: all of them where there is one that all pass on.
+fn passing_of(t: &[u64; 1544], parents: u64, mask: u64, common: u64) -> u64
+    requires { ⌜ CommonIs (now t) parents common ⌝ }
+    ensures { λ r. ⌜ PassingIs (now (t .entry)) parents mask r ⌝ }
+{
+    if common & mask != 0 {
+        return parents;
+    }
+    passing(t, parents, mask)
 }
 
 // The records, with the one at e if it has the key.
@@ -89,8 +114,15 @@ fn add_own(buf: &mut [u8], pen: Pen, t: &[u64; 1544], site: Site, own: u64) -> P
 }
 
 // The inherited resource of a type and a word, if there is a class from above (FORMAT 4.4).
-fn add_inherited(buf: &mut [u8], pen: Pen, t: &[u64; 1544], site: Site, mask: u64) -> Pen
-    requires { ⌜ Sited (now t) site ⌝ }
+fn add_inherited(
+    buf: &mut [u8],
+    pen: Pen,
+    t: &[u64; 1544],
+    site: Site,
+    mask: u64,
+    common: u64,
+) -> Pen
+    requires { ⌜ Sited (now t) site × CommonIs (now t) (parentsAt (now t) (site .place)) common ⌝ }
     requires { ⌜ RoomForAll (now buf) pen (inheritedItems (now t) site mask) ⌝ }
     ensures { λ r. ⌜ AddsAll (now (buf .entry)) (now (buf .exit)) pen r (inheritedItems (now (t .entry)) site mask) ⌝ }
 {
@@ -98,7 +130,7 @@ fn add_inherited(buf: &mut [u8], pen: Pen, t: &[u64; 1544], site: Site, mask: u6
     if classes == 0 {
         return pen;
     }
-    let firsts = passing(t, catalogue::parents_at(t, site.place), mask);
+    let firsts = passing_of(t, catalogue::parents_at(t, site.place), mask, common);
     let m = Making {
         word: site.word,
         records: site.records,
@@ -110,8 +142,8 @@ fn add_inherited(buf: &mut [u8], pen: Pen, t: &[u64; 1544], site: Site, mask: u6
 }
 
 // The items of a type and the k-th word: own resources, the inherited one, the extension line (FORMAT 5.3).
-fn add_word(buf: &mut [u8], pen: Pen, t: &[u64; 1544], a: usize, k: usize) -> Pen
-    requires { ⌜ Sound (now t) × (a < countIn (now t)) × (k < wordsIn (now t)) ⌝ }
+fn add_word(buf: &mut [u8], pen: Pen, t: &[u64; 1544], a: usize, k: usize, common: u64) -> Pen
+    requires { ⌜ Sound (now t) × (a < countIn (now t)) × (k < wordsIn (now t)) × CommonIs (now t) (parentsAt (now t) a) common ⌝ }
     requires { ⌜ RoomForAll (now buf) pen (wordItems (now t) a k) ⌝ }
     ensures { λ r. ⌜ AddsAll (now (buf .entry)) (now (buf .exit)) pen r (wordItems (now (t .entry)) a k) ⌝ }
 {
@@ -123,7 +155,7 @@ fn add_word(buf: &mut [u8], pen: Pen, t: &[u64; 1544], a: usize, k: usize) -> Pe
         records: records_of(t, a, word),
     };
     let to = add_own(buf, pen, t, site, catalogue::own_at(t, a) & mask);
-    let then = add_inherited(buf, to, t, site, mask);
+    let then = add_inherited(buf, to, t, site, mask, common);
     item_making::extension_line(buf, then, t, a, word)
 }
 
@@ -161,12 +193,13 @@ fn add_type(buf: &mut [u8], pen: Pen, t: &[u64; 1544], words: &[u64], a: usize) 
     requires { ⌜ RoomForAll (now buf) pen (typeItems (now t) a) ⌝ }
     ensures { λ r. ⌜ AddsAll (now (buf .entry)) (now (buf .exit)) pen r (typeItems (now (t .entry)) a) ⌝ }
 {
+    let common = common_of(t, catalogue::parents_at(t, a));
     let made = catalogue::own_at(t, a) | catalogue::above_at(t, a);
     let mut to = pen;
     let mut left = item_spread::united(made, words);
     while left != 0 {
         let k = bitsets::lowest(left);
-        to = add_word(buf, to, t, a, k);
+        to = add_word(buf, to, t, a, k, common);
         left = bitsets::rest(left);
     }
     to

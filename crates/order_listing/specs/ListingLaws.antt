@@ -1,7 +1,7 @@
 -- The names one by one, and the parts of what is written.
 use mathlib.Core.Bool.{Bool, true, false}
-use mathlib.Core.List.{List, [], _∷_, _++_, append-nil}
-use mathlib.Core.Path.{_≡_, refl, sym, ap, ap₂, _∙_, subst}
+use mathlib.Core.List.{List, [], _∷_, _++_}
+use mathlib.Core.Path.{_≡_, refl, sym, ap, ap₂, _∙_}
 use Prim.Native.Nat.{ℕ, zero, suc, _+_, _*_, _-_, _/_, _%_, _≤_, _<_}
 use native.Mathlib.Numerals.{add-one}
 use native.Mathlib.Omega.{arith}
@@ -20,11 +20,11 @@ use Rattle.bits.specs.WriteLaws.{length-put, put-pack}
 use Rattle.catalogue.specs.Layout.{keyAt}
 use Rattle.catalogue.specs.Catalogue.{nameOfKey}
 use Rattle.item_pen.specs.declared.Pen.{Pen}
-use Rattle.item_pen.specs.Pen.{shown, RoomFor, Adds, Finished}
-use Rattle.item_pen.specs.PenLaws.{adds-then, room-as, room-head, room-tail}
+use Rattle.item_pen.specs.Pen.{fresh, RoomFor, Adds}
+use Rattle.item_pen.specs.PenLaws.{adds-then, room-head, room-tail}
 use Rattle.item_fields.specs.FieldLaws.{name-alone, name-paired}
 use Rattle.item_making.specs.Walks.{from-next, from-end}
-use Rattle.order_listing.specs.Order.{fresh, nameOf, namesIn, namesBits, orderIn}
+use Rattle.order_listing.specs.Order.{nameOf, namesIn, namesBits, orderIn}
 
 -- the bits from the i-th name on
 abbrev pub namesFrom : List ℕ → List ℕ → ℕ → ℕ → List Bool
@@ -94,11 +94,6 @@ wrote-overwrite {a} {b} {q} {bs} w h = rw (length-packTo (size (length bs)) bs) 
 
 -- ---- all of it
 
--- a pen that has put nothing shows the bytes as they are
-fresh-shown : (buf : List ℕ) → shown buf fresh ≡ buf
-unfolding shown put toBits
-fresh-shown buf = refl
-
 pub order-parts : (t order : List ℕ) (n : ℕ) → orderIn t order n ≡ toBits 7 n ++ namesBits t order n
 unfolding orderIn orderBits namesBits namesIn
 order-parts t order n = ap (λ (k : ℕ). toBits 7 k ++ each nameBits (tabulate (nameOf t order) n)) (length-tabulate (nameOf t order) n)
@@ -106,34 +101,22 @@ order-parts t order n = ap (λ (k : ℕ). toBits 7 k ++ each nameBits (tabulate 
 pub order-long : (t order : List ℕ) (n : ℕ) → length (orderIn t order n) ≡ 7 + length (namesBits t order n)
 order-long t order n = ap length (order-parts t order n) ∙ length-append (toBits 7 n) (namesBits t order n) ∙ ap (λ (k : ℕ). k + length (namesBits t order n)) (length-toBits 7 n)
 
-module _ (buf t order : List ℕ) (n : ℕ) (small : n ≤ 64) (h : length (orderIn t order n) ≤ 8 * length buf) (P : Pen) (e : P ≡ fresh) where
-  room : RoomFor buf P 0 (toBits 7 n ++ namesBits t order n)
+module _ (buf t order : List ℕ) (n : ℕ) (small : n ≤ 64) (h : length (orderIn t order n) ≤ 8 * length buf) where
+  room : RoomFor buf (fresh true) 0 (toBits 7 n ++ namesBits t order n)
   room =
       let k : length (toBits 7 n ++ namesBits t order n) ≡ length (orderIn t order n) = ap length (sym (order-parts t order n)) in
-      subst (λ (Q : Pen). RoomFor buf Q 0 (toBits 7 n ++ namesBits t order n)) (sym e) (record {
-        steady = record { few = omega arith; most = omega arith };
-        fits = λ d. omega (arith, k, h);
-        small = omega (arith, k, order-long t order n, names-most t order n);
-        few = omega arith;
-      })
+      record { fits = λ d. omega (arith, k, h); small = omega (arith, k, order-long t order n, names-most t order n); few = omega arith }
 
-  pub room-types : RoomFor buf P 0 (toBits 7 n)
+  pub room-types : RoomFor buf (fresh true) 0 (toBits 7 n)
   room-types = room-head 0 0 (toBits 7 n) (namesBits t order n) room
 
-  module _ {b : List ℕ} {Q : Pen} (w : Adds buf b P Q 0 (toBits 7 n)) where
+  module _ {b : List ℕ} {Q : Pen} (w : Adds buf b (fresh true) Q 0 (toBits 7 n)) where
     pub room-names : RoomFor b Q 0 (namesBits t order n)
     room-names = room-tail 0 0 (toBits 7 n) (namesBits t order n) w room
 
     module _ {c : List ℕ} {R : Pen} (v : Adds b c Q R 0 (namesBits t order n)) where
-      pub room-none : RoomFor c R 0 []
-      room-none = room-tail 0 0 (namesBits t order n) [] v (room-as (sym (append-nil (namesBits t order n))) room-names)
-
-      pub wrote : {d : List ℕ} {q : ℕ} → Finished c d R q → Wrote buf d 0 q (orderIn t order n)
-      wrote {d} {q} f =
-          let bs = toBits 7 n ++ namesBits t order n in
-          let a : Adds buf c fresh R 0 bs = subst (λ (O : Pen). Adds buf c O R 0 bs) e (adds-then w v) in
-          let k : bs ≡ orderIn t order n = sym (order-parts t order n) in
-          record {
-            holds = f .holds ∙ a .penned .holds ∙ ap₂ (λ (x : List ℕ) (y : List Bool). put x 0 y) (fresh-shown buf) k;
-            next = f .next ∙ a .penned .next ∙ ap (λ (y : List Bool). 0 + length y) k;
-          }
+      pub wrote : Wrote buf c 0 (R .at) (orderIn t order n)
+      wrote =
+          let a = adds-then w v in
+          let k : toBits 7 n ++ namesBits t order n ≡ orderIn t order n = sym (order-parts t order n) in
+          record { holds = a .penned .holds ∙ ap (put buf 0) k; next = a .penned .next ∙ ap (λ (y : List Bool). 0 + length y) k }

@@ -1,5 +1,5 @@
 -- The names in the order, out of the catalogue, and their bits.
-use mathlib.Core.Bool.{Bool, true}
+use mathlib.Core.Bool.{Bool}
 use mathlib.Core.List.{List}
 use Prim.Native.Nat.{ℕ, _≤_, _<_}
 use lib.ListN.{getD}
@@ -9,11 +9,6 @@ use Rattle.definitions.specs.Records.{Name}
 use Rattle.definitions.specs.Packing.{nameBits, orderBits}
 use Rattle.catalogue.specs.Layout.{keyAt}
 use Rattle.catalogue.specs.Catalogue.{nameOfKey}
-use Rattle.item_pen.specs.declared.Pen.{Pen}
-
--- A pen that has put nothing.
-abbrev pub fresh : Pen
-fresh = record { down = true; items = 0; at = 0; width = 0; value = 0 }
 
 -- The name of the type at place i of the order.
 abbrev pub nameOf : List ℕ → List ℕ → ℕ → Name

@@ -8,25 +8,12 @@ ghost use Rattle.catalogue.specs.Catalogue.{nameOfKey};
 ghost use Rattle.bits.specs.Writing.{Wrote};
 ghost use Rattle.item_pen.specs.Pen.{RoomFor, Adds};
 ghost use Rattle.order_listing.specs.Listing.{Listing};
-ghost use Rattle.order_listing.specs.Order.{fresh, namesBits, orderIn, Placed};
+ghost use Rattle.order_listing.specs.Order.{namesBits, orderIn, Placed};
 
 // Whether the listing was too short, and the size of what the call writes (FORMAT 7.4).
 pub struct Listed {
     pub short: bool,
     pub size: usize,
-}
-
-// A pen that has put nothing.
-fn start() -> Pen
-    ensures { λ r. ⌜ r ≡ fresh ⌝ }
-{
-    Pen {
-        down: true,
-        items: 0,
-        at: 0,
-        width: 0,
-        value: 0,
-    }
 }
 
 // How many bits a name has (FORMAT 2.5).
@@ -76,9 +63,9 @@ fn write_bits(buf: &mut [u8], t: &[u64; 1544], order: &[u64; 64], n: usize) -> u
     requires { ⌜ length (orderIn (now t) (now order) n) ≤ 8 * length (now buf) ⌝ }
     ensures { λ r. ⌜ Wrote (now (buf .entry)) (now (buf .exit)) 0 r (orderIn (now (t .entry)) (now (order .entry)) n) ⌝ }
 {
-    let types = item_pen::add(buf, start(), item_pen::number(7, n as u64));
+    let types = item_pen::begin(buf, true, item_pen::number(7, n as u64));
     let names = add_names(buf, types, t, order, n);
-    item_pen::finish(buf, names)
+    names.at
 }
 
 // Writes the order and names its size. Nothing is touched where the listing is too short; then the size is what is needed (FORMAT 7.4).

@@ -16,7 +16,7 @@ abbrev μ-loop : tie.MeasureT-loop
 μ-loop buf₀ t set to₀ left₀ buf to left = left
 
 loop-holds : tie.Need-loop-holds Inv-loop μ-loop
-loop-holds c = pending-all _ _ 0 _ (c .before .pre .steady)
+loop-holds c = pending-all _ _ 0 _
 
 lowest-requires : tie.Need-lowest-requires Inv-loop μ-loop
 lowest-requires c κs = omega arith

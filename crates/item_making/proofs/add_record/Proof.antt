@@ -18,7 +18,7 @@ extension-count-at-requires : tie.Need-extension-count-at-requires Inv-loop μ-l
 extension-count-at-requires c κs = c .before .pre .0 .0
 
 loop-holds : tie.Need-loop-holds Inv-loop μ-loop
-loop-holds c = (omega arith, pending-all _ _ 0 _ (c .before .before .pre .1 .steady))
+loop-holds c = (omega arith, pending-all _ _ 0 _)
 
 mul-extension-parent-at : tie.Need-mul-extension-parent-at Inv-loop μ-loop
 mul-extension-parent-at c = omega (arith, c .before .before .before .before .pre .0 .0)

@@ -7,7 +7,7 @@ add-t2 : tie.Need-add-t2
 add-t2 c = search needs
 
 returns : tie.Need-returns
-returns c = counted-is (c .before .args .pen) (c .before .pre .1)
+returns c = counted-is (c .before .args .pen)
 
 pub counted-spec : {M : Type 1} → statement M
 counted-spec = tie.close (tie.spec add-t2 returns)

@@ -7,7 +7,7 @@ add-t3 : tie.Need-add-t3
 add-t3 c = search needs
 
 returns : tie.Need-returns
-returns c = passed-over (c .before .args .pen) (c .before .args .n) (c .before .pre .0) (c .before .pre .1)
+returns c = passed-over (c .before .args .pen) (c .before .args .n) (c .before .pre .0)
 
 pub pass-over-spec : {M : Type 1} → statement M
 pass-over-spec = tie.close (tie.spec add-t3 returns)

@@ -19,17 +19,14 @@ put-bits-requires c κs =
     let r = c .before .before .before .pre in
     (r .few, r .most, r .fits (not-false (c .before .before .before .args .down) (c .before .if1 .left)), r .small)
 
-add-result-2 : tie.Need-add-result-2
-add-result-2 c = search needs
-
 same-length : tie.Need-same-length
 same-length c = search needs
 
 returns-2 : tie.Need-returns-2
 returns-2 c =
     let a = c .before .before .before .before .before .before .args in
-    record { next = omega (arith, length-toBits (a .n) (a .v)); holds = rw (not-false (a .down) (c .before .before .before .before .if1 .left)) (c .before .before .put-bits .ensures) }
+    let w = c .before .before .put-bits .ensures in
+    record { next = w .next; holds = rw (not-false (a .down) (c .before .before .before .before .if1 .left)) (w .holds) }
 
 pub put-spec : {M : Type 1} → statement M
-put-spec =
-    tie.close (tie.spec add-result returns put-bits-requires add-result-2 same-length returns-2)
+put-spec = tie.close (tie.spec add-result returns put-bits-requires same-length returns-2)

@@ -54,7 +54,7 @@ same-length c =
     ap length (part-last (c .before .before .before .before .before .before .before .args .n) (c .before .before .before .before .before .loop .left) (c .before .before .before .before .before .before .before .args .v) (c .before .before .before .before .before .loop .inv .1) (c .before .before .write2 .ensures) .holds) ∙ length-put (c .before .before .before .before .before .before .before .args .buf .now) (c .before .before .before .before .before .before .before .args .at) (toBits (c .before .before .before .before .before .before .before .args .n) (c .before .before .before .before .before .before .before .args .v))
 
 returns : tie.Need-returns Inv-loop μ-loop
-returns c = part-last (c .before .before .before .before .before .before .before .args .n) (c .before .before .before .before .before .loop .left) (c .before .before .before .before .before .before .before .args .v) (c .before .before .before .before .before .loop .inv .1) (c .before .before .write2 .ensures) .holds
+returns c = part-last (c .before .before .before .before .before .before .before .args .n) (c .before .before .before .before .before .loop .left) (c .before .before .before .before .before .before .before .args .v) (c .before .before .before .before .before .loop .inv .1) (c .before .before .write2 .ensures)
 
 pub put-near-spec : {M : Type 1} → statement M
 put-near-spec =

@@ -18,7 +18,7 @@ count-in-requires : tie.Need-count-in-requires Inv-loop μ-loop
 count-in-requires c κs = tt
 
 loop-holds : tie.Need-loop-holds Inv-loop μ-loop
-loop-holds c = (omega arith, all-start (allItems (c .before .before .before .args .t .now)) (typesFrom (c .before .before .before .args .t .now) 0) (types-all (c .before .before .before .args .t .now)) (c .before .before .before .pre .1 .steady))
+loop-holds c = (omega arith, all-start (allItems (c .before .before .before .args .t .now)) (typesFrom (c .before .before .before .args .t .now) 0) (types-all (c .before .before .before .args .t .now)))
 
 add-type-requires : tie.Need-add-type-requires Inv-loop μ-loop
 add-type-requires c κs =

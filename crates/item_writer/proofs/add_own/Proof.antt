@@ -18,7 +18,7 @@ abbrev μ-loop : tie.MeasureT-loop
 μ-loop buf₀ t site own one to₀ left₀ buf to left = left
 
 loop-holds : tie.Need-loop-holds Inv-loop μ-loop
-loop-holds c = pending-all _ _ _ _ (c .before .pre .1 .steady)
+loop-holds c = pending-all _ _ _ _
 
 lowest-requires : tie.Need-lowest-requires Inv-loop μ-loop
 lowest-requires c κs = omega arith

@@ -52,7 +52,7 @@ add-inherited-requires c κs =
     let line = lineBits (keyAt t (a .a)) (headAt t (a .a)) (c .before .before .before .before .before .before .before .before .word-at .result) ∷ [] in
     let e = word-parts t (a .a) (a .k) (c .before .before .before .before .before .before .before .before .word-at .result) (c .before .before .before .before .before .before .before .mask-at .result) (c .before .before .before .before .own-at .result) (c .before .before .before .before .before .before .records-of .result) (c .before .before .before .before .before .before .before .before .word-at .ensures) (c .before .before .before .before .before .before .before .mask-at .ensures) (c .before .before .before .before .own-at .ensures) in
     let r = all-tail own (inherited ++ line) (room-all-as (wordItems t (a .a) (a .k)) (own ++ (inherited ++ line)) (sym e) (s .pre .1)) (c .before .before .before .add-own .ensures) in
-    (record { place = omega (arith, s .pre .0 .0 .types, s .pre .0 .1); records = c .before .before .before .before .before .before .records-of .ensures }, all-head inherited line r)
+    ((record { place = omega (arith, s .pre .0 .0 .types, s .pre .0 .1); records = c .before .before .before .before .before .before .records-of .ensures }, s .pre .0 .3), all-head inherited line r)
 
 extension-line-requires : tie.Need-extension-line-requires
 extension-line-requires c κs =

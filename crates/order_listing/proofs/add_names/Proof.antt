@@ -15,7 +15,7 @@ abbrev μ-loop : tie.MeasureT-loop
 μ-loop buf₀ t order n to₀ i₀ buf to i = n - i
 
 loop-holds : tie.Need-loop-holds Inv-loop μ-loop
-loop-holds c = (omega arith, pending-all _ _ 0 _ (c .before .pre .1 .steady))
+loop-holds c = (omega arith, pending-all _ _ 0 _)
 
 mul-key-at : tie.Need-mul-key-at Inv-loop μ-loop
 mul-key-at c = omega (arith, c .before .before .before .pre .0 .few)
