@@ -1,13 +1,18 @@
 -- What reading a field at a bit position finds.
 use mathlib.Core.Bool.{Bool, true, false}
 use mathlib.Core.List.{List}
-use Prim.Native.Nat.{ℕ, _+_}
+use Prim.Native.Nat.{ℕ, _+_, _^_, _≤_}
 use lib.Dec.{leb}
 use lib.ListN.{length, drop}
 use Rattle.definitions.specs.Bits.{num}
 use Rattle.definitions.specs.Parse.{past, Parsed, done, refused}
 use Rattle.bits.specs.declared.Read.{Read}
 use Rattle.bits.specs.declared.Read.the-variants.{Value, Past}
+
+-- So few bytes that a place among their bits, and some bits behind it, is a number of the code: what every reader asks. The
+-- limits of a sheet are those of the calls.
+abbrev pub Addressable : List ℕ → Type 0
+Addressable s = length s ≤ 2 ^ 60
 
 abbrev pub pickRead : Bool → Read → Read → Read
 pickRead true a b = a

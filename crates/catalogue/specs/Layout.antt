@@ -1,6 +1,7 @@
 -- Where what stands in the catalogue of a map.
 use mathlib.Core.List.{List}
-use Prim.Native.Nat.{ℕ, _+_}
+use Prim.Native.Nat.{ℕ, _+_, _/_, _%_}
+use lib.Bits.{bitAnd}
 use lib.ListN.{getD}
 
 -- The name of a type, as a key.
@@ -66,6 +67,10 @@ firstAt t w = getD t (1024 + w) 0
 -- The set of the types whose second word is one less than w; for 0 the set of those that have none.
 abbrev pub secondAt : List ℕ → ℕ → ℕ
 secondAt t w = getD t (1280 + w) 0
+
+-- The type that has a name, as a set of one, or of none where the name is not declared: by the words of its key (FORMAT 1.5).
+unfoldable pub looked : List ℕ → ℕ → ℕ
+looked t key = bitAnd (firstAt t (key / 256)) (secondAt t (key % 256))
 
 -- How many types there are.
 abbrev pub countIn : List ℕ → ℕ

@@ -6,7 +6,7 @@ ghost use lib.ListN.{set, replicate};
 ghost use Rattle.catalogue.specs.Layout.{keyAt, headAt, marksAt, tallyAt, parentsAt, ownAt, aboveAt, passedAt, wordAt};
 ghost use Rattle.catalogue.specs.Layout.{maskAt, ownerAt, extensionKeyAt, extensionCountAt, extensionParentAt, firstAt};
 ghost use Rattle.catalogue.specs.Layout.{secondAt, countIn, wordsIn, extensionsIn, extendedIn, resourceIn, resourcesIn};
-ghost use Rattle.catalogue.specs.Layout.{childedIn, widthIn};
+ghost use Rattle.catalogue.specs.Layout.{childedIn, widthIn, looked};
 
 // How many numbers the table has.
 pub const SIZE: usize = 1544;
@@ -268,13 +268,6 @@ pub fn extension_parent_at(t: &[u64; 1544], j: usize) -> u64
     t[EXTENSION_PARENTS + j]
 }
 
-pub fn put_extension_parent(t: &mut [u64; 1544], j: usize, x: u64)
-    requires { ⌜ j < 256 ⌝ }
-    ensures { λ _. ⌜ now (t .exit) ≡ set (now (t .entry)) (768 + j) x ⌝ }
-{
-    t[EXTENSION_PARENTS + j] = x;
-}
-
 // The set of the types whose first word is w.
 pub fn first_at(t: &[u64; 1544], w: usize) -> u64
     requires { ⌜ w < 256 ⌝ }
@@ -303,6 +296,17 @@ pub fn put_second(t: &mut [u64; 1544], w: usize, x: u64)
     ensures { λ _. ⌜ now (t .exit) ≡ set (now (t .entry)) (1280 + w) x ⌝ }
 {
     t[SECONDS + w] = x;
+}
+
+// The type that has a name, as a set of one, or of none where the name is not declared. Types are found by this alone (FORMAT
+// 1.5).
+pub fn type_of(t: &[u64; 1544], key: u64) -> u64
+    requires { ⌜ key < 65536 ⌝ }
+    ensures { λ r. ⌜ r ≡ looked (now (t .entry)) key ⌝ }
+{
+    let first = (key / 256) as usize;
+    let second = (key % 256) as usize;
+    first_at(t, first) & second_at(t, second)
 }
 
 // How many types there are.

@@ -3,6 +3,7 @@ use mathlib.Core.Bool.{Bool}
 use mathlib.Core.List.{List, [], _∷_, _++_}
 use Prim.Native.Nat.{ℕ}
 use lib.Dec.{eqb}
+use lib.ListN.{getD}
 use Rattle.lists.specs.Lists.{any, filter, sameList, listBefore}
 use Rattle.definitions.specs.Records.{Name, Dom}
 
@@ -14,7 +15,8 @@ sameName a b = sameList eqb a b
 abbrev pub elemName : Name → List Name → Bool
 elemName a l = any (sameName a) l
 
--- The order of names. The dot is below every byte of a word, so it is by word number, one word before two (FORMAT 1.4).
+-- The order of names by word number, one word before two. It is the order by spelling, since the dot is below every byte of
+-- a word (FORMAT 1.4; laws `SpellingIsWordOrder`).
 unfoldable pub nameBefore : Name → Name → Bool
 nameBefore a b = listBefore a b
 
@@ -29,6 +31,20 @@ wordsBefore a b = listBefore a b
 -- The order of words by their bytes (FORMAT 1.2).
 unfoldable pub bytesBefore : List ℕ → List ℕ → Bool
 bytesBefore a b = listBefore a b
+
+-- The byte of the dot between the words of a name (FORMAT 1.4).
+abbrev pub dot : ℕ
+dot = 46
+
+-- How a name is spelled, given the words: their bytes with the dot between them (FORMAT 1.4).
+abbrev pub spelled : List (List ℕ) → Name → List ℕ
+spelled ws [] = []
+spelled ws (w ∷ []) = getD ws w []
+spelled ws (w ∷ v ∷ n) = getD ws w [] ++ (dot ∷ spelled ws (v ∷ n))
+
+-- The order of names by the bytes of their spelling (FORMAT 1.4).
+unfoldable pub spelledBefore : List (List ℕ) → Name → Name → Bool
+spelledBefore ws a b = bytesBefore (spelled ws a) (spelled ws b)
 
 -- What is declared under a name: one or none, since no two have one name (FORMAT 1.5).
 unfoldable pub lookUp : {A : Type 0} → (A → Name) → List A → Name → List A

@@ -1,8 +1,9 @@
 -- When a schedule is legal: the limits on its lists and fields. Nothing here is a parser or a test.
 use mathlib.Core.List.{List}
-use Prim.Native.Nat.{ℕ, _≤_, _<_}
+use Prim.Native.Nat.{ℕ, _-_, _^_, _≤_, _<_}
 use Rattle.definitions.specs.Records.{Name, Item, synthesized, extension, Schedule}
 use Rattle.definitions.specs.Legal.{Counted, LegalName, LegalMark}
+use Rattle.definitions.specs.Packing.{itemCountBits}
 
 -- ---- the limits, each named once
 
@@ -17,9 +18,9 @@ mostWords = 200
 abbrev pub mostNames : ℕ
 mostNames = 64
 
--- the number of items: as many as 16 bits count (FORMAT 6.1)
+-- the number of items: as many as its bits count (FORMAT 6.1)
 abbrev pub mostItems : ℕ
-mostItems = 65535
+mostItems = 2 ^ itemCountBits - 1
 
 -- the parents of a synthesized resource, and the words of one of them (FORMAT 6.2)
 abbrev pub leastParents : ℕ

@@ -40,9 +40,13 @@ itemBits (extension n v t r) = true ∷ nameBits n ++ (v ∷ t ∷ toBits 8 r)
 unfoldable pub orderBits : List Name → List Bool
 orderBits ns = countedBits 7 nameBits ns
 
+-- How many bits the number of items has (FORMAT 6.1).
+abbrev pub itemCountBits : ℕ
+itemCountBits = 16
+
 -- A schedule: the order, how many items, the items (FORMAT 6.1).
 unfoldable pub scheduleBits : Schedule → List Bool
-scheduleBits s = orderBits (s .order) ++ countedBits 16 itemBits (s .items)
+scheduleBits s = orderBits (s .order) ++ countedBits itemCountBits itemBits (s .items)
 
 -- ---- rows
 

@@ -6,10 +6,11 @@ ghost use mathlib.Core.Bool.{false};
 ghost use mathlib.Core.List.{[], _∷_, _++_};
 ghost use mathlib.Core.Path.{_≡_};
 ghost use Prim.Native.Nat.{_+_, _*_, _≤_, _<_};
-ghost use lib.ListN.{length, drop};
+ghost use lib.ListN.{drop};
 ghost use Rattle.definitions.specs.Bits.{bitsOf};
 ghost use Rattle.definitions.specs.Parse.{refused, field, between, repeat, counted};
 ghost use Rattle.definitions.specs.Reading.{wordField, wordIfFlag, name};
+ghost use Rattle.bits.specs.Reading.{Addressable};
 ghost use Rattle.fields.specs.Fields.{ofField, ofByte, ofWordIfFlag, nameOf, ofName, ofNames, ofNamesRead};
 
 // What can be wrong with a field: it passes the end, or its value is not allowed (FORMAT 2.1).
@@ -58,7 +59,7 @@ pub struct NamesRead {
 
 // A field of n bits from `least` to `most`.
 pub fn read_between(s: &[u8], c: Cursor, n: usize, least: usize, most: usize) -> Field
-    requires { ⌜ (length (now s) ≤ 40960) × (0 < n) × (n ≤ 16) ⌝ }
+    requires { ⌜ Addressable (now s) × (0 < n) × (n ≤ 16) ⌝ }
     ensures { λ r. ⌜ ofField (bitsOf (now (s .entry))) r ≡ between n least most (drop (c .at) (bitsOf (now (s .entry)))) ⌝ }
 {
     match reader::read_at(s, c, n) {
@@ -77,7 +78,7 @@ pub fn read_between(s: &[u8], c: Cursor, n: usize, least: usize, most: usize) ->
 
 // A tag is any number of 8 bits (FORMAT 2.7, 2.9).
 pub fn read_tag(s: &[u8], c: Cursor) -> ByteRead
-    requires { ⌜ length (now s) ≤ 40960 ⌝ }
+    requires { ⌜ Addressable (now s) ⌝ }
     ensures { λ r. ⌜ ofByte (bitsOf (now (s .entry))) r ≡ field 8 (drop (c .at) (bitsOf (now (s .entry)))) ⌝ }
 {
     match c.read(s, 8) {
@@ -88,7 +89,7 @@ pub fn read_tag(s: &[u8], c: Cursor) -> ByteRead
 
 // A word field is the number of a word of the sheet, of which there are `limit` (FORMAT 2.5).
 pub fn read_word_field(s: &[u8], c: Cursor, limit: usize) -> ByteRead
-    requires { ⌜ length (now s) ≤ 40960 ⌝ }
+    requires { ⌜ Addressable (now s) ⌝ }
     ensures { λ r. ⌜ ofByte (bitsOf (now (s .entry))) r ≡ wordField limit (drop (c .at) (bitsOf (now (s .entry)))) ⌝ }
 {
     match c.read(s, 8) {
@@ -105,7 +106,7 @@ pub fn read_word_field(s: &[u8], c: Cursor, limit: usize) -> ByteRead
 
 // A flag, and a word where it is set: the second word of a name, or a dom (FORMAT 2.5).
 pub fn read_word_if_flag(s: &[u8], c: Cursor, limit: usize) -> ByteRead
-    requires { ⌜ (length (now s) ≤ 40960) × (limit ≤ 255) ⌝ }
+    requires { ⌜ Addressable (now s) × (limit ≤ 255) ⌝ }
     ensures { λ r. ⌜ ofWordIfFlag (bitsOf (now (s .entry))) r ≡ wordIfFlag limit (drop (c .at) (bitsOf (now (s .entry)))) ⌝ }
 {
     match c.read(s, 1) {
@@ -121,7 +122,7 @@ pub fn read_word_if_flag(s: &[u8], c: Cursor, limit: usize) -> ByteRead
 }
 
 pub fn read_name(s: &[u8], c: Cursor, limit: usize) -> NameRead
-    requires { ⌜ (length (now s) ≤ 40960) × (limit ≤ 255) ⌝ }
+    requires { ⌜ Addressable (now s) × (limit ≤ 255) ⌝ }
     ensures { λ r. ⌜ ofName (bitsOf (now (s .entry))) r ≡ name limit (drop (c .at) (bitsOf (now (s .entry)))) ⌝ }
 {
     match read_word_field(s, c, limit) {
@@ -170,7 +171,7 @@ pub fn names_refused(r: Fault) -> NamesRead
 
 // n names.
 fn read_each_name(s: &[u8], c: Cursor, limit: usize, n: usize) -> NamesRead
-    requires { ⌜ (length (now s) ≤ 40960) × (limit ≤ 255) × (n ≤ 15) ⌝ }
+    requires { ⌜ Addressable (now s) × (limit ≤ 255) × (n ≤ 15) ⌝ }
     ensures { λ r. ⌜ ofNamesRead (bitsOf (now (s .entry))) r ≡ repeat (name limit) n (drop (c .at) (bitsOf (now (s .entry)))) ⌝ }
 {
     let mut next = c;
@@ -199,7 +200,7 @@ fn read_each_name(s: &[u8], c: Cursor, limit: usize, n: usize) -> NamesRead
 // A count of 4 bits within its bounds, and so many names: parents, the names of an Inherit, and the resources of an
 // associate, which are read like names (FORMAT 2.3, 2.8).
 pub fn read_names(s: &[u8], c: Cursor, limit: usize, least: usize, most: usize) -> NamesRead
-    requires { ⌜ (length (now s) ≤ 40960) × (limit ≤ 255) × (most ≤ 15) ⌝ }
+    requires { ⌜ Addressable (now s) × (limit ≤ 255) × (most ≤ 15) ⌝ }
     ensures { λ r. ⌜ ofNamesRead (bitsOf (now (s .entry))) r ≡ counted 4 least most (name limit) (drop (c .at) (bitsOf (now (s .entry)))) ⌝ }
 {
     match read_between(s, c, 4, least, most) {

@@ -1,4 +1,3 @@
 pub mod Classes
 pub mod ClassLaws
 pub mod Classed
-pub mod Instance

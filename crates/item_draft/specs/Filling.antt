@@ -20,7 +20,6 @@ use Rattle.definitions.specs.Making.{isResourceVariant}
 use Rattle.definitions.specs.Items.{owned, given}
 use Rattle.line_laws.specs.Statements.{lineMap}
 use Rattle.line_laws.specs.Within.{WordsWithin, ResourceWithin}
-use Rattle.types.specs.Types.{variantOf}
 use Rattle.ordering.specs.Lists.{tab, tab-getD, any-tab-same, below, below-same}
 use Rattle.ordering.specs.Reading as reading
 use Rattle.law_classes.specs.Sets.{some, ownSet, givenSet, typeAt, noType, SetIs}
@@ -28,19 +27,19 @@ use Rattle.law_classes.specs.SetLaws.{below-of}
 use Rattle.law_classes.specs.Refusal.{hasChild, lostClass, ownTwice}
 use Rattle.item_spread.specs.Spread.{Ordered, Starts, Right}
 use Rattle.sheet_draft.specs.Draft as draft
-use Rattle.sheet_draft.specs.Draft.{typeIn}
+use Rattle.sheet_draft.specs.Draft.{variantOf, typeIn}
 use Rattle.catalogue.specs.Layout.{keyAt, headAt, marksAt, tallyAt, parentsAt, ownAt, aboveAt, passedAt, wordAt, maskAt, firstAt, secondAt}
-use Rattle.catalogue.specs.Layout.{extensionKeyAt, wordsIn, resourcesIn, widthIn}
+use Rattle.catalogue.specs.Layout.{extensionKeyAt, wordsIn, resourcesIn, widthIn, looked}
 use Rattle.catalogue.specs.Catalogue.{isResourceHead, virtualHead, traitHead, Entry, Listed, Extended, SetsOf, Owned, Catalogued}
-use Rattle.item_names.specs.Names.{secondOf, typesOf, maskOf, ownerOf}
-use Rattle.item_names.specs.NamesLaws.{few-words}
+use Rattle.item_names.specs.Names.{secondOf, keyOf, maskOf, ownerOf}
+use Rattle.item_names.specs.NamesLaws.{few-words, looked-words}
 use Rattle.item_names.specs.Holding.{Holds, holds-set, holds-fits}
 use Rattle.item_names.specs.Named.{Named, NamesIn, key-name, key-small, first-is, first-fits, none-is, none-fits, second-is, second-fits, worded, owner-right, owner-none}
 use Rattle.item_classes.specs.Classes.{classBy, classIn, meets, lost, Gathers}
 use Rattle.item_classes.specs.Classed.{own-is, given-is, refused-is}
 use Rattle.item_classes.specs.declared.Classes.{Classes}
 use Rattle.item_entries.specs.Entries.{rowIn, firstsOf, secondsOf}
-use Rattle.item_sets.specs.Sets.{parentSets, aboveSets, SpreadPut, NumbersPut, typesWith, RecordKeysFit, ExtendedIs}
+use Rattle.item_sets.specs.Sets.{parentSets, aboveSets, SpreadPut, NumbersPut, RecordKeysFit, ExtendedIs}
 use Rattle.item_sets.specs.SetsLaws.{part-at}
 use Rattle.item_draft.specs.Parts.{HeadOf, HeadsPut, NotesReady, ownSets, givenSets, lostAt, NotesPut}
 use Rattle.item_draft.specs.Fill.{recordIn, Stands, Fillable, Fills}
@@ -217,15 +216,16 @@ module _ (bs : List Bool) (d entries order : List ℕ) (k : Known) (t0 t1 t2 t3 
     records-held : tabulate (recordIn t4) (k .extensions) ≡ s .extensions
     records-held = records-stand s t0 t4 (k .extensions) (hs .drawn .within) (hs .extensions) (λ i h l. high i (omega arith) (omega arith))
 
-    record-types-stay : (e : ℕ) → e < k .extensions → typesWith t1 (extensionKeyAt t1 e) ≡ typesWith t4 (extensionKeyAt t4 e)
+    record-types-stay : (e : ℕ) → e < k .extensions → looked t1 (extensionKeyAt t1 e / 256) ≡ looked t4 (extensionKeyAt t4 e / 256)
+    unfolding looked
     record-types-stay e h =
         let x = extensionKeyAt t0 e in
         let f = extensions.few-records s t0 (k .extensions) (hs .drawn .within) (hs .extensions) in
         let small = extensions.record-key s t0 (k .extensions) (hs .drawn .within) (hs .extensions) e h in
         let key : extensionKeyAt t1 e ≡ x = st .heads .kept .after (704 + e) (omega arith) in
-        ap (typesWith t1) key
-        ∙ ap₂ bitAnd (st .heads .kept .after (1024 + x / 65536) (omega arith)) (st .heads .kept .after (1280 + x / 256 % 256) (omega arith))
-        ∙ sym (ap (typesWith t4) (record-key-stays e h) ∙ ap₂ bitAnd (first-stays (x / 65536) (omega arith)) (second-stays (x / 256 % 256) (omega arith)))
+        ap (λ (y : ℕ). looked t1 (y / 256)) key
+        ∙ ap₂ bitAnd (st .heads .kept .after (1024 + x / 256 / 256) (omega arith)) (st .heads .kept .after (1280 + x / 256 % 256) (omega arith))
+        ∙ sym (ap (λ (y : ℕ). looked t4 (y / 256)) (record-key-stays e h) ∙ ap₂ bitAnd (first-stays (x / 256 / 256) (omega arith)) (second-stays (x / 256 % 256) (omega arith)))
 
     extended-is : Extended s t4
     extended-is =
@@ -233,7 +233,7 @@ module _ (bs : List Bool) (d entries order : List ℕ) (k : Known) (t0 t1 t2 t3 
         (λ a.
         ap (λ (x : ℕ). hasBit x a) (number-stays 1539 (omega arith) ∙ st .numbers .extended)
         ∙ st .extends .types a
-        ∙ any-tab-same (λ e. e) (λ e. hasBit (typesWith t1 (extensionKeyAt t1 e)) a) (λ e. e) (λ e. hasBit (typesWith t4 (extensionKeyAt t4 e)) a) (k .extensions)
+        ∙ any-tab-same (λ e. e) (λ e. hasBit (looked t1 (extensionKeyAt t1 e / 256)) a) (λ e. e) (λ e. hasBit (looked t4 (extensionKeyAt t4 e / 256)) a) (k .extensions)
         (λ e h. ap (λ (x : ℕ). hasBit x a) (record-types-stay e h)))
 
     -- ---- flags and marks
@@ -357,8 +357,10 @@ module _ (bs : List Bool) (d entries order : List ℕ) (k : Known) (t0 t1 t2 t3 
         stays : (i : ℕ) → 1024 ≤ i → i < 1536 → getD t2 i 0 ≡ getD t4 i 0
         stays i h l = sym (st .spread .kept .after i (omega arith) ∙ st .notes .kept .after i (omega arith))
 
-        types : (f g : ℕ) → f < W → typesOf t2 f g ≡ typesOf t4 f g
-        types f g h = ap₂ bitAnd (stays (1024 + f) (omega arith) (omega (arith, narrow))) (stays (1280 + secondOf g) (omega arith) (omega arith))
+        types : (f g : ℕ) → f < W → looked t2 (keyOf f g) ≡ looked t4 (keyOf f g)
+        types f g h =
+            rw (looked-words t2 f g, looked-words t4 f g)
+            (ap₂ bitAnd (stays (1024 + f) (omega arith) (omega (arith, narrow))) (stays (1280 + secondOf g) (omega arith) (omega arith)))
 
         by-dom : (v : ℕ) (e : Dom) → v < W → WordsWithin W 0 1 e → classBy t2 v e ≡ classBy t4 v e
         by-dom v [] h l = types v 255 h

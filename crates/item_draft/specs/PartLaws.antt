@@ -20,9 +20,9 @@ use Rattle.ordering.specs.Lists.{any-tab-step}
 use Rattle.sheet_notes.specs.Notes.{Notes, notes}
 use Rattle.sheet_draft.specs.Draft as draft
 use Rattle.sheet_draft.specs.Draft.{placeAt, notesOf, notesAt}
-use Rattle.catalogue.specs.Layout.{headAt, resourcesIn, childedIn, widthIn}
+use Rattle.catalogue.specs.Layout.{headAt, resourcesIn, childedIn, widthIn, looked}
 use Rattle.catalogue.specs.Kept.{kept-none, kept-set, kept-more}
-use Rattle.item_names.specs.Names.{typesOf}
+use Rattle.item_names.specs.Names.{keyOf}
 use Rattle.item_names.specs.NamesLaws as names
 use Rattle.item_heads.specs.Heads.{Packs, WithResource}
 use Rattle.item_classes.specs.Classes.{classBy, classIn, meets, lost, Gathers}
@@ -116,8 +116,8 @@ note-put a own bits tally old u v new l n e f g =
 class-kept : (old new : List ℕ) → KeptNotes old new → (u : Resource) → classIn new u ≡ classIn old u
 class-kept old new k u = go (u .word) (u .dom)
   where
-    same : (f g : ℕ) → typesOf new f g ≡ typesOf old f g
-    same f g = rw (k .after (1024 + f) (omega arith), k .after (1280 + (g + 1) % 256) (omega arith))
+    same : (f g : ℕ) → looked new (keyOf f g) ≡ looked old (keyOf f g)
+    same f g = rw (names.looked-words new f g, names.looked-words old f g, k .after (1024 + f) (omega arith), k .after (1280 + (g + 1) % 256) (omega arith))
 
     go : (w : ℕ) (d : Dom) → classBy new w d ≡ classBy old w d
     go w [] = same w 255

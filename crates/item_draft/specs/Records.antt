@@ -2,10 +2,9 @@
 use mathlib.Core.Bool.{Bool, true, false, _&&_}
 use mathlib.Core.List.{List, [], _∷_, _++_, map}
 use mathlib.Core.Path.{_≡_, refl, sym, ap, _∙_, subst}
-use Prim.Native.Nat.{ℕ, zero, suc, _+_, _-_, _*_, _/_, _%_, _≤_, _<_}
+use Prim.Native.Nat.{ℕ, zero, suc, _+_, _*_, _/_, _%_, _≤_, _<_}
 use native.Mathlib.Omega.{arith}
 use borrow.Author.Tests.{eq-eqb, eqb-true, eqb-false, lt-ltb}
-use lib.Bits.{bitAnd}
 use lib.Dec.{eqb}
 use lib.ListN.{length}
 use Rattle.lists.specs.Lists.{In, any, filter, each}
@@ -23,11 +22,11 @@ use Rattle.line_laws.specs.Statements.{lineMap}
 use Rattle.line_laws.specs.Within.{NameWithin, ExtensionWithin, Within}
 use Rattle.ordering.specs.Lists.{tab, any-tab-out, below, below-same, below-none, filter-below, map-below, same-list-sym}
 use Rattle.law_classes.specs.Sets.{typeAt}
-use Rattle.catalogue.specs.Layout.{keyAt, extensionKeyAt, extensionCountAt, extensionParentAt, extensionsIn, extendedIn, firstAt, secondAt}
+use Rattle.catalogue.specs.Layout.{keyAt, extensionKeyAt, extensionCountAt, extensionParentAt, extensionsIn, extendedIn, looked}
 use Rattle.catalogue.specs.Catalogue.{nameOfKey, parentsIn, addedIn, Extended}
-use Rattle.item_names.specs.Names.{secondOf, keyOf}
+use Rattle.item_names.specs.Names.{keyOf}
 use Rattle.item_names.specs.Named.{Named, NamesIn, name-of-key, key-name, types-hold}
-use Rattle.item_sets.specs.Sets.{typesWith, RecordKeysFit}
+use Rattle.item_sets.specs.Sets.{RecordKeysFit}
 use Rattle.item_draft.specs.Fill.{recordIn}
 use Rattle.item_draft.specs.Rows.{first-below}
 
@@ -109,7 +108,7 @@ module _ (s : Sheet) (t : List ℕ) (n : ℕ) (w : Within s) (held : tabulate (r
 
 module _ (s : Sheet) (firsts seconds t : List ℕ) (nm : Named (lineMap s) (length (s .words)) firsts seconds)
     (ns : NamesIn firsts seconds (length (lineMap s .types)) (length (s .words)) t) (n : ℕ) (w : Within s) (held : tabulate (recordIn t) n ≡ s .extensions)
-    (count : extensionsIn t ≡ n) (types : (a : ℕ) → hasBit (extendedIn t) a ≡ any (λ e. hasBit (typesWith t (extensionKeyAt t e)) a) (tab (λ e. e) n)) where
+    (count : extensionsIn t ≡ n) (types : (a : ℕ) → hasBit (extendedIn t) a ≡ any (λ e. hasBit (looked t (extensionKeyAt t e / 256)) a) (tab (λ e. e) n)) where
   abbrev m : LineMap
   m = lineMap s
 
@@ -140,15 +139,14 @@ module _ (s : Sheet) (firsts seconds t : List ℕ) (nm : Named (lineMap s) (leng
       ∙ sym (added-as a r)
 
   -- the types of a record's name
-  record-types : (e a : ℕ) → e < n → a < length (m .types) → hasBit (typesWith t (extensionKeyAt t e)) a ≡ sameName (typeAt m a .name) (nameOfKey (extensionKeyAt t e / 256))
+  record-types : (e a : ℕ) → e < n → a < length (m .types) → hasBit (looked t (extensionKeyAt t e / 256)) a ≡ sameName (typeAt m a .name) (nameOfKey (extensionKeyAt t e / 256))
   record-types e a h l =
       let x = extensionKeyAt t e in
       let f = x / 65536 in
       let g = (x / 256 % 256 + 255) % 256 in
       let u = record-key s t n w held e h in
-      let i : x / 256 % 256 ≡ secondOf g = omega arith in
       let j : x / 256 ≡ keyOf f g = omega arith in
-      ap (λ (k : ℕ). hasBit (bitAnd (firstAt t f) (secondAt t k)) a) i
+      ap (λ (k : ℕ). hasBit (looked t k) a) j
       ∙ types-hold s firsts seconds t nm ns f g (omega arith) (omega arith) a
       ∙ rw (lt-ltb a (length (m .types)) l)
       (ap (sameName (typeAt m a .name)) (sym (ap nameOfKey j ∙ name-of-key f g (omega arith))))
@@ -160,7 +158,7 @@ module _ (s : Sheet) (firsts seconds t : List ℕ) (nm : Named (lineMap s) (leng
       ∙ ap (each (parentsIn t))
       (below-none (isFor a r) n
       (λ e k.
-      let o : hasBit (typesWith t (extensionKeyAt t e)) a ≡ false = any-tab-out (λ i. i) (λ i. hasBit (typesWith t (extensionKeyAt t i)) a) n e (sym (types a) ∙ z) k in
+      let o : hasBit (looked t (extensionKeyAt t e / 256)) a ≡ false = any-tab-out (λ i. i) (λ i. hasBit (looked t (extensionKeyAt t i / 256)) a) n e (sym (types a) ∙ z) k in
       let b : sameName (typeAt m a .name) (nameOfKey (extensionKeyAt t e / 256)) ≡ false = sym (record-types e a k h) ∙ o in
       rw (same-list-sym (nameOfKey (extensionKeyAt t e / 256)) (typeAt m a .name) ∙ b)))
 

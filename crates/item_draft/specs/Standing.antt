@@ -20,7 +20,7 @@ use Rattle.ordering.specs.Lists.{below-same}
 use Rattle.ordering.specs.Reading.{typeAt}
 use Rattle.sheet_keys.specs.Keys as keys
 use Rattle.sheet_draft.specs.Draft.{parentCountAt, parentAt, typeIn}
-use Rattle.catalogue.specs.Layout.{keyAt, wordAt, firstAt, secondAt, extensionKeyAt, extensionCountAt, extensionParentAt}
+use Rattle.catalogue.specs.Layout.{keyAt, wordAt, firstAt, secondAt, extensionKeyAt, extensionCountAt, extensionParentAt, looked}
 use Rattle.catalogue.specs.Catalogue.{nameOfKey, parentsIn}
 use Rattle.catalogue.specs.Kept.{KeptOutside}
 use Rattle.item_names.specs.Names.{secondOf, maskOf, ownerOf, NamesPut}
@@ -93,7 +93,8 @@ records-stand s t u n w held same =
 
 module _ (s : Sheet) (bs : List Bool) (d entries : List ℕ) (n width : ℕ) (w : Drawn s bs d entries n) (t : List ℕ) (r : ℕ) (ns : NamesStand (firstsOf entries) (secondsOf entries) n width t r) where
   -- the types of a key: the one that has it, or none
-  looked-holds : (key : ℕ) → key < 65536 → Holds n (bitAnd (firstAt t (key / 256)) (secondAt t (key % 256))) (λ b. sameName (keys.nameOfKey key) (typeAt (typeMapOf s) b .name))
+  looked-holds : (key : ℕ) → key < 65536 → Holds n (looked t key) (λ b. sameName (keys.nameOfKey key) (typeAt (typeMapOf s) b .name))
+  unfolding looked
   looked-holds key h =
       let x = firstAt t (key / 256) in
       let y = secondAt t (key % 256) in
@@ -117,11 +118,11 @@ module _ (s : Sheet) (bs : List Bool) (d entries : List ℕ) (n width : ℕ) (w 
           eq-eqb j i (omega arith))
           (λ e. let p = eqb-true j i e in and-both (eq-eqb (i / 256) (j / 256) (ap (λ (x : ℕ). x / 256) (sym p))) (eq-eqb (i % 256) (j % 256) (ap (λ (x : ℕ). x % 256) (sym p))))
 
-  pub looked-bits : (key : ℕ) → key < 65536 → (b : ℕ) → hasBit (bitAnd (firstAt t (key / 256)) (secondAt t (key % 256))) b ≡ (ltb b (length (typeMapOf s .types)) && sameName (keys.nameOfKey key) (typeAt (typeMapOf s) b .name))
+  pub looked-bits : (key : ℕ) → key < 65536 → (b : ℕ) → hasBit (looked t key) b ≡ (ltb b (length (typeMapOf s .types)) && sameName (keys.nameOfKey key) (typeAt (typeMapOf s) b .name))
   looked-bits key h b = looked-holds key h b ∙ ap (λ (i : ℕ). ltb b i && sameName (keys.nameOfKey key) (typeAt (typeMapOf s) b .name)) (sym (rows.count-types s bs d entries n w))
 
-  pub looked-most : (key : ℕ) → key < 65536 → bitAnd (firstAt t (key / 256)) (secondAt t (key % 256)) < 2 ^ 64
-  looked-most key h = no-bits-past 64 (bitAnd (firstAt t (key / 256)) (secondAt t (key % 256))) (λ a l. looked-holds key h a ∙ rw (le-ltb a n (omega (arith, w .drafted .few))))
+  pub looked-most : (key : ℕ) → key < 65536 → looked t key < 2 ^ 64
+  looked-most key h = no-bits-past 64 (looked t key) (λ a l. looked-holds key h a ∙ rw (le-ltb a n (omega (arith, w .drafted .few))))
 
 -- ---- parents in the draft
 

@@ -5,6 +5,7 @@ ghost use mathlib.Core.Path.{_≡_};
 ghost use Prim.Native.Nat.{_≤_, _<_};
 ghost use lib.ListN.{length};
 ghost use Rattle.definitions.specs.Bits.{bitsOf};
+ghost use Rattle.bits.specs.Reading.{Addressable};
 ghost use Rattle.item_draft.specs.Parts.{HeadOf, HeadsPut, NotePut, NotesReady, NotesPut};
 ghost use Rattle.item_draft.specs.Fill.{Fillable, Fills};
 
@@ -66,7 +67,7 @@ fn put_notes(
     given: &mut [u64; 64],
     count: usize,
 ) -> bool
-    requires { ⌜ (length (now s) ≤ 40960) × (length (now given) ≡ 64) ⌝ }
+    requires { ⌜ Addressable (now s) × (length (now given) ≡ 64) ⌝ }
     requires { ⌜ NotesReady (bitsOf (now s)) (now d) (now entries) (now t) count ⌝ }
     ensures { λ r. ⌜ NotesPut (bitsOf (now (s .entry))) (now (d .entry)) (now (entries .entry)) count (now (t .entry)) (now (t .exit)) (now (given .exit)) r ⌝ }
 {
@@ -97,7 +98,7 @@ pub fn fill(
     order: &[u64; 64],
     k: Known,
 ) -> bool
-    requires { ⌜ length (now s) ≤ 40960 ⌝ }
+    requires { ⌜ Addressable (now s) ⌝ }
     requires { ⌜ Fillable (bitsOf (now s)) (now d) (now entries) (now order) (now t) k ⌝ }
     ensures { λ r. ⌜ Fills (bitsOf (now (s .entry))) (now (d .entry)) (now (entries .entry)) (now (order .entry)) (now (t .entry)) k (now (t .exit)) r ⌝ }
 {

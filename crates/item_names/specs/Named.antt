@@ -25,10 +25,10 @@ use Rattle.law_classes.specs.Sets.{some, oneWord, wordOf, masked, typeAt, SetIs
 use Rattle.law_classes.specs.SetLaws.{below-of}
 use Rattle.law_classes.specs.Numbers.{Fits, holds-some}
 use Rattle.bitsets.specs.BitLaws.{lowest-is}
-use Rattle.catalogue.specs.Layout.{keyAt, wordAt, maskAt, ownerAt, firstAt, secondAt, wordsIn}
+use Rattle.catalogue.specs.Layout.{keyAt, wordAt, maskAt, ownerAt, firstAt, secondAt, wordsIn, looked}
 use Rattle.catalogue.specs.Catalogue.{nameOfKey, firstIs, secondIs, Worded}
-use Rattle.item_names.specs.Names.{secondOf, keyOf, typesOf, maskOf, ownerOf}
-use Rattle.item_names.specs.NamesLaws.{few-words}
+use Rattle.item_names.specs.Names.{secondOf, keyOf, maskOf, ownerOf}
+use Rattle.item_names.specs.NamesLaws.{few-words, looked-words}
 use Rattle.item_names.specs.Holding.{Holds, holds-and, holds-or, holds-same, holds-set, holds-fits}
 
 -- ---- what is known of the two arrays
@@ -177,13 +177,14 @@ module _ (s : Sheet) (firsts seconds t : List ℕ) (nm : Named (lineMap s) (leng
   -- ---- look-up by name
 
   -- the type of a name, or none
-  pub types-hold : (f g : ℕ) → f < 256 → g < 256 → Holds n (typesOf t f g) (λ a. sameName (typeAt m a .name) (twoWords f g))
+  pub types-hold : (f g : ℕ) → f < 256 → g < 256 → Holds n (looked t (keyOf f g)) (λ a. sameName (typeAt m a .name) (twoWords f g))
   types-hold f g h k =
-      holds-same n (typesOf t f g) (λ a. eqb (F a) f && eqb (secondOf (S a)) (secondOf g)) (λ a. sameName (typeAt m a .name) (twoWords f g))
+      rw (looked-words t f g)
+      (holds-same n (bitAnd (firstAt t f) (secondAt t (secondOf g))) (λ a. eqb (F a) f && eqb (secondOf (S a)) (secondOf g)) (λ a. sameName (typeAt m a .name) (twoWords f g))
       (λ a l.
       ap (λ (b : Bool). eqb (F a) f && b) (second-same (S a) g (small-second a l) k)
       ∙ sym (ap (λ (e : Name). sameName e (twoWords f g)) (nm .name a l) ∙ same-words (F a) (S a) f g))
-      (holds-and n (firstAt t f) (secondAt t (secondOf g)) (λ a. eqb (F a) f) (λ a. eqb (secondOf (S a)) (secondOf g)) (ns .first f h) (ns .second (secondOf g) (omega arith)))
+      (holds-and n (firstAt t f) (secondAt t (secondOf g)) (λ a. eqb (F a) f) (λ a. eqb (secondOf (S a)) (secondOf g)) (ns .first f h) (ns .second (secondOf g) (omega arith))))
 
   -- ---- the last words
 

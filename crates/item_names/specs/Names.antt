@@ -52,10 +52,6 @@ pub record SetsPut (firsts seconds : List ℕ) (n : ℕ) (old new : List ℕ) : 
   pub second : (w : ℕ) → w < 256 → (a : ℕ) → hasBit (secondAt new w) a ≡ (ltb a n && eqb (secondOf (getD seconds a 0)) w)
   pub kept : KeptOutside 1024 1536 old new
 
--- The type of a name, or none, as a set (FORMAT 1.5).
-abbrev pub typesOf : List ℕ → ℕ → ℕ → ℕ
-typesOf t first second = bitAnd (firstAt t first) (secondAt t (secondOf second))
-
 -- ---- the words
 
 -- The types whose last word is w: those of the one word w, and those whose second word it is.

@@ -18,7 +18,7 @@ use Rattle.rows.specs.Rows.{hasBit}
 use Rattle.rows.specs.RowLaws.{bit-either, bit-none, bit-one, one-shifted}
 use Rattle.ordering.specs.Lists.{below, below-yes, below-no, below-same, below-lt}
 use Rattle.law_classes.specs.SetLaws.{below-of, below-ascends}
-use Rattle.catalogue.specs.Layout.{keyAt, wordAt, firstAt, secondAt}
+use Rattle.catalogue.specs.Layout.{keyAt, wordAt, firstAt, secondAt, looked}
 use Rattle.catalogue.specs.Kept.{KeptOutside, kept-none, kept-set, kept-more}
 use Rattle.item_names.specs.Holding.{Holds, nonzero-bit, holds-and, holds-or}
 use Rattle.item_names.specs.Names.{secondOf, keyOf, KeysPut, nameMarked, NoSets, SetsPut, maskOf, WordPut, FewWords, WordsPut, ownerOf, KeysSmall, OwnersPut, NamesPut}
@@ -228,18 +228,36 @@ module _ (width w n : ℕ) (old t : List ℕ) (few : FewWords width old) (within
             (kept-set 512 640 u (576 + n) (maskOf old w) (omega arith) (omega arith)) (omega arith) (omega arith);
       }))
 
+-- ---- look-up by name
+
+-- by the words of a key
+pub looked-words : (t : List ℕ) (first second : ℕ) → looked t (keyOf first second) ≡ bitAnd (firstAt t first) (secondAt t (secondOf second))
+unfolding looked
+looked-words t first second =
+    let a : keyOf first second / 256 ≡ first = omega arith in
+    let b : keyOf first second % 256 ≡ secondOf second = omega arith in
+    ap₂ (λ (i j : ℕ). bitAnd (firstAt t i) (secondAt t j)) a b
+
+-- by the first word of a key alone
+looked-alone : (t : List ℕ) (key : ℕ) → looked t (key / 256 * 256) ≡ bitAnd (firstAt t (key / 256)) (secondAt t 0)
+unfolding looked
+looked-alone t key =
+    let a : key / 256 * 256 / 256 ≡ key / 256 = omega arith in
+    let b : key / 256 * 256 % 256 ≡ 0 = omega arith in
+    ap₂ (λ (i j : ℕ). bitAnd (firstAt t i) (secondAt t j)) a b
+
 -- ---- owners
 
 pub owners-none : (t : List ℕ) → OwnersPut 0 t t
 owners-none t = record { owner = λ a h. absurd (omega arith); kept = kept-none 640 704 t }
 
 -- what is read of a type in a turn stands there since the start
-pub owner-turn : (old t : List ℕ) (n key first none : ℕ) {x : ℕ} → n < 64 → OwnersPut n old t → key ≡ keyAt t n → first ≡ firstAt t (key / 256) → none ≡ secondAt old 0
-    → x ≡ ownerOf key (bitAnd first none) → x ≡ ownerOf (keyAt old n) (bitAnd (firstAt old (keyAt old n / 256)) (secondAt old 0))
-owner-turn old t n key first none h p k f z e =
+pub owner-turn : (old t : List ℕ) (n key types : ℕ) {x : ℕ} → n < 64 → OwnersPut n old t → key ≡ keyAt t n → key < 65536 → types ≡ looked t (key / 256 * 256)
+    → x ≡ ownerOf key types → x ≡ ownerOf (keyAt old n) (bitAnd (firstAt old (keyAt old n / 256)) (secondAt old 0))
+owner-turn old t n key types h p k l f e =
     let a : key ≡ keyAt old n = k ∙ p .kept .before n (omega arith) in
-    let b : first ≡ firstAt old (keyAt old n / 256) = f ∙ p .kept .after (1024 + key / 256) (omega arith) ∙ ap (λ (i : ℕ). firstAt old (i / 256)) a in
-    e ∙ ap₂ ownerOf a (ap₂ bitAnd b z)
+    let b : firstAt t (key / 256) ≡ firstAt old (keyAt old n / 256) = p .kept .after (1024 + key / 256) (omega arith) ∙ ap (λ (i : ℕ). firstAt old (i / 256)) a in
+    e ∙ ap₂ ownerOf a (f ∙ looked-alone t key ∙ ap₂ bitAnd b (p .kept .after 1280 (omega arith)))
 
 pub owners-more : (n : ℕ) (old t : List ℕ) (x : ℕ) → n < 64 → length old ≡ 1544 → x ≡ ownerOf (keyAt old n) (bitAnd (firstAt old (keyAt old n / 256)) (secondAt old 0))
     → {new : List ℕ} → new ≡ set t (640 + n) x → OwnersPut n old t → OwnersPut (n + 1) old new

@@ -1,28 +1,8 @@
 // The names of the types in the catalogue: each as a key, for each word the sets of the types that have it, the words that
 // are the last of a name, and the owner of each name of two words.
 ghost use mathlib.Core.Path.{_≡_};
-ghost use Prim.Native.Nat.{_+_, _<_, _≤_};
-ghost use lib.ListN.{length};
-ghost use Rattle.item_names.specs.Names.{keyOf, KeysPut, NameMarked, SetsPut, NoSets, WordPut, WordsPut, FewWords, ownerOf, OwnersPut, KeysSmall, typesOf, NamesPut};
-
-// The key of a name: its first word times 256, and one more than its second word, or 0 where that is 255, which is none.
-pub fn key_of(first: u8, second: u8) -> u64
-    ensures { λ r. ⌜ (r ≡ keyOf first second) × (r < 65536) ⌝ }
-{
-    first as u64 * 256 + (second as u64 + 1) % 256
-}
-
-// The key of each type's name.
-fn put_keys<'a>(t: &mut [u64; 1544], firsts: &'a [u8; 64], seconds: &'a [u8; 64], count: usize)
-    requires { ⌜ (length (now t) ≡ 1544) × (count ≤ 64) ⌝ }
-    ensures { λ _. ⌜ KeysPut (now (firsts .entry)) (now (seconds .entry)) count (now (t .entry)) (now (t .exit)) ⌝ }
-{
-    let mut a: usize = 0;
-    while a < count {
-        catalogue::put_key(t, a, key_of(firsts[a], seconds[a]));
-        a += 1;
-    }
-}
+ghost use Prim.Native.Nat.{_+_, _<_};
+ghost use Rattle.item_names.specs.Names.{NameMarked, WordPut, WordsPut, FewWords, ownerOf, OwnersPut, KeysSmall};
 
 // A type goes into the set of its first word and into that of its second, or of those that have none.
 pub fn mark_name(t: &mut [u64; 1544], a: usize, first: u8, second: u8)
@@ -37,29 +17,6 @@ pub fn mark_name(t: &mut [u64; 1544], a: usize, first: u8, second: u8)
     let y = catalogue::second_at(t, v);
     catalogue::put_first(t, w, x | bit);
     catalogue::put_second(t, v, y | bit);
-}
-
-// Each type goes into the sets of its words, which were empty.
-fn put_sets<'a>(t: &mut [u64; 1544], firsts: &'a [u8; 64], seconds: &'a [u8; 64], count: usize)
-    requires { ⌜ NoSets (now t) ⌝ }
-    requires { ⌜ count ≤ 64 ⌝ }
-    ensures { λ _. ⌜ SetsPut (now (firsts .entry)) (now (seconds .entry)) count (now (t .entry)) (now (t .exit)) ⌝ }
-{
-    let mut a: usize = 0;
-    while a < count {
-        mark_name(t, a, firsts[a], seconds[a]);
-        a += 1;
-    }
-}
-
-// The type of a name, as a set; the set is empty where no type has the name. Types are looked up by name only.
-pub fn types_of(t: &[u64; 1544], first: u8, second: u8) -> u64
-    ensures { λ r. ⌜ r ≡ typesOf (now (t .entry)) first second ⌝ }
-{
-    let v = (second as usize + 1) % 256;
-    let x = catalogue::first_at(t, first as usize);
-    let y = catalogue::second_at(t, v);
-    x & y
 }
 
 // The word w with the set of the types whose last word it is, behind the first n words, if there are such types.
@@ -107,30 +64,11 @@ pub fn put_owners(t: &mut [u64; 1544], count: usize)
     requires { ⌜ KeysSmall count (now t) ⌝ }
     ensures { λ _. ⌜ OwnersPut count (now (t .entry)) (now (t .exit)) ⌝ }
 {
-    let none = catalogue::second_at(t, 0);
     let mut a: usize = 0;
     while a < count {
         let key = catalogue::key_at(t, a);
-        let first = catalogue::first_at(t, (key / 256) as usize);
-        catalogue::put_owner(t, a, owner_of(key, first & none));
+        let owner = catalogue::type_of(t, key / 256 * 256);
+        catalogue::put_owner(t, a, owner_of(key, owner));
         a += 1;
     }
-}
-
-// All that the catalogue has of the names. The sets of words were empty. The answer says how many words are the last of a name.
-pub fn put_names<'a>(
-    t: &mut [u64; 1544],
-    firsts: &'a [u8; 64],
-    seconds: &'a [u8; 64],
-    count: usize,
-    width: usize,
-) -> usize
-    requires { ⌜ NoSets (now t) ⌝ }
-    requires { ⌜ (count ≤ 64) × (width ≤ 200) ⌝ }
-    ensures { λ r. ⌜ NamesPut (now (firsts .entry)) (now (seconds .entry)) count width (now (t .entry)) (now (t .exit)) r ⌝ }
-{
-    put_keys(t, firsts, seconds, count);
-    put_sets(t, firsts, seconds, count);
-    put_owners(t, count);
-    put_words(t, width)
 }

@@ -16,6 +16,7 @@ use Rattle.definitions.specs.Parse.{done, Parser, next, pure, refuse, choose, f
 use Rattle.definitions.specs.Reading.{wordField, wordIfFlag, name, annotation, mark}
 use Rattle.definitions.specs.Checks.{resourcesOf}
 use Rattle.definitions.specs.Items.{associateOf}
+use Rattle.bits.specs.Reading.{Addressable}
 use Rattle.bits.specs.NumberLaws.{num-lt, length-bitsOf}
 use Rattle.sheet_window.specs.WindowLaws.{split}
 use Rattle.sheet_peek.specs.PeekLaws.{refused-not, done-value, done-rest, next-done, pure-done, field-done, allowed-done, repeat-none, repeat-more, counted-done}
@@ -23,7 +24,8 @@ use Rattle.records.specs.Annotations.{resourceOf, annotationAs, rowOfWord, rowO
 use Rattle.records.specs.AnnotationLaws.{annotation-rows, rows-none}
 use Rattle.records.specs.Marks.{markAs}
 use Rattle.sheet_notes.specs.Notes.{Notes, notes}
-use Rattle.item_names.specs.Names.{typesOf}
+use Rattle.catalogue.specs.Layout.{looked}
+use Rattle.item_names.specs.Names.{keyOf}
 use Rattle.item_classes.specs.Classes.{classIn, Gathers, ownIf, GathersMore}
 use Rattle.item_classes.specs.ClassLaws.{onlyIf, lists, own-as, given-as, gathers-none}
 use Rattle.item_classes.specs.declared.Classes.{Classes}
@@ -35,7 +37,7 @@ use Rattle.item_notes.specs.Notes.{RowsGathered, NamesSkipped, RowsSkipp
 use Rattle.item_notes.specs.declared.Gathered.{Gathered}
 
 -- a place in a sheet is small
-pub room : (s : List ℕ) (e : ℕ) → length s ≤ 40960 → e ≤ length (bitsOf s) → e ≤ 327680
+pub room : (s : List ℕ) (e : ℕ) → Addressable s → e ≤ length (bitsOf s) → e ≤ 2 ^ 63
 room s e h k = omega (arith, length-bitsOf s)
 
 -- ---- a flag and a word
@@ -132,10 +134,12 @@ module _ (bs : List Bool) (p w : ℕ) (e : w ≡ num 17 (drop p bs)) where
 
 -- ---- the class of a name
 
-pub class-one : (t : List ℕ) (w : ℕ) → w / 256 % 2 ≡ 0 → typesOf t (w / 512) 255 ≡ classIn t (resourceOf (nameIn w))
-class-one t w e = sym (rw (eq-eqb (w / 256 % 2) 0 e))
+pub class-one : (t : List ℕ) (w : ℕ) → w / 256 % 2 ≡ 0 → looked t (w / 512 * 256) ≡ classIn t (resourceOf (nameIn w))
+class-one t w e =
+    let k : w / 512 * 256 ≡ keyOf (w / 512) 255 = omega arith in
+    ap (looked t) k ∙ sym (rw (eq-eqb (w / 256 % 2) 0 e))
 
-pub class-two : (t : List ℕ) (w : ℕ) → (w / 256 % 2 ≡ 0 → ⊥) → typesOf t (w % 256) (w / 512) ≡ classIn t (resourceOf (nameIn w))
+pub class-two : (t : List ℕ) (w : ℕ) → (w / 256 % 2 ≡ 0 → ⊥) → looked t (w % 256 * 256 + (w / 512 + 1) % 256) ≡ classIn t (resourceOf (nameIn w))
 class-two t w n = sym (rw (ne-eqb (w / 256 % 2) 0 n))
 
 -- ---- sets added

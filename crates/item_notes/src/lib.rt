@@ -4,10 +4,10 @@ use item_classes::Classes;
 use item_heads::Packed;
 ghost use mathlib.Core.Bool.{false, _||_};
 ghost use mathlib.Core.Path.{_≡_};
-ghost use Prim.Native.Nat.{_≤_, _<_};
+ghost use Prim.Native.Nat.{_<_};
 ghost use lib.Dec.{eqb};
-ghost use lib.ListN.{length};
 ghost use Rattle.definitions.specs.Bits.{bitsOf};
+ghost use Rattle.bits.specs.Reading.{Addressable};
 ghost use Rattle.item_classes.specs.Classes.{classIn};
 ghost use Rattle.item_classes.specs.ClassLaws.{lists};
 ghost use Rattle.records.specs.Annotations.{resourceOf};
@@ -30,10 +30,12 @@ fn class_in(t: &[u64; 1544], w: usize) -> u64
     requires { ⌜ w < 131072 ⌝ }
     ensures { λ r. ⌜ r ≡ classIn (now (t .entry)) (resourceOf (nameIn w)) ⌝ }
 {
+    let word = w / 512;
     if w / 256 % 2 == 0 {
-        return item_names::types_of(t, (w / 512) as u8, 255);
+        return catalogue::type_of(t, (word * 256) as u64);
     }
-    item_names::types_of(t, (w % 256) as u8, (w / 512) as u8)
+    let dom = w % 256;
+    catalogue::type_of(t, (dom * 256 + (word + 1) % 256) as u64)
 }
 
 // The classes of n resources more, of an annotation of that kind.
@@ -45,7 +47,7 @@ fn with_rows(
     resources: u64,
     kind: usize,
 ) -> Gathered
-    requires { ⌜ length (now s) ≤ 40960 ⌝ }
+    requires { ⌜ Addressable (now s) ⌝ }
     requires { ⌜ NamesAt (bitsOf (now s)) (g .at) n ⌝ }
     ensures { λ r. ⌜ RowsGathered (now (t .entry)) resources kind n (bitsOf (now (s .entry))) g r ⌝ }
 {
@@ -66,7 +68,7 @@ fn with_rows(
 
 // The place behind n names.
 fn skip_names(s: &[u8], at: usize, n: usize) -> usize
-    requires { ⌜ length (now s) ≤ 40960 ⌝ }
+    requires { ⌜ Addressable (now s) ⌝ }
     requires { ⌜ NamesAt (bitsOf (now s)) at n ⌝ }
     ensures { λ r. ⌜ NamesSkipped n (bitsOf (now (s .entry))) at r ⌝ }
 {
@@ -82,7 +84,7 @@ fn skip_names(s: &[u8], at: usize, n: usize) -> usize
 
 // The place behind what follows a kind that lists no resources.
 fn skip_rest(s: &[u8], at: usize, kind: usize) -> usize
-    requires { ⌜ length (now s) ≤ 40960 ⌝ }
+    requires { ⌜ Addressable (now s) ⌝ }
     requires { ⌜ lists kind ≡ false ⌝ }
     requires { ⌜ RowsAt (bitsOf (now s)) at kind ⌝ }
     ensures { λ r. ⌜ RowsSkipped kind (bitsOf (now (s .entry))) at r ⌝ }
@@ -109,7 +111,7 @@ fn lists_resources(kind: usize) -> bool
 
 // The classes of one annotation more.
 fn with_annotation(s: &[u8], t: &[u64; 1544], g: Gathered, resources: u64) -> Gathered
-    requires { ⌜ length (now s) ≤ 40960 ⌝ }
+    requires { ⌜ Addressable (now s) ⌝ }
     requires { ⌜ AnnotationAt (bitsOf (now s)) (g .at) ⌝ }
     ensures { λ r. ⌜ AnnotationGathered (now (t .entry)) resources (bitsOf (now (s .entry))) g r ⌝ }
 {
@@ -132,7 +134,7 @@ fn with_annotation(s: &[u8], t: &[u64; 1544], g: Gathered, resources: u64) -> Ga
 
 // The classes of a type's annotations. `resources` has the types of the resource variant.
 fn gather(s: &[u8], t: &[u64; 1544], at: usize, resources: u64) -> Gathered
-    requires { ⌜ length (now s) ≤ 40960 ⌝ }
+    requires { ⌜ Addressable (now s) ⌝ }
     requires { ⌜ AnnotationsAt (bitsOf (now s)) at ⌝ }
     ensures { λ r. ⌜ AnnotationsGathered (now (t .entry)) resources (bitsOf (now (s .entry))) at r ⌝ }
 {
@@ -155,7 +157,7 @@ fn gather(s: &[u8], t: &[u64; 1544], at: usize, resources: u64) -> Gathered
 
 // A type's marks.
 fn pack_marks(s: &[u8], at: usize) -> Packed
-    requires { ⌜ length (now s) ≤ 40960 ⌝ }
+    requires { ⌜ Addressable (now s) ⌝ }
     requires { ⌜ MarksAt (bitsOf (now s)) at ⌝ }
     ensures { λ r. ⌜ MarksPacked (bitsOf (now (s .entry))) at r ⌝ }
 {
@@ -173,7 +175,7 @@ fn pack_marks(s: &[u8], at: usize) -> Packed
 
 // Both lists. Most types have neither: 7 bits of 0.
 pub fn gather_notes(s: &[u8], t: &[u64; 1544], at: usize, resources: u64) -> Noted
-    requires { ⌜ length (now s) ≤ 40960 ⌝ }
+    requires { ⌜ Addressable (now s) ⌝ }
     requires { ⌜ NotesAt (bitsOf (now s)) at ⌝ }
     ensures { λ r. ⌜ NotesGathered (now (t .entry)) resources (bitsOf (now (s .entry))) at r ⌝ }
 {

@@ -2,14 +2,13 @@
 -- extension record, the single numbers.
 use mathlib.Core.List.{List}
 use mathlib.Core.Path.{_≡_}
-use Prim.Native.Nat.{ℕ, _/_, _%_, _≤_, _<_}
-use lib.Bits.{bitAnd}
+use Prim.Native.Nat.{ℕ, _/_, _≤_, _<_}
 use Rattle.lists.specs.Lists.{any}
 use Rattle.lists.specs.Tabulating.{tabulate}
 use Rattle.rows.specs.Rows.{hasBit}
 use Rattle.ordering.specs.Lists.{tab}
 use Rattle.item_spread.specs.Spread.{Spread}
-use Rattle.catalogue.specs.Layout.{parentsAt, aboveAt, passedAt, extensionKeyAt, firstAt, secondAt}
+use Rattle.catalogue.specs.Layout.{parentsAt, aboveAt, passedAt, extensionKeyAt, looked}
 use Rattle.catalogue.specs.Layout.{countIn, wordsIn, extensionsIn, extendedIn, resourceIn, resourcesIn, childedIn, widthIn}
 use Rattle.catalogue.specs.Kept.{KeptOutside}
 use Rattle.item_sets.specs.declared.Numbers.{Numbers}
@@ -41,10 +40,6 @@ pub record NumbersPut (n : Numbers) (old new : List ℕ) : Type 0 where
   pub width : widthIn new ≡ n .width
   pub kept : KeptOutside 1536 1544 old new
 
--- The types of the name that a record's key has, as a set (FORMAT 1.5, 2.10).
-abbrev pub typesWith : List ℕ → ℕ → ℕ
-typesWith t key = bitAnd (firstAt t (key / 65536)) (secondAt t (key / 256 % 256))
-
 -- There are at most 32 records, and their keys have three bytes (FORMAT 2.2, 2.10).
 pub record RecordKeysFit (t : List ℕ) (n : ℕ) : Type 0 where
   pub few : n ≤ 32
@@ -52,4 +47,4 @@ pub record RecordKeysFit (t : List ℕ) (n : ℕ) : Type 0 where
 
 -- The types that have one of the first n records (FORMAT 2.10).
 pub record ExtendedIs (t : List ℕ) (n r : ℕ) : Type 0 where
-  pub types : (a : ℕ) → hasBit r a ≡ any (λ e. hasBit (typesWith t (extensionKeyAt t e)) a) (tab (λ e. e) n)
+  pub types : (a : ℕ) → hasBit r a ≡ any (λ e. hasBit (looked t (extensionKeyAt t e / 256)) a) (tab (λ e. e) n)

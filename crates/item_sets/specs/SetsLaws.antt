@@ -2,24 +2,24 @@
 use mathlib.Core.Bool.{Bool, _||_}
 use mathlib.Core.List.{List}
 use mathlib.Core.Path.{_≡_, sym, ap, ap₂, _∙_, subst}
-use Prim.Native.Nat.{ℕ, _+_, _/_, _^_, _≤_, _<_}
+use Prim.Native.Nat.{ℕ, _+_, _/_, _≤_, _<_}
 use native.Mathlib.Omega.{arith}
 use borrow.Author.Tests.{eqb-true, eqb-false}
-use lib.Bits.{bitAnd, bitOr, and-mask}
+use lib.Bits.{bitOr}
 use lib.Dec.{eqb}
 use lib.ListN.{length, getD, set, length-set}
 use lib.Seq.{getD-set-same, getD-set-other, ext-getD}
 use Rattle.lists.specs.Tests.{by}
 use Rattle.lists.specs.Tabulating.{tabulate, getD-tabulate, length-tabulate, tabulate-same}
 use Rattle.rows.specs.Rows.{hasBit}
-use Rattle.rows.specs.RowLaws.{bit-is, bit-either, bit-none}
+use Rattle.rows.specs.RowLaws.{bit-either, bit-none}
 use Rattle.ordering.specs.Lists.{any-tab-step}
 use Rattle.item_spread.specs.Spread.{United, Ordered}
 use Rattle.item_spread.specs.SpreadLaws.{UnitedTo, united-more, spread-none, spread-more}
 use Rattle.bitsets.specs.Bitsets.{Lowest, Rest}
-use Rattle.catalogue.specs.Layout.{parentsAt, aboveAt, passedAt, extensionKeyAt}
+use Rattle.catalogue.specs.Layout.{parentsAt, aboveAt, passedAt, extensionKeyAt, looked}
 use Rattle.catalogue.specs.Kept.{KeptOutside, kept-none, kept-set, kept-more}
-use Rattle.item_sets.specs.Sets.{parentSets, aboveSets, passedSets, SpreadPut, NumbersPut, typesWith, ExtendedIs}
+use Rattle.item_sets.specs.Sets.{parentSets, aboveSets, passedSets, SpreadPut, NumbersPut, ExtendedIs}
 use Rattle.item_sets.specs.declared.Numbers.{Numbers}
 
 -- ---- a part of the table as a list
@@ -85,11 +85,6 @@ spread-next order count given old t u new i a x row o l h z e w f g p =
           (subst (KeptOutside 384 512 u) (sym g) (kept-set 384 512 u (448 + a) q (omega arith) (omega arith))) (omega arith) (omega arith);
     }
 
--- the bit that the code tests
-pub bit-tested : (n k : ℕ) → eqb (bitAnd (n / 2 ^ k) 1) 1 ≡ hasBit n k
-unfolding hasBit
-bit-tested n k = ap (λ (x : ℕ). eqb x 1) (and-mask (n / 2 ^ k) 1 ∙ sym (bit-is n k))
-
 -- ---- the single numbers
 
 -- one number more, behind those below it
@@ -151,13 +146,13 @@ numbers-put n t0 t1 t2 t3 t4 t5 t6 t7 t8 l a b c d e f g h =
 pub extended-none : (t : List ℕ) → ExtendedIs t 0 0
 extended-none t = record { types = bit-none }
 
-pub extended-more : (t : List ℕ) (n r key x : ℕ) → key ≡ extensionKeyAt t n → x ≡ typesWith t key → ExtendedIs t n r → ExtendedIs t (n + 1) (bitOr r x)
+pub extended-more : (t : List ℕ) (n r key x : ℕ) → key ≡ extensionKeyAt t n → x ≡ looked t (key / 256) → ExtendedIs t n r → ExtendedIs t (n + 1) (bitOr r x)
 extended-more t n r key x e f p =
     record {
       types = λ a.
           bit-either r x a
-          ∙ ap₂ (λ (b c : Bool). b || c) (p .types a) (ap (λ (y : ℕ). hasBit y a) (f ∙ ap (typesWith t) e))
-          ∙ sym (any-tab-step (λ i. i) (λ i. hasBit (typesWith t (extensionKeyAt t i)) a) n);
+          ∙ ap₂ (λ (b c : Bool). b || c) (p .types a) (ap (λ (y : ℕ). hasBit y a) (f ∙ ap (λ (k : ℕ). looked t (k / 256)) e))
+          ∙ sym (any-tab-step (λ i. i) (λ i. hasBit (looked t (extensionKeyAt t i / 256)) a) n);
     }
 
 pub extended-all : (t : List ℕ) (n k r : ℕ) → n ≡ k → ExtendedIs t n r → ExtendedIs t k r

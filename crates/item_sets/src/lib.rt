@@ -7,7 +7,7 @@ ghost use Prim.Native.Nat.{_<_};
 ghost use lib.ListN.{length};
 ghost use Rattle.rows.specs.Rows.{hasBit};
 ghost use Rattle.item_spread.specs.Spread.{United, Ordered};
-ghost use Rattle.item_sets.specs.Sets.{passedSets, parentSets, SpreadPut, NumbersPut, typesWith, RecordKeysFit, ExtendedIs};
+ghost use Rattle.item_sets.specs.Sets.{passedSets, parentSets, SpreadPut, NumbersPut, RecordKeysFit, ExtendedIs};
 
 // The single numbers of the catalogue.
 pub struct Numbers {
@@ -73,18 +73,8 @@ pub fn is_lost(so_far: bool, c: Classes, childed: u64, a: usize) -> bool
     requires { ⌜ a < 64 ⌝ }
     ensures { λ r. ⌜ r ≡ («so_far» || (c .wrong || (hasBit childed a && c .missing))) ⌝ }
 {
-    let has_child = (childed >> a) & 1 == 1;
+    let has_child = bitsets::has(childed, a);
     so_far | (c.wrong | (has_child & c.missing))
-}
-
-// The types of a record's name, as a set: of one type, or of none.
-fn types_with(t: &[u64; 1544], key: u64) -> u64
-    requires { ⌜ key < 16777216 ⌝ }
-    ensures { λ r. ⌜ r ≡ typesWith (now (t .entry)) key ⌝ }
-{
-    let x = catalogue::first_at(t, (key / 65536) as usize);
-    let y = catalogue::second_at(t, (key / 256 % 256) as usize);
-    x & y
 }
 
 // The types that have one of the extension records.
@@ -96,7 +86,7 @@ pub fn extended_by(t: &[u64; 1544], count: usize) -> u64
     let mut e: usize = 0;
     while e < count {
         let key = catalogue::extension_key_at(t, e);
-        out = out | types_with(t, key);
+        out = out | catalogue::type_of(t, key / 256);
         e += 1;
     }
     out

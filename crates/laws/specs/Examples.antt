@@ -3,8 +3,15 @@ use mathlib.Core.Bool.{true, false, true≢false}
 use mathlib.Core.List.{List, [], _∷_, map, List·Memᴰ·head, List·Memᴰ·tail, List·Permᴰ·nil, List·Permᴰ·cons, List·Permᴰ·swap, List·Permᴰ·trans}
 use mathlib.Core.Path.{_≡_, refl, sym}
 use Prim.Native.Nat.{ℕ}
-use Rattle.lists.specs.Lists.{null}
+use native.Mathlib.Omega.{arith}
+use borrow.Author.Tests.{ltb-true}
+use lib.Dec.{ltb}
+use Rattle.lists.specs.Lists.{null, all}
+use Rattle.lists.specs.Tests.{any-not, all-in}
+use Rattle.lists.specs.Sorting.{ascends-sorted}
+use Rattle.lists.specs.Lexicographic.{list-strict}
 use Rattle.definitions.specs.Records.{Name, TypeInfo, domain, Sheet, Row}
+use Rattle.definitions.specs.Comparisons.{nameBefore, bytesBefore, dot, spelled, spelledBefore}
 use Rattle.definitions.specs.Checks.{resourceBytes, selfBytes}
 use Rattle.definitions.specs.Map.{typeMapOf, lineMapOf}
 use Rattle.definitions.specs.Order.{lastPass, inheritsSelf, hasOrder, organizeTypeMap}
@@ -12,7 +19,8 @@ use Rattle.definitions.specs.OrderRows.{findCyclesOrBadTypes, orderRows}
 use Rattle.definitions.specs.Ancestry.{IsSelf, HasOrder, IsOrder}
 use Rattle.definitions.specs.Relisted.{end, and, Relisted}
 use Rattle.definitions.specs.Cases.{run}
-use Rattle.laws.specs.Statements.{WellNamed, Reaches, start, onward, CycleDiagnosis}
+use Rattle.laws.specs.Statements.{AboveDot, Worded, WellNamed, Reaches, start, onward, CycleDiagnosis}
+use Rattle.laws.specs.Spelling.{spelling-is-word-order, spelling-is-one-name}
 use Rattle.laws.specs.Self.{self-is}
 use Rattle.laws.specs.Order.{order-exists, order-is-by-round, order-is-one, order-is-names}
 use Rattle.laws.specs.Diagnosis.{waiting-has-row, placed-has-no-row, refusal-has-row}
@@ -34,6 +42,41 @@ b = 1 ∷ []
 
 abbrev c : Name
 c = 2 ∷ []
+
+-- ---- the order of names
+
+-- the words `a`, `a0`, `aZ`, `a_`, `ab`, `b`, of which the first is the beginning of four others
+abbrev words : List (List ℕ)
+words = (97 ∷ []) ∷ (97 ∷ 48 ∷ []) ∷ (97 ∷ 90 ∷ []) ∷ (97 ∷ 95 ∷ []) ∷ (97 ∷ 98 ∷ []) ∷ (98 ∷ []) ∷ []
+
+words-above-dot : AboveDot words
+unfolding bytesBefore
+words-above-dot = record {
+  ascend = ascends-sorted list-strict words refl;
+  filled = λ w i. any-not null {l = words} refl i;
+  above = λ w i b j. ltb-true dot b (all-in (ltb dot) (all-in (all (ltb dot)) {l = words} refl i) j);
+}
+
+-- `a.b` goes before `a0` and before `a0.a`, as its words do
+words-order :
+    (spelledBefore words (0 ∷ 5 ∷ []) (1 ∷ []) ≡ nameBefore (0 ∷ 5 ∷ []) (1 ∷ []))
+    × (spelledBefore words (1 ∷ 0 ∷ []) (0 ∷ 5 ∷ []) ≡ nameBefore (1 ∷ 0 ∷ []) (0 ∷ 5 ∷ []))
+words-order = (
+  spelling-is-word-order words words-above-dot (0 ∷ 5 ∷ []) (1 ∷ []) (omega arith, (omega arith, tt)) (omega arith, tt),
+  spelling-is-word-order words words-above-dot (1 ∷ 0 ∷ []) (0 ∷ 5 ∷ []) (omega arith, (omega arith, tt)) (omega arith, (omega arith, tt)),
+)
+
+words-order-is : (spelledBefore words (0 ∷ 5 ∷ []) (1 ∷ []) ≡ true) × (spelledBefore words (1 ∷ 0 ∷ []) (0 ∷ 5 ∷ []) ≡ false)
+unfolding spelledBefore bytesBefore
+words-order-is = (refl, refl)
+
+words-one : (n : Name) → Worded words n → spelled words n ≡ 97 ∷ 46 ∷ 97 ∷ 48 ∷ [] → n ≡ 0 ∷ 1 ∷ []
+words-one n h e = spelling-is-one-name words words-above-dot n (0 ∷ 1 ∷ []) h (omega arith, (omega arith, tt)) e
+
+-- with a byte below the dot the two orders part: of the words `a`, `a-`, the name `a-` is spelled before `a.a`
+below-dot : (spelledBefore ((97 ∷ []) ∷ (97 ∷ 45 ∷ []) ∷ []) (1 ∷ []) (0 ∷ 0 ∷ []) ≡ true) × (nameBefore (1 ∷ []) (0 ∷ 0 ∷ []) ≡ false)
+unfolding spelledBefore bytesBefore nameBefore
+below-dot = (refl, refl)
 
 -- ---- the order
 

@@ -1,6 +1,7 @@
 pub mod Comparisons
 pub mod Passes
 pub mod Statements
+pub mod Spelling
 pub mod Self
 pub mod Rounds
 pub mod Order

@@ -4,16 +4,57 @@ use mathlib.Core.Bool.{true, false, _&&_, not}
 use mathlib.Core.List.{List, [], _∷_, map}
 use mathlib.Core.Logic.{_↔_}
 use mathlib.Core.Path.{_≡_}
-use Prim.Native.Nat.{ℕ, _+_}
+use Prim.Native.Nat.{ℕ, _+_, _<_}
 use lib.ListN.{length}
-use Rattle.lists.specs.Lists.{In, null}
-use Rattle.definitions.specs.Records.{Name, TypeInfo, Sheet}
+use Rattle.lists.specs.Lists.{In, Sorted, null, sort}
+use Rattle.definitions.specs.Records.{Name, Resource, TypeInfo, Sheet}
+use Rattle.definitions.specs.Comparisons.{nameBefore, bytesBefore, dot, spelled, spelledBefore, dotted}
 use Rattle.definitions.specs.Checks.{badWords, namesTwice}
-use Rattle.definitions.specs.Map.{TypeMap, typeMapOf, lineMapOf}
+use Rattle.definitions.specs.Map.{TypeMap, typeMapOf, lineTypeOf, lineMapOf}
 use Rattle.definitions.specs.Order.{passes, lastPass, inheritsSelf, hasOrder, organizeTypeMap}
 use Rattle.definitions.specs.OrderRows.{typeNamed, isBad, findCyclesOrBadTypes, orderRows}
 use Rattle.definitions.specs.Ancestry.{HasOrder, IsOrder}
+use Rattle.definitions.specs.Items.{owned, ofWord, ownClasses}
 use Rattle.definitions.specs.Relisted.{Relisted}
+use Rattle.definitions.specs.Legal.{Every, Legal}
+
+-- ---- the order of names (Spelling.antt)
+
+-- what the order of names rests on: the words ascend by bytes, and each has a byte and none that is the dot or below it
+pub record AboveDot (ws : List (List ℕ)) : Type 0 where
+  pub ascend : Sorted (λ v w. bytesBefore v w ≡ true) ws
+  pub filled : (w : List ℕ) → In w ws → null w ≡ false
+  pub above : (w : List ℕ) → In w ws → (b : ℕ) → In b w → dot < b
+
+-- every word of the name is there
+abbrev pub Worded : List (List ℕ) → Name → Type 0
+Worded ws n = Every (λ w. w < length ws) n
+
+-- the words of a legal sheet are such
+abbrev pub LegalAboveDot : Type 0
+LegalAboveDot = (s : Sheet) → Legal s → AboveDot (s .words)
+
+-- then names are ordered by spelling exactly as by word number, one word before two (FORMAT 1.4)
+abbrev pub SpellingIsWordOrder : Type 0
+SpellingIsWordOrder = (ws : List (List ℕ)) → AboveDot ws → (a b : Name) → Worded ws a → Worded ws b → spelledBefore ws a b ≡ nameBefore a b
+
+-- and two names that are spelled alike are one
+abbrev pub SpellingIsOneName : Type 0
+SpellingIsOneName = (ws : List (List ℕ)) → AboveDot ws → (a b : Name) → Worded ws a → Worded ws b → spelled ws a ≡ spelled ws b → a ≡ b
+
+-- so wherever the definitions compare names of a legal sheet, they compare spellings: the types of the map are in this order,
+-- those of a round, the parents that pass a word on,
+abbrev pub TypesBySpelling : Type 0
+TypesBySpelling = (s : Sheet) → Legal s → typeMapOf s .types ≡ sort (λ (T U : TypeInfo). spelledBefore (s .words) (T .name) (U .name)) (s .types)
+
+abbrev pub TypeNamesBySpelling : Type 0
+TypeNamesBySpelling = (s : Sheet) → Legal s → (T U : TypeInfo) → In T (s .types) → In U (s .types)
+    → nameBefore (T .name) (U .name) ≡ spelledBefore (s .words) (T .name) (U .name)
+
+-- and the own classes of a word
+abbrev pub ClassesBySpelling : Type 0
+ClassesBySpelling = (s : Sheet) → Legal s → (T : TypeInfo) → In T (s .types) → (r : ℕ) → r < length (s .words)
+    → ownClasses (lineTypeOf T) r ≡ sort (spelledBefore (s .words)) (map (λ (u : Resource). dotted (u .dom) r) (ofWord r (owned (lineTypeOf T))))
 
 -- ---- the order (Order.antt)
 

@@ -162,7 +162,7 @@ ItemsAtMost = (s : Sheet) → Readable s → Within s → length (itemsOf (lineM
 abbrev pub CountsAre : Type 0
 CountsAre = (s : Sheet) → Readable s → Within s → (T : TypeInfo) → In T (s .types) → CountsWithin s T
 
--- 17 parents of one to three words, 448 marks; every word below W
+-- `mostParents` parents of one to three words, `mostMarks` marks; every word below W
 abbrev pub ItemsWithin : Type 0
 ItemsWithin = (s : Sheet) → Readable s → Within s → (x : Item) → In x (itemsOf (lineMap s)) → ItemWithin (length (s .words)) x
 

@@ -8,7 +8,7 @@ use Rattle.definitions.specs.Records.{Name, Resource, Annotation, Mark, makelis
 use Rattle.definitions.specs.Checks.{resourcesOf}
 use Rattle.definitions.specs.Map.{typeMapOf, lineTypeOf, lineMapOf}
 use Rattle.definitions.specs.Items.{ancestors, ownClasses, domsAbove, parentsAbove, wordsMade, itemsFor}
-use Rattle.definitions.specs.LegalSchedule.{mostMarks}
+use Rattle.definitions.specs.LegalSchedule.{mostParents, mostMarks}
 
 -- a list of a to b words, each below W (FORMAT 2.5)
 pub record WordsWithin (W a b : ℕ) (n : List ℕ) : Type 0 where
@@ -72,12 +72,13 @@ pub record CountsWithin (s : Sheet) (T : TypeInfo) : Type 0 where
   pub parents : (r : ℕ) → length (parentsAbove (lineMapOf (typeMapOf s)) (lineTypeOf T) r) ≤ 8
   pub items : length (itemsFor (lineMapOf (typeMapOf s)) (lineTypeOf T) (ancestors (lineMapOf (typeMapOf s)) (lineTypeOf T))) ≤ 12 * 15 + 200 + 200
 
--- what the fields of an item hold: at most 17 parents of one to three words, at most `mostMarks` marks (FORMAT 6.2, 6.3)
+-- what the fields of an item hold: at most `mostParents` parents of one to three words, at most `mostMarks` marks (FORMAT 6.2,
+-- 6.3)
 abbrev pub ItemWithin : ℕ → Item → Type 0
 ItemWithin W (synthesized n r v ps ms) = record {
   type : NameWithin W n;
   word : r < W;
-  parents : length ps ≤ 17;
+  parents : length ps ≤ mostParents;
   parent : (p : Name) → In p ps → WordsWithin W 1 3 p;
   marks : length ms ≤ mostMarks;
   mark : (k : Mark) → In k ms → MarkWithin k;

@@ -40,17 +40,17 @@ before-irreflexive [] = refl
 before-irreflexive (x ∷ a) = rw (le-ltb x x (omega arith), eq-eqb x x refl) (before-irreflexive a)
 
 -- the first numbers decide, or are equal and the rest decides
-before-cases : (x y : ℕ) (a b : List ℕ) → listBefore (x ∷ a) (y ∷ b) ≡ true → (x < y) ⊎ ((x ≡ y) × (listBefore a b ≡ true))
+pub before-cases : (x y : ℕ) (a b : List ℕ) → listBefore (x ∷ a) (y ∷ b) ≡ true → (x < y) ⊎ ((x ≡ y) × (listBefore a b ≡ true))
 before-cases x y a b e =
     ⊎-elim
     (λ l. inl (ltb-true x y l))
     (λ l. inr (eqb-true x y (and-left (eqb x y) (listBefore a b) l), and-right (eqb x y) (listBefore a b) l))
     (or-cases (ltb x y) (eqb x y && listBefore a b) e)
 
-before-first : (x y : ℕ) (a b : List ℕ) → x < y → listBefore (x ∷ a) (y ∷ b) ≡ true
+pub before-first : (x y : ℕ) (a b : List ℕ) → x < y → listBefore (x ∷ a) (y ∷ b) ≡ true
 before-first x y a b h = or-left (eqb x y && listBefore a b) (lt-ltb x y h)
 
-before-rest : (x y : ℕ) (a b : List ℕ) → x ≡ y → listBefore a b ≡ true → listBefore (x ∷ a) (y ∷ b) ≡ true
+pub before-rest : (x y : ℕ) (a b : List ℕ) → x ≡ y → listBefore a b ≡ true → listBefore (x ∷ a) (y ∷ b) ≡ true
 before-rest x y a b e h = or-right (ltb x y) (and-both (eq-eqb x y e) h)
 
 before-transitive : (a b c : List ℕ) → listBefore a b ≡ true → listBefore b c ≡ true → listBefore a c ≡ true

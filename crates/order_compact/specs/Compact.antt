@@ -6,7 +6,8 @@ use lib.ListN.{length}
 use Rattle.bitsets.specs.Bitsets.{Lowest}
 use Rattle.sheet_draft.specs.Draft.{keyAt, parentCountAt, parentAt}
 use Rattle.order_table.specs.Form.{numberOf, typeIn, listingIn, typesIn}
-use Rattle.order_parents.specs.Parents.{looked, rowOf, KeysOf}
+use Rattle.catalogue.specs.Layout.{looked}
+use Rattle.order_parents.specs.Parents.{rowOf, KeysOf}
 
 -- The place of the one type of a set; n where there is none.
 pub record PlaceIs (types n r : ℕ) : Type 0 where

@@ -9,7 +9,8 @@ use lib.ListN.{length, set, length-set}
 use lib.Seq.{getD-set-same, getD-set-other}
 use Rattle.lists.specs.Tests.{by}
 use Rattle.sheet_draft.specs.Draft.{keyAt, parentCountAt, parentAt}
-use Rattle.order_parents.specs.Parents.{looked, rowOf}
+use Rattle.catalogue.specs.Layout.{looked}
+use Rattle.order_parents.specs.Parents.{rowOf}
 use Rattle.order_compact.specs.Compact.{PlaceIs, ParentIs, TypePut, Stands}
 
 -- a listed parent as it is put

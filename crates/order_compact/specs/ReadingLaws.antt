@@ -22,7 +22,8 @@ use Rattle.sheet_draft.specs.Draft.{keyAt, parentCountAt, parentAt}
 use Rattle.order_table.specs.Form.{numberOf, firstOf, typeIn, listingIn, formOf}
 use Rattle.order_table.specs.Form as form
 use Rattle.order_table.specs.FormLaws.{types-is, self-is, count-is, first-is, second-is, place-is, parent-first-is, parent-second-is}
-use Rattle.order_parents.specs.Parents.{looked, rowOf}
+use Rattle.catalogue.specs.Layout.{looked}
+use Rattle.order_parents.specs.Parents.{rowOf}
 use Rattle.order_parents.specs.Known.{Looks}
 use Rattle.order_compact.specs.Compact.{PlaceIs, Drafts, Stands}
 use Rattle.order_compact.specs.Reading.{Drawn, Compacts}

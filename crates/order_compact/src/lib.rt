@@ -3,7 +3,8 @@ ghost use mathlib.Core.Path.{_≡_};
 ghost use Prim.Native.Nat.{_≤_, _<_};
 ghost use lib.ListN.{length};
 ghost use Rattle.sheet_draft.specs.Draft.{keyAt, parentCountAt};
-ghost use Rattle.order_parents.specs.Parents.{looked, KeysOf};
+ghost use Rattle.catalogue.specs.Layout.{looked};
+ghost use Rattle.order_parents.specs.Parents.{KeysOf};
 ghost use Rattle.order_table.specs.Form.{formOf};
 ghost use Rattle.order_compact.specs.Compact.{PlaceIs, Drafts, TypePut};
 ghost use Rattle.order_compact.specs.Reading.{Compacts};
@@ -13,7 +14,7 @@ fn place_of(t: &[u64; 1544], key: u64, count: usize) -> usize
     requires { ⌜ (key < 65536) × (count ≤ 64) ⌝ }
     ensures { λ r. ⌜ PlaceIs (looked (now (t .entry)) key) count r × (r ≤ 64) ⌝ }
 {
-    let types = order_parents::type_of(t, key);
+    let types = catalogue::type_of(t, key);
     if types == 0 {
         return count;
     }

@@ -15,10 +15,10 @@ use Rattle.definitions.specs.Comparisons.{sameName, elemName}
 use Rattle.definitions.specs.Map.{TypeMap}
 use Rattle.ordering.specs.Lists.{tab}
 use Rattle.ordering.specs.Reading.{typeAt}
-use Rattle.catalogue.specs.Layout.{parentsAt}
+use Rattle.catalogue.specs.Layout.{parentsAt, looked}
 use Rattle.sheet_keys.specs.Keys.{nameOfKey}
 use Rattle.sheet_draft.specs.Draft.{parentCountAt, parentAt}
-use Rattle.order_parents.specs.Parents.{looked, rowOf, KeysOf, Prepared}
+use Rattle.order_parents.specs.Parents.{rowOf, KeysOf, Prepared}
 use Rattle.order_parents.specs.Known.{ParentSets, Looks, Rows}
 
 abbrev typed : ℕ → List Name → TypeInfo

@@ -15,8 +15,8 @@ use Rattle.ordering.specs.Lists.{tab}
 use Rattle.ordering.specs.Reading.{typeAt}
 use Rattle.sheet_keys.specs.Keys.{nameOfKey}
 use Rattle.sheet_draft.specs.Draft.{parentCountAt, parentAt}
-use Rattle.catalogue.specs.Layout.{parentsAt}
-use Rattle.order_parents.specs.Parents.{looked, rowOf}
+use Rattle.catalogue.specs.Layout.{parentsAt, looked}
+use Rattle.order_parents.specs.Parents.{rowOf}
 
 -- Whether a listed parent is declared, and not `self` (FORMAT 3.2).
 unfoldable pub known : TypeMap → Name → Bool

@@ -23,8 +23,8 @@ use Rattle.ordering.specs.Reading.{noType, typeAt}
 use Rattle.law_classes.specs.Numbers.{place-of}
 use Rattle.sheet_keys.specs.Keys.{nameOfKey}
 use Rattle.sheet_draft.specs.Draft.{parentCountAt, parentAt}
-use Rattle.catalogue.specs.Layout.{parentsAt}
-use Rattle.order_parents.specs.Parents.{looked, knownKey, rowOf, keysIn, ParentsPut}
+use Rattle.catalogue.specs.Layout.{parentsAt, looked}
+use Rattle.order_parents.specs.Parents.{knownKey, rowOf, keysIn, ParentsPut}
 use Rattle.order_parents.specs.Known.{known, allKnown, ParentSets, Childed, Looks, Rows}
 use Rattle.order_parents.specs.declared.Found.{Found}
 

@@ -2,21 +2,16 @@
 use mathlib.Core.Bool.{Bool, _&&_, not}
 use mathlib.Core.List.{List}
 use mathlib.Core.Path.{_≡_}
-use Prim.Native.Nat.{ℕ, _/_, _%_, _^_, _≤_, _<_}
-use lib.Bits.{bitAnd}
+use Prim.Native.Nat.{ℕ, _%_, _^_, _≤_, _<_}
 use lib.Dec.{eqb}
 use lib.ListN.{getD}
 use Rattle.lists.specs.Lists.{any, all}
 use Rattle.rows.specs.Rows.{hasBit}
 use Rattle.ordering.specs.Lists.{tab}
 use Rattle.sheet_draft.specs.Draft.{parentCountAt, parentAt}
-use Rattle.catalogue.specs.Layout.{parentsAt, firstAt, secondAt}
+use Rattle.catalogue.specs.Layout.{parentsAt, looked}
 use Rattle.catalogue.specs.Kept.{KeptOutside}
 use Rattle.order_parents.specs.declared.Found.{Found}
-
--- The set of the type that has a key: by its first word and by its second (FORMAT 1.5).
-unfoldable pub looked : List ℕ → ℕ → ℕ
-looked t key = bitAnd (firstAt t (key / 256)) (secondAt t (key % 256))
 
 -- Whether a key is that of a declared type, and not `self` (FORMAT 3.2).
 unfoldable pub knownKey : List ℕ → ℕ → ℕ → Bool

@@ -16,7 +16,8 @@ use Rattle.rows.specs.RowLaws.{bit-either, bit-none}
 use Rattle.ordering.specs.Lists.{tab, any-tab-step, all-tab-step}
 use Rattle.sheet_draft.specs.Draft.{parentCountAt, parentAt}
 use Rattle.catalogue.specs.Kept.{KeptOutside, kept-none, kept-set, kept-more}
-use Rattle.order_parents.specs.Parents.{looked, knownKey, rowOf, keysIn, ParentsOf, ParentsPut}
+use Rattle.catalogue.specs.Layout.{looked}
+use Rattle.order_parents.specs.Parents.{knownKey, rowOf, keysIn, ParentsOf, ParentsPut}
 use Rattle.order_parents.specs.declared.Found.{Found}
 
 -- ---- the parents of one type

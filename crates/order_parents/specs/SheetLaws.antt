@@ -30,9 +30,9 @@ use Rattle.law_classes.specs.Numbers.{Fits}
 use Rattle.sheet_keys.specs.Keys.{nameOfKey, namesFrom}
 use Rattle.sheet_draft.specs.Draft.{parentCountAt, parentAt, typeIn, typesIn}
 use Rattle.sheet_draft.specs.Drafted.{Drafted}
-use Rattle.catalogue.specs.Layout.{parentsAt, firstAt, secondAt}
+use Rattle.catalogue.specs.Layout.{parentsAt, firstAt, secondAt, looked}
 use Rattle.catalogue.specs.Catalogue.{firstIs, secondIs, Listed}
-use Rattle.order_parents.specs.Parents.{looked, rowOf, Prepared}
+use Rattle.order_parents.specs.Parents.{rowOf, Prepared}
 use Rattle.order_parents.specs.Known.{Looks, Rows, ParentSets, Childed}
 
 -- the types of the draft by name, by the entries

@@ -4,22 +4,12 @@ ghost use mathlib.Core.Path.{_≡_};
 ghost use Prim.Native.Nat.{_<_};
 ghost use lib.Dec.{eqb};
 ghost use lib.ListN.{length};
-ghost use Rattle.order_parents.specs.Parents.{looked, KeysOf, Prepared, ParentsOf, ParentsPut};
+ghost use Rattle.order_parents.specs.Parents.{KeysOf, Prepared, ParentsOf, ParentsPut};
 
 // A set of parents; and whether each name that was listed for it is that of a declared type, and not `self`.
 pub struct Found {
     pub set: u64,
     pub whole: bool,
-}
-
-// The type that has a key, as a set of one, or of none where the name is not declared (FORMAT 1.5).
-pub fn type_of(t: &[u64; 1544], key: u64) -> u64
-    requires { ⌜ key < 65536 ⌝ }
-    ensures { λ r. ⌜ r ≡ looked (now (t .entry)) key ⌝ }
-{
-    let first = (key / 256) as usize;
-    let second = (key % 256) as usize;
-    catalogue::first_at(t, first) & catalogue::second_at(t, second)
 }
 
 // Whether a listed parent is declared, and not `self`.
@@ -43,7 +33,7 @@ fn parents_of(t: &[u64; 1544], d: &[u64; 704], row: usize, own: u64) -> Found
     let mut k: usize = 0;
     while k < count {
         let key = sheet_draft::parent_at(d, row, k);
-        let place = type_of(t, key);
+        let place = catalogue::type_of(t, key);
         set = set | place;
         whole = whole & is_known(place, key, own);
         k += 1;

@@ -9,7 +9,7 @@ use Rattle.definitions.specs.Bits.{toBits}
 use Rattle.definitions.specs.Records.{Name, Mark, Item, synthesized, extension, Schedule}
 use Rattle.definitions.specs.Parse.{Parser, _>>=_, pure, choose, flag, counted}
 use Rattle.definitions.specs.Reading.{wordField, name, mark}
-use Rattle.definitions.specs.Packing.{countedBits, nameBits, parentBits, markBits, itemBits, orderBits, scheduleBits}
+use Rattle.definitions.specs.Packing.{countedBits, nameBits, parentBits, markBits, itemBits, orderBits, itemCountBits, scheduleBits}
 use Rattle.definitions.specs.Legal.{Counted, LegalMark}
 use Rattle.definitions.specs.LegalSchedule.{leastParents, mostParents, mostParentWords, mostMarks, mostNames, mostItems, LegalNames, LegalParent, LegalItem}
 use Rattle.reading_laws.specs.Parsers.{Reads, Only, Exact, Codes, reads-next, reads-last, only-next, only-last, flag-codes, counted-codes}
@@ -48,7 +48,7 @@ parseNames W = counted 7 0 mostNames (name W)
 abbrev pub parseSchedule : ℕ → Parser Schedule
 parseSchedule W = do
   ns ← parseNames W
-  xs ← counted 16 0 mostItems (parseItem W)
+  xs ← counted itemCountBits 0 mostItems (parseItem W)
   pure (record { order = ns; items = xs })
 
 -- ---- what they read
@@ -137,14 +137,14 @@ module _ (W : ℕ) (small : W ≤ 256) where
   unfolding orderBits
   names-codes = counted-codes (name-codes W small) 7 0 mostNames (omega arith)
 
-  items-codes : Codes (counted 16 0 mostItems (parseItem W)) (countedBits 16 itemBits) (Counted 0 mostItems (LegalItem W))
-  items-codes = counted-codes item-codes 16 0 mostItems (omega arith)
+  items-codes : Codes (counted itemCountBits 0 mostItems (parseItem W)) (countedBits itemCountBits itemBits) (Counted 0 mostItems (LegalItem W))
+  items-codes = counted-codes item-codes itemCountBits 0 mostItems (omega arith)
 
   pub schedule-codes : Codes (parseSchedule W) scheduleBits (WithinFields W)
   unfolding scheduleBits
   schedule-codes = record {
     back = λ s h.
-        reads-next names-codes _ (s .order) s (countedBits 16 itemBits (s .items)) (h .names)
+        reads-next names-codes _ (s .order) s (countedBits itemCountBits itemBits (s .items)) (h .names)
         (reads-last items-codes (λ xs. record { order = s .order; items = xs }) (s .items) (h .items));
     only =
         only-next names-codes _ (Exact scheduleBits (WithinFields W))

@@ -9,6 +9,7 @@ ghost use Prim.Native.Nat.{_≤_};
 ghost use lib.ListN.{length, drop};
 ghost use Rattle.definitions.specs.Bits.{bitsOf};
 ghost use Rattle.definitions.specs.Reading.{sheet};
+ghost use Rattle.bits.specs.Reading.{Addressable};
 ghost use Rattle.sheet_decode.specs.Lists.{Tables, tellingIn, records, seen, ofLists, Kept};
 ghost use Rattle.sheet_decode.specs.Decodes.{Decodes};
 
@@ -54,7 +55,7 @@ fn unread(f: Fault) -> Lists
 
 // The types and the extension records behind the words.
 fn read_records(s: &[u8], w: WordsRead, d: &mut [u64; 704], t: &mut [u64; 1544]) -> Lists
-    requires { ⌜ (length (now s) ≤ 40960) × (w .count ≤ 200) × Tables (now d) (now t) ⌝ }
+    requires { ⌜ Addressable (now s) × (w .count ≤ 200) × Tables (now d) (now t) ⌝ }
     ensures { λ r. ⌜ (ofLists (bitsOf (now (s .entry))) (now (d .exit)) (now (t .exit)) r ≡ records (tellingIn w) (drop (w .at) (bitsOf (now (s .entry))))) × Kept (bitsOf (now (s .entry))) (now (d .exit)) (now (t .exit)) r ⌝ }
 {
     let ts = sheet_types::read_types(s, Cursor { at: w.at }, w.count, d);
@@ -82,7 +83,7 @@ fn read_records(s: &[u8], w: WordsRead, d: &mut [u64; 704], t: &mut [u64; 1544])
 
 // All fields of the sheet: refusals 3 and 4 (FORMAT 2.1).
 fn read_lists(s: &[u8], d: &mut [u64; 704], t: &mut [u64; 1544]) -> Lists
-    requires { ⌜ (length (now s) ≤ 40960) × Tables (now d) (now t) ⌝ }
+    requires { ⌜ Addressable (now s) × Tables (now d) (now t) ⌝ }
     ensures { λ r. ⌜ (ofLists (bitsOf (now (s .entry))) (now (d .exit)) (now (t .exit)) r ≡ seen (sheet (bitsOf (now (s .entry))))) × Kept (bitsOf (now (s .entry))) (now (d .exit)) (now (t .exit)) r ⌝ }
 {
     let o = sheet::read_version(s, Cursor { at: 0 });

@@ -12,6 +12,7 @@ ghost use lib.ListN.{length, drop};
 ghost use Rattle.definitions.specs.Bits.{bitsOf};
 ghost use Rattle.definitions.specs.Parse.{repeat, counted};
 ghost use Rattle.definitions.specs.Reading.{name, extension};
+ghost use Rattle.bits.specs.Reading.{Addressable};
 ghost use Rattle.sheet_keys.specs.Keys.{ofSpan, Kept};
 ghost use Rattle.sheet_extensions.specs.Records.{recordSet, ofRecordRead, ofExtensionsRead, FewHere, KeptRecords};
 
@@ -28,7 +29,7 @@ const PARENTS: usize = 768;
 
 // The parents that a record adds, 1 to 8 (FORMAT 2.10).
 fn read_added(s: &[u8], c: Cursor, limit: usize, e: usize, t: &mut [u64; 1544]) -> Span
-    requires { ⌜ (length (now s) ≤ 40960) × (limit ≤ 255) × (e < 32) × (length (now t) ≡ 1544) ⌝ }
+    requires { ⌜ Addressable (now s) × (limit ≤ 255) × (e < 32) × (length (now t) ≡ 1544) ⌝ }
     ensures { λ r. ⌜ (ofSpan (bitsOf (now (s .entry))) (now (t .exit)) (768 + 8 * e) r ≡ counted 4 1 8 (name limit) (drop (c .at) (bitsOf (now (s .entry))))) × Kept (768 + 8 * e) (now (t .entry)) (now (t .exit)) × (r .count ≤ 8) ⌝ }
 {
     match fields::read_between(s, c, 4, 1, 8) {
@@ -61,7 +62,7 @@ fn key_with(key: u64, w: u8) -> u64
 
 // The record at the cursor, as record e of the catalogue.
 fn read_record(s: &[u8], c: Cursor, limit: usize, e: usize, t: &mut [u64; 1544]) -> Skip
-    requires { ⌜ (length (now s) ≤ 40960) × (limit ≤ 255) × (e < 32) × (length (now t) ≡ 1544) ⌝ }
+    requires { ⌜ Addressable (now s) × (limit ≤ 255) × (e < 32) × (length (now t) ≡ 1544) ⌝ }
     ensures { λ r. ⌜ (ofRecordRead (bitsOf (now (s .entry))) (now (t .exit)) e r ≡ extension limit (drop (c .at) (bitsOf (now (s .entry))))) × KeptRecords e (now (t .entry)) (now (t .exit)) × FewHere (now (t .exit)) e r ⌝ }
 {
     match sheet_keys::read_key(s, c, limit) {
@@ -89,7 +90,7 @@ fn read_each_record(
     n: usize,
     t: &mut [u64; 1544],
 ) -> ExtensionsRead
-    requires { ⌜ (length (now s) ≤ 40960) × (limit ≤ 255) × (n ≤ 32) × (length (now t) ≡ 1544) ⌝ }
+    requires { ⌜ Addressable (now s) × (limit ≤ 255) × (n ≤ 32) × (length (now t) ≡ 1544) ⌝ }
     ensures { λ r. ⌜ (ofExtensionsRead (bitsOf (now (s .entry))) (now (t .exit)) r ≡ repeat (extension limit) n (drop (c .at) (bitsOf (now (s .entry))))) × (length (now (t .exit)) ≡ 1544) × (r .count ≤ 32) ⌝ }
 {
     let mut next = c;
@@ -122,7 +123,7 @@ fn read_each_record(
 
 // The extension records of a sheet, at most 32 (FORMAT 2.2).
 pub fn read_extensions(s: &[u8], c: Cursor, limit: usize, t: &mut [u64; 1544]) -> ExtensionsRead
-    requires { ⌜ (length (now s) ≤ 40960) × (limit ≤ 255) × (length (now t) ≡ 1544) ⌝ }
+    requires { ⌜ Addressable (now s) × (limit ≤ 255) × (length (now t) ≡ 1544) ⌝ }
     ensures { λ r. ⌜ (ofExtensionsRead (bitsOf (now (s .entry))) (now (t .exit)) r ≡ counted 6 0 32 (extension limit) (drop (c .at) (bitsOf (now (s .entry))))) × (length (now (t .exit)) ≡ 1544) × (r .count ≤ 32) ⌝ }
 {
     match fields::read_between(s, c, 6, 0, 32) {

@@ -9,10 +9,11 @@ ghost use lib.ListN.{length, drop};
 ghost use Rattle.definitions.specs.Bits.{bitsOf};
 ghost use Rattle.definitions.specs.Parse.{field, between};
 ghost use Rattle.definitions.specs.Reading.{wordField};
+ghost use Rattle.bits.specs.Reading.{Addressable};
 ghost use Rattle.fields.specs.Fields.{ofField, ofByte};
 
 fn between_in(s: &[u8], at: usize, n: usize, least: usize, most: usize) -> Field
-    requires { ⌜ (length (now s) ≤ 40960) × (0 < n) × (n ≤ 16) × (at / 8 + 4 ≤ length (now s)) ⌝ }
+    requires { ⌜ Addressable (now s) × (0 < n) × (n ≤ 16) × (at / 8 + 4 ≤ length (now s)) ⌝ }
     ensures { λ r. ⌜ ofField (bitsOf (now (s .entry))) r ≡ between n least most (drop at (bitsOf (now (s .entry)))) ⌝ }
 {
     let v = sheet_window::window(s, at, n);
@@ -27,7 +28,7 @@ fn between_in(s: &[u8], at: usize, n: usize, least: usize, most: usize) -> Field
 
 // A field of n bits from `least` to `most`.
 pub fn read_between(s: &[u8], c: Cursor, n: usize, least: usize, most: usize) -> Field
-    requires { ⌜ (length (now s) ≤ 40960) × (0 < n) × (n ≤ 16) ⌝ }
+    requires { ⌜ Addressable (now s) × (0 < n) × (n ≤ 16) ⌝ }
     ensures { λ r. ⌜ ofField (bitsOf (now (s .entry))) r ≡ between n least most (drop (c .at) (bitsOf (now (s .entry)))) ⌝ }
 {
     let at = c.at;
@@ -38,7 +39,7 @@ pub fn read_between(s: &[u8], c: Cursor, n: usize, least: usize, most: usize) ->
 }
 
 fn word_in(s: &[u8], at: usize, limit: usize) -> ByteRead
-    requires { ⌜ (length (now s) ≤ 40960) × (at / 8 + 4 ≤ length (now s)) ⌝ }
+    requires { ⌜ Addressable (now s) × (at / 8 + 4 ≤ length (now s)) ⌝ }
     ensures { λ r. ⌜ ofByte (bitsOf (now (s .entry))) r ≡ wordField limit (drop at (bitsOf (now (s .entry)))) ⌝ }
 {
     let v = sheet_window::window(s, at, 8);
@@ -50,7 +51,7 @@ fn word_in(s: &[u8], at: usize, limit: usize) -> ByteRead
 
 // The number of a word of the sheet, of which there are `limit` (FORMAT 2.5).
 pub fn read_word_field(s: &[u8], c: Cursor, limit: usize) -> ByteRead
-    requires { ⌜ length (now s) ≤ 40960 ⌝ }
+    requires { ⌜ Addressable (now s) ⌝ }
     ensures { λ r. ⌜ ofByte (bitsOf (now (s .entry))) r ≡ wordField limit (drop (c .at) (bitsOf (now (s .entry)))) ⌝ }
 {
     let at = c.at;

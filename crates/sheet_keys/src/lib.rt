@@ -1,15 +1,15 @@
 // Names as keys, read straight into a lent table.
 use bits::Cursor;
 use fields::Fault;
-use fields::Field;
 use fields::Name;
 use fields::NameRead;
 ghost use mathlib.Core.Path.{_≡_};
 ghost use Prim.Native.Nat.{_+_, _/_, _≤_, _<_};
 ghost use lib.ListN.{length, drop};
 ghost use Rattle.definitions.specs.Bits.{bitsOf};
-ghost use Rattle.definitions.specs.Parse.{repeat, counted};
+ghost use Rattle.definitions.specs.Parse.{repeat};
 ghost use Rattle.definitions.specs.Reading.{name};
+ghost use Rattle.bits.specs.Reading.{Addressable};
 ghost use Rattle.fields.specs.Fields.{nameOf};
 ghost use Rattle.sheet_keys.specs.Keys.{nameOfKey, ofKeyRead, ofSpan, Kept};
 
@@ -37,7 +37,7 @@ fn key_of(n: Name) -> u64
 
 // A name out of 17 bits that are there, of which it has 9 or 17.
 fn key_in(s: &[u8], at: usize, limit: usize) -> KeyRead
-    requires { ⌜ (at / 8 + 4 ≤ length (now s)) × (length (now s) ≤ 40960) × (limit ≤ 255) ⌝ }
+    requires { ⌜ (at / 8 + 4 ≤ length (now s)) × Addressable (now s) × (limit ≤ 255) ⌝ }
     ensures { λ r. ⌜ ofKeyRead (bitsOf (now (s .entry))) r ≡ name limit (drop at (bitsOf (now (s .entry)))) ⌝ }
 {
     let w = sheet_window::window(s, at, 17);
@@ -57,7 +57,7 @@ fn key_in(s: &[u8], at: usize, limit: usize) -> KeyRead
 
 // A name near the end, field by field.
 fn key_near_end(s: &[u8], c: Cursor, limit: usize) -> KeyRead
-    requires { ⌜ (length (now s) ≤ 40960) × (limit ≤ 255) ⌝ }
+    requires { ⌜ Addressable (now s) × (limit ≤ 255) ⌝ }
     ensures { λ r. ⌜ ofKeyRead (bitsOf (now (s .entry))) r ≡ name limit (drop (c .at) (bitsOf (now (s .entry)))) ⌝ }
 {
     match fields::read_name(s, c, limit) {
@@ -67,7 +67,7 @@ fn key_near_end(s: &[u8], c: Cursor, limit: usize) -> KeyRead
 }
 
 pub fn read_key(s: &[u8], c: Cursor, limit: usize) -> KeyRead
-    requires { ⌜ (length (now s) ≤ 40960) × (limit ≤ 255) ⌝ }
+    requires { ⌜ Addressable (now s) × (limit ≤ 255) ⌝ }
     ensures { λ r. ⌜ ofKeyRead (bitsOf (now (s .entry))) r ≡ name limit (drop (c .at) (bitsOf (now (s .entry)))) ⌝ }
 {
     let at = c.at;
@@ -86,7 +86,7 @@ pub fn read_each_key(
     out: &mut [u64],
     base: usize,
 ) -> Span
-    requires { ⌜ (length (now s) ≤ 40960) × (limit ≤ 255) × (base + n ≤ length (now out)) ⌝ }
+    requires { ⌜ Addressable (now s) × (limit ≤ 255) × (base + n ≤ length (now out)) ⌝ }
     ensures { λ r. ⌜ (ofSpan (bitsOf (now (s .entry))) (now (out .exit)) base r ≡ repeat (name limit) n (drop (c .at) (bitsOf (now (s .entry))))) × Kept base (now (out .entry)) (now (out .exit)) × (r .count ≤ n) ⌝ }
 {
     let mut next = c;
@@ -115,28 +115,5 @@ pub fn read_each_key(
         fault: Fault::Past,
         count: n,
         at: next.at,
-    }
-}
-
-// A count of 4 bits up to `most`, and the names behind it.
-pub fn read_keys(
-    s: &[u8],
-    c: Cursor,
-    limit: usize,
-    most: usize,
-    out: &mut [u64],
-    base: usize,
-) -> Span
-    requires { ⌜ (length (now s) ≤ 40960) × (limit ≤ 255) × (base + most ≤ length (now out)) ⌝ }
-    ensures { λ r. ⌜ (ofSpan (bitsOf (now (s .entry))) (now (out .exit)) base r ≡ counted 4 0 most (name limit) (drop (c .at) (bitsOf (now (s .entry))))) × Kept base (now (out .entry)) (now (out .exit)) × (r .count ≤ most) ⌝ }
-{
-    match fields::read_between(s, c, 4, 0, most) {
-        Field::At(n, next) => read_each_key(s, next, limit, n, out, base),
-        Field::Refused(r) => Span {
-            ok: false,
-            fault: r,
-            count: 0,
-            at: 0,
-        },
     }
 }

@@ -7,10 +7,11 @@ use records::MarkRead;
 use sheet_keys::KeyRead;
 ghost use mathlib.Core.Path.{_≡_};
 ghost use Prim.Native.Nat.{_≤_};
-ghost use lib.ListN.{length, drop};
+ghost use lib.ListN.{drop};
 ghost use Rattle.definitions.specs.Bits.{bitsOf};
 ghost use Rattle.definitions.specs.Parse.{counted};
 ghost use Rattle.definitions.specs.Reading.{name, annotation, mark};
+ghost use Rattle.bits.specs.Reading.{Addressable};
 ghost use Rattle.records.specs.Annotations.{rowsFor};
 ghost use Rattle.sheet_notes.specs.Notes.{notes, forget, steps, ofSkip};
 
@@ -22,7 +23,7 @@ pub enum Skip {
 
 // n names.
 pub fn skip_each_name(s: &[u8], c: Cursor, limit: usize, n: usize) -> Skip
-    requires { ⌜ (length (now s) ≤ 40960) × (limit ≤ 255) ⌝ }
+    requires { ⌜ Addressable (now s) × (limit ≤ 255) ⌝ }
     ensures { λ r. ⌜ ofSkip (bitsOf (now (s .entry))) r ≡ steps (name limit) n (drop (c .at) (bitsOf (now (s .entry)))) ⌝ }
 {
     let mut next = c;
@@ -42,7 +43,7 @@ pub fn skip_each_name(s: &[u8], c: Cursor, limit: usize, n: usize) -> Skip
 }
 
 fn skip_names(s: &[u8], c: Cursor, limit: usize) -> Skip
-    requires { ⌜ (length (now s) ≤ 40960) × (limit ≤ 255) ⌝ }
+    requires { ⌜ Addressable (now s) × (limit ≤ 255) ⌝ }
     ensures { λ r. ⌜ ofSkip (bitsOf (now (s .entry))) r ≡ forget (counted 4 0 15 (name limit) (drop (c .at) (bitsOf (now (s .entry))))) ⌝ }
 {
     match sheet_fields::read_between(s, c, 4, 0, 15) {
@@ -53,7 +54,7 @@ fn skip_names(s: &[u8], c: Cursor, limit: usize) -> Skip
 
 // What follows the kind of an annotation.
 fn skip_rows(s: &[u8], c: Cursor, limit: usize, kind: usize) -> Skip
-    requires { ⌜ (length (now s) ≤ 40960) × (limit ≤ 255) ⌝ }
+    requires { ⌜ Addressable (now s) × (limit ≤ 255) ⌝ }
     ensures { λ r. ⌜ ofSkip (bitsOf (now (s .entry))) r ≡ forget (rowsFor limit kind (drop (c .at) (bitsOf (now (s .entry))))) ⌝ }
 {
     match kind {
@@ -79,7 +80,7 @@ fn is_nested_in_two(kind: usize, single: bool) -> bool
 }
 
 fn skip_annotation(s: &[u8], c: Cursor, limit: usize, single: bool) -> Skip
-    requires { ⌜ (length (now s) ≤ 40960) × (limit ≤ 255) ⌝ }
+    requires { ⌜ Addressable (now s) × (limit ≤ 255) ⌝ }
     ensures { λ r. ⌜ ofSkip (bitsOf (now (s .entry))) r ≡ forget (annotation limit single (drop (c .at) (bitsOf (now (s .entry))))) ⌝ }
 {
     match sheet_fields::read_between(s, c, 3, 0, 6) {
@@ -94,7 +95,7 @@ fn skip_annotation(s: &[u8], c: Cursor, limit: usize, single: bool) -> Skip
 }
 
 fn skip_each_annotation(s: &[u8], c: Cursor, limit: usize, single: bool, n: usize) -> Skip
-    requires { ⌜ (length (now s) ≤ 40960) × (limit ≤ 255) ⌝ }
+    requires { ⌜ Addressable (now s) × (limit ≤ 255) ⌝ }
     ensures { λ r. ⌜ ofSkip (bitsOf (now (s .entry))) r ≡ steps (annotation limit single) n (drop (c .at) (bitsOf (now (s .entry)))) ⌝ }
 {
     let mut next = c;
@@ -114,7 +115,7 @@ fn skip_each_annotation(s: &[u8], c: Cursor, limit: usize, single: bool, n: usiz
 }
 
 fn skip_annotations(s: &[u8], c: Cursor, limit: usize, single: bool) -> Skip
-    requires { ⌜ (length (now s) ≤ 40960) × (limit ≤ 255) ⌝ }
+    requires { ⌜ Addressable (now s) × (limit ≤ 255) ⌝ }
     ensures { λ r. ⌜ ofSkip (bitsOf (now (s .entry))) r ≡ forget (counted 4 0 12 (annotation limit single) (drop (c .at) (bitsOf (now (s .entry))))) ⌝ }
 {
     match sheet_fields::read_between(s, c, 4, 0, 12) {
@@ -125,7 +126,7 @@ fn skip_annotations(s: &[u8], c: Cursor, limit: usize, single: bool) -> Skip
 
 // A mark: a flag, and a tag where it is set (FORMAT 2.9).
 fn skip_mark(s: &[u8], c: Cursor) -> Skip
-    requires { ⌜ length (now s) ≤ 40960 ⌝ }
+    requires { ⌜ Addressable (now s) ⌝ }
     ensures { λ r. ⌜ ofSkip (bitsOf (now (s .entry))) r ≡ forget (mark (drop (c .at) (bitsOf (now (s .entry))))) ⌝ }
 {
     let at = c.at;
@@ -142,7 +143,7 @@ fn skip_mark(s: &[u8], c: Cursor) -> Skip
 }
 
 fn skip_each_mark(s: &[u8], c: Cursor, n: usize) -> Skip
-    requires { ⌜ length (now s) ≤ 40960 ⌝ }
+    requires { ⌜ Addressable (now s) ⌝ }
     ensures { λ r. ⌜ ofSkip (bitsOf (now (s .entry))) r ≡ steps mark n (drop (c .at) (bitsOf (now (s .entry)))) ⌝ }
 {
     let mut next = c;
@@ -162,7 +163,7 @@ fn skip_each_mark(s: &[u8], c: Cursor, n: usize) -> Skip
 }
 
 fn skip_marks(s: &[u8], c: Cursor) -> Skip
-    requires { ⌜ length (now s) ≤ 40960 ⌝ }
+    requires { ⌜ Addressable (now s) ⌝ }
     ensures { λ r. ⌜ ofSkip (bitsOf (now (s .entry))) r ≡ forget (counted 3 0 7 mark (drop (c .at) (bitsOf (now (s .entry))))) ⌝ }
 {
     match sheet_fields::read_between(s, c, 3, 0, 7) {
@@ -173,7 +174,7 @@ fn skip_marks(s: &[u8], c: Cursor) -> Skip
 
 // Both lists, field by field.
 fn skip_lists(s: &[u8], c: Cursor, limit: usize, single: bool) -> Skip
-    requires { ⌜ (length (now s) ≤ 40960) × (limit ≤ 255) ⌝ }
+    requires { ⌜ Addressable (now s) × (limit ≤ 255) ⌝ }
     ensures { λ r. ⌜ ofSkip (bitsOf (now (s .entry))) r ≡ forget (notes limit single (drop (c .at) (bitsOf (now (s .entry))))) ⌝ }
 {
     match skip_annotations(s, c, limit, single) {
@@ -184,7 +185,7 @@ fn skip_lists(s: &[u8], c: Cursor, limit: usize, single: bool) -> Skip
 
 // 01: 'annotations 4 (0 to 12); marks 3 (0 to 7)'. Most types have neither: 7 bits of 0.
 pub fn skip_notes(s: &[u8], c: Cursor, limit: usize, single: bool) -> Skip
-    requires { ⌜ (length (now s) ≤ 40960) × (limit ≤ 255) ⌝ }
+    requires { ⌜ Addressable (now s) × (limit ≤ 255) ⌝ }
     ensures { λ r. ⌜ ofSkip (bitsOf (now (s .entry))) r ≡ forget (notes limit single (drop (c .at) (bitsOf (now (s .entry))))) ⌝ }
 {
     let at = c.at;

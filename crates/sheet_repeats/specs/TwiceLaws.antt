@@ -15,8 +15,7 @@ use Rattle.lists.specs.Tabulating.{tabulate, tabulate-same, map-tabulate, lengt
 use Rattle.definitions.specs.Comparisons.{sameName}
 use Rattle.definitions.specs.Checks.{somethingTwice}
 use Rattle.definitions.specs.Records as records
-use Rattle.keys.specs.Keys.{sameTypeName, sameExtensionKey}
-use Rattle.repeats.specs.Repeats.{repeatsIn, typeRepeats}
+use Rattle.repeats.specs.Repeats.{repeatsIn, typeRepeats, sameTypeName, sameExtensionKey}
 use Rattle.repeats.specs.RepeatLaws.{something-twice}
 use Rattle.sheet_keys.specs.Keys.{nameOfKey}
 use Rattle.sheet_notes.specs.Notes.{notes}

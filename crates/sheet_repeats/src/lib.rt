@@ -6,6 +6,7 @@ ghost use lib.Dec.{eqb};
 ghost use lib.ListN.{length, take, drop};
 ghost use Rattle.lists.specs.Lists.{any, repeats, ascends};
 ghost use Rattle.definitions.specs.Bits.{bitsOf};
+ghost use Rattle.bits.specs.Reading.{Addressable};
 ghost use Rattle.repeats.specs.Repeats.{typeRepeats};
 ghost use Rattle.sheet_draft.specs.Draft.{typesIn};
 ghost use Rattle.sheet_draft.specs.Drafted.{entryBefore};
@@ -67,7 +68,7 @@ fn has_key_twice(t: &[u64; 1544], n: usize) -> bool
 
 // Whether one of the first n types repeats something within itself.
 fn is_one_repeating(s: &[u8], limit: usize, d: &[u64; 704], n: usize) -> bool
-    requires { ⌜ (length (now s) ≤ 40960) × (limit ≤ 255) × (n ≤ 64) × NotesRead limit (bitsOf (now s)) (now d) n ⌝ }
+    requires { ⌜ Addressable (now s) × (limit ≤ 255) × (n ≤ 64) × NotesRead limit (bitsOf (now s)) (now d) n ⌝ }
     ensures { λ r. ⌜ r ≡ any typeRepeats (typesIn limit (bitsOf (now (s .entry))) (now (d .entry)) n) ⌝ }
 {
     let mut i: usize = 0;
@@ -90,7 +91,7 @@ pub fn is_something_twice(
     entries: &[u64; 64],
     t: &[u64; 1544],
 ) -> bool
-    requires { ⌜ (length (now s) ≤ 40960) × Few n × (length (now entries) ≡ 64) × NotesRead (n .words) (bitsOf (now s)) (now d) (n .types) ⌝ }
+    requires { ⌜ Addressable (now s) × Few n × (length (now entries) ≡ 64) × NotesRead (n .words) (bitsOf (now s)) (now d) (n .types) ⌝ }
     ensures { λ r. ⌜ r ≡ twiceIn n (bitsOf (now (s .entry))) (now (d .entry)) (now (entries .entry)) (now (t .entry)) ⌝ }
 {
     if has_name_twice(entries, n.types) {

@@ -1,3 +1,4 @@
 pub mod Rows
+pub mod Variants
 pub mod TopLaws
 pub mod RowLaws

@@ -11,10 +11,9 @@ use Rattle.definitions.specs.Records.{Variant}
 use Rattle.definitions.specs.Records as records
 use Rattle.fields.specs.Fields.{faultOf}
 use Rattle.fields.specs.declared.Field.{Field}
-use Rattle.types.specs.Types.{variantOf}
 use Rattle.sheet_notes.specs.declared.Skip.{Skip}
 use Rattle.sheet_notes.specs.Notes.{Notes, notes, ofSkip}
-use Rattle.sheet_draft.specs.Draft.{keyAt, headAt, placeAt, typeIn, typesIn}
+use Rattle.sheet_draft.specs.Draft.{keyAt, headAt, placeAt, variantOf, typeIn, typesIn}
 use Rattle.sheet_types.specs.declared.TypesRead.{TypesRead}
 
 -- What stands between the name and the parents of a type: 8 bits (FORMAT 2.6).

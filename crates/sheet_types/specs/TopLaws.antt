@@ -18,8 +18,8 @@ use Rattle.bits.specs.declared.Read.the-variants.{Value, Past}
 use Rattle.bits.specs.Reading.{readAt, pickRead, ofRead}
 use Rattle.bits.specs.ReadLaws.{field-read}
 use Rattle.bits.specs.NumberLaws.{num-split, num-lt}
-use Rattle.types.specs.Types.{variantOf}
-use Rattle.types.specs.TypeLaws.{variant-number}
+use Rattle.sheet_draft.specs.Draft.{variantOf}
+use Rattle.sheet_types.specs.Variants.{variant-number}
 use Rattle.sheet_window.specs.WindowLaws.{field-in, field-past, split}
 use Rattle.sheet_notes.specs.Notes.{Notes, notes}
 use Rattle.sheet_types.specs.Rows.{Top, top, topOf, typeOf}

@@ -11,6 +11,7 @@ ghost use lib.ListN.{length, drop, set};
 ghost use Rattle.definitions.specs.Bits.{bitsOf};
 ghost use Rattle.definitions.specs.Parse.{repeat, counted};
 ghost use Rattle.definitions.specs.Reading.{typeInfo};
+ghost use Rattle.bits.specs.Reading.{Addressable};
 ghost use Rattle.sheet_types.specs.Rows.{top, ofTop, Small, rowSet, ofTypeRead, ofTypesRead, KeptRows, DoneHere, NotesRead};
 
 // ok: count types stand in the draft, and `at` is the place behind them in the sheet. Else a fault.
@@ -23,7 +24,7 @@ pub struct TypesRead {
 
 // The head of a type as one field of 8 bits that are there: variant, virtual, trait, number of parents (FORMAT 2.6).
 fn top_in(s: &[u8], at: usize) -> Field
-    requires { ⌜ (at / 8 + 4 ≤ length (now s)) × (length (now s) ≤ 40960) ⌝ }
+    requires { ⌜ (at / 8 + 4 ≤ length (now s)) × Addressable (now s) ⌝ }
     ensures { λ r. ⌜ (ofTop (bitsOf (now (s .entry))) r ≡ top (drop at (bitsOf (now (s .entry))))) × Small r ⌝ }
 {
     let h = sheet_window::window(s, at, 8);
@@ -38,7 +39,7 @@ fn top_in(s: &[u8], at: usize) -> Field
 
 // The same near the end, where what is missing decides the refusal.
 fn top_near_end(s: &[u8], c: Cursor) -> Field
-    requires { ⌜ length (now s) ≤ 40960 ⌝ }
+    requires { ⌜ Addressable (now s) ⌝ }
     ensures { λ r. ⌜ (ofTop (bitsOf (now (s .entry))) r ≡ top (drop (c .at) (bitsOf (now (s .entry))))) × Small r ⌝ }
 {
     match c.read(s, 8) {
@@ -65,7 +66,7 @@ fn top_near_end(s: &[u8], c: Cursor) -> Field
 }
 
 fn read_top(s: &[u8], c: Cursor) -> Field
-    requires { ⌜ length (now s) ≤ 40960 ⌝ }
+    requires { ⌜ Addressable (now s) ⌝ }
     ensures { λ r. ⌜ (ofTop (bitsOf (now (s .entry))) r ≡ top (drop (c .at) (bitsOf (now (s .entry))))) × Small r ⌝ }
 {
     let at = c.at;
@@ -87,7 +88,7 @@ fn put_row(d: &mut [u64; 704], i: usize, key: u64, head: usize, at: usize)
 
 // The type at the cursor, as row i of the draft.
 fn read_type(s: &[u8], c: Cursor, limit: usize, i: usize, d: &mut [u64; 704]) -> Skip
-    requires { ⌜ (length (now s) ≤ 40960) × (limit ≤ 255) × (i < 64) × (length (now d) ≡ 704) ⌝ }
+    requires { ⌜ Addressable (now s) × (limit ≤ 255) × (i < 64) × (length (now d) ≡ 704) ⌝ }
     ensures { λ r. ⌜ (ofTypeRead limit (bitsOf (now (s .entry))) (now (d .exit)) i r ≡ typeInfo limit (drop (c .at) (bitsOf (now (s .entry))))) × KeptRows i (now (d .entry)) (now (d .exit)) × DoneHere limit (bitsOf (now (s .entry))) (now (d .exit)) i r ⌝ }
 {
     match sheet_keys::read_key(s, c, limit) {
@@ -111,7 +112,7 @@ fn read_type(s: &[u8], c: Cursor, limit: usize, i: usize, d: &mut [u64; 704]) ->
 
 // n types.
 fn read_each_type(s: &[u8], c: Cursor, limit: usize, n: usize, d: &mut [u64; 704]) -> TypesRead
-    requires { ⌜ (length (now s) ≤ 40960) × (limit ≤ 255) × (n ≤ 64) × (length (now d) ≡ 704) ⌝ }
+    requires { ⌜ Addressable (now s) × (limit ≤ 255) × (n ≤ 64) × (length (now d) ≡ 704) ⌝ }
     ensures { λ r. ⌜ (ofTypesRead limit (bitsOf (now (s .entry))) (now (d .exit)) r ≡ repeat (typeInfo limit) n (drop (c .at) (bitsOf (now (s .entry))))) × (length (now (d .exit)) ≡ 704) × (r .count ≤ 64) × NotesRead limit (bitsOf (now (s .entry))) (now (d .exit)) (r .count) ⌝ }
 {
     let mut next = c;
@@ -144,7 +145,7 @@ fn read_each_type(s: &[u8], c: Cursor, limit: usize, n: usize, d: &mut [u64; 704
 
 // The types of a sheet, at most 64 (FORMAT 2.2).
 pub fn read_types(s: &[u8], c: Cursor, limit: usize, d: &mut [u64; 704]) -> TypesRead
-    requires { ⌜ (length (now s) ≤ 40960) × (limit ≤ 255) × (length (now d) ≡ 704) ⌝ }
+    requires { ⌜ Addressable (now s) × (limit ≤ 255) × (length (now d) ≡ 704) ⌝ }
     ensures { λ r. ⌜ (ofTypesRead limit (bitsOf (now (s .entry))) (now (d .exit)) r ≡ counted 7 0 64 (typeInfo limit) (drop (c .at) (bitsOf (now (s .entry))))) × (length (now (d .exit)) ≡ 704) × (r .count ≤ 64) × NotesRead limit (bitsOf (now (s .entry))) (now (d .exit)) (r .count) ⌝ }
 {
     match fields::read_between(s, c, 7, 0, 64) {

@@ -6,6 +6,7 @@ ghost use mathlib.Core.Path.{_≡_};
 ghost use Prim.Native.Nat.{_+_, _/_, _≤_, _<_};
 ghost use lib.ListN.{length, drop};
 ghost use Rattle.definitions.specs.Bits.{bitsOf};
+ghost use Rattle.bits.specs.Reading.{Addressable};
 ghost use Rattle.repeats.specs.Repeats.{repeatsIn};
 ghost use Rattle.sheet_notes.specs.Notes.{notes};
 ghost use Rattle.sheet_draft.specs.Draft.{notesOf};
@@ -16,14 +17,12 @@ ghost use Rattle.sheet_within.specs.Within.{wordsIn, PlainNames, PlainNo
 
 // The annotations by value: for whatever the tests below leave open.
 fn is_repeating_by_value(s: &[u8], at: usize, limit: usize, single: bool) -> bool
-    requires { ⌜ (length (now s) ≤ 40960) × (limit ≤ 255) × (isDone (notes limit single (drop at (bitsOf (now s)))) ≡ true) ⌝ }
+    requires { ⌜ Addressable (now s) × (limit ≤ 255) × (isDone (notes limit single (drop at (bitsOf (now s)))) ≡ true) ⌝ }
     ensures { λ r. ⌜ r ≡ repeatsIn (notesOf (notes limit single (drop at (bitsOf (now (s .entry))))) .annotations) ⌝ }
 {
     let r = records::read_annotations(s, Cursor { at }, limit, single);
     let annotations = r.annotations;
-    let mut x = types::no_type();
-    x.annotations = annotations;
-    repeats::is_repeating(x)
+    repeats::is_repeating(annotations)
 }
 
 // Whether w is the first word of one of the n names, from a place on.
@@ -64,7 +63,7 @@ fn blank() -> [u64; 15]
 
 // Whether n names at a place are there and have first words that differ.
 fn is_plain_list(s: &[u8], at: usize, limit: usize, n: usize) -> bool
-    requires { ⌜ (length (now s) ≤ 40960) × (limit ≤ 255) × (n ≤ 15) ⌝ }
+    requires { ⌜ Addressable (now s) × (limit ≤ 255) × (n ≤ 15) ⌝ }
     ensures { λ r. ⌜ PlainNames limit (bitsOf (now (s .entry))) at n r ⌝ }
 {
     if n < 2 {
@@ -97,7 +96,7 @@ fn not_up() -> Up
 
 // n names whose first words ascend from `low` on.
 fn names_up(s: &[u8], at: usize, limit: usize, n: usize, low: usize) -> Up
-    requires { ⌜ (length (now s) ≤ 40960) × (limit ≤ 255) ⌝ }
+    requires { ⌜ Addressable (now s) × (limit ≤ 255) ⌝ }
     ensures { λ r. ⌜ NamesUp limit (bitsOf (now (s .entry))) at n low r ⌝ }
 {
     let mut next = Cursor { at };
@@ -128,7 +127,7 @@ fn names_up(s: &[u8], at: usize, limit: usize, n: usize, low: usize) -> Up
 
 // One associate with such names, at least one.
 fn associate_up(s: &[u8], at: usize, limit: usize, single: bool, low: usize) -> Up
-    requires { ⌜ (length (now s) ≤ 40960) × (limit ≤ 255) ⌝ }
+    requires { ⌜ Addressable (now s) × (limit ≤ 255) ⌝ }
     ensures { λ r. ⌜ NextUp limit single (bitsOf (now (s .entry))) at low r ⌝ }
 {
     if s.len() < at / 8 + 4 {
@@ -152,7 +151,7 @@ fn associate_up(s: &[u8], at: usize, limit: usize, single: bool, low: usize) -> 
 
 // Whether n annotations are associates whose first words ascend from one to the next.
 fn is_plain_each(s: &[u8], at: usize, limit: usize, single: bool, n: usize) -> bool
-    requires { ⌜ (length (now s) ≤ 40960) × (limit ≤ 255) ⌝ }
+    requires { ⌜ Addressable (now s) × (limit ≤ 255) ⌝ }
     ensures { λ r. ⌜ PlainEach limit single (bitsOf (now (s .entry))) at n r ⌝ }
 {
     let mut p = at;
@@ -172,7 +171,7 @@ fn is_plain_each(s: &[u8], at: usize, limit: usize, single: bool, n: usize) -> b
 
 // Whether the annotations at a place are found to repeat nothing: none, one, or associates whose words ascend, as most types have them.
 fn is_plain_in(s: &[u8], at: usize, limit: usize, single: bool) -> bool
-    requires { ⌜ (length (now s) ≤ 40960) × (limit ≤ 255) × (at / 8 + 4 ≤ length (now s)) ⌝ }
+    requires { ⌜ Addressable (now s) × (limit ≤ 255) × (at / 8 + 4 ≤ length (now s)) ⌝ }
     ensures { λ r. ⌜ PlainNotes limit single (bitsOf (now (s .entry))) at r ⌝ }
 {
     let w = sheet_window::window(s, at, 11);
@@ -194,7 +193,7 @@ fn is_plain_in(s: &[u8], at: usize, limit: usize, single: bool) -> bool
 
 // Whether the annotations at a place repeat something.
 pub fn is_repeating_at(s: &[u8], at: usize, limit: usize, single: bool) -> bool
-    requires { ⌜ (length (now s) ≤ 40960) × (limit ≤ 255) × (isDone (notes limit single (drop at (bitsOf (now s)))) ≡ true) ⌝ }
+    requires { ⌜ Addressable (now s) × (limit ≤ 255) × (isDone (notes limit single (drop at (bitsOf (now s)))) ≡ true) ⌝ }
     ensures { λ r. ⌜ r ≡ repeatsIn (notesOf (notes limit single (drop at (bitsOf (now (s .entry))))) .annotations) ⌝ }
 {
     if at / 8 + 4 <= s.len() {

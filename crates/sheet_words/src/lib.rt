@@ -13,6 +13,7 @@ ghost use Rattle.definitions.specs.Checks.{resourceBytes, selfBytes};
 ghost use Rattle.definitions.specs.Comparisons.{bytesBefore};
 ghost use Rattle.definitions.specs.Parse.{allowed, repeat, counted};
 ghost use Rattle.definitions.specs.Reading.{isWordByte, word};
+ghost use Rattle.bits.specs.Reading.{Addressable};
 ghost use Rattle.sheet_words.specs.Words.{bytesOf, headOf, spelt, marks, refusedWord, Held, Tells, Spelled, Begun, Named, With, told, ofWordsRead, refusedWords};
 
 // ok: a word of count bytes that stand from bit `at` on; `head` is the first six of them as one number. Else a fault.
@@ -71,7 +72,7 @@ fn is_spelt(v: u64, n: usize) -> bool
 
 // The same of n bytes from a place on.
 fn is_text(s: &[u8], at: usize, n: usize) -> bool
-    requires { ⌜ (length (now s) ≤ 40960) × (at + 8 * n ≤ 8 * length (now s)) ⌝ }
+    requires { ⌜ Addressable (now s) × (at + 8 * n ≤ 8 * length (now s)) ⌝ }
     ensures { λ r. ⌜ r ≡ all isWordByte (packTo n (drop at (bitsOf (now (s .entry))))) ⌝ }
 {
     let mut p = at;
@@ -118,7 +119,7 @@ fn word_refused(r: Fault) -> Spelt
 
 // A word of n bytes from a place on. Where they pass the end, one that is there and not allowed is refused before.
 fn bytes_from(s: &[u8], at: usize, n: usize) -> Spelt
-    requires { ⌜ (length (now s) ≤ 40960) × (at ≤ 8 * length (now s)) × (n ≤ 31) ⌝ }
+    requires { ⌜ Addressable (now s) × (at ≤ 8 * length (now s)) × (n ≤ 31) ⌝ }
     ensures { λ r. ⌜ Tells (bitsOf (now (s .entry))) r (repeat (allowed 8 isWordByte) n (drop at (bitsOf (now (s .entry))))) ⌝ }
 {
     let there = (s.len() * 8 - at) / 8;
@@ -142,7 +143,7 @@ fn bytes_from(s: &[u8], at: usize, n: usize) -> Spelt
 
 // A word of any length, anywhere.
 fn plain_word(s: &[u8], at: usize) -> Spelt
-    requires { ⌜ length (now s) ≤ 40960 ⌝ }
+    requires { ⌜ Addressable (now s) ⌝ }
     ensures { λ r. ⌜ Spelled (bitsOf (now (s .entry))) at r ⌝ }
 {
     let total = s.len() * 8;
@@ -161,7 +162,7 @@ fn plain_word(s: &[u8], at: usize) -> Spelt
 
 // A word of up to six bytes, which are the first bits of x.
 fn short_word(s: &[u8], at: usize, n: usize, x: u64) -> Spelt
-    requires { ⌜ (length (now s) ≤ 40960) × Begun (bitsOf (now s)) at n x × (n ≤ 6) ⌝ }
+    requires { ⌜ Addressable (now s) × Begun (bitsOf (now s)) at n x × (n ≤ 6) ⌝ }
     ensures { λ r. ⌜ Spelled (bitsOf (now (s .entry))) at r ⌝ }
 {
     let k = 48 - 8 * n;
@@ -180,7 +181,7 @@ fn short_word(s: &[u8], at: usize, n: usize, x: u64) -> Spelt
 
 // A word of more than six bytes, of which x has the first six.
 fn long_word(s: &[u8], at: usize, n: usize, x: u64) -> Spelt
-    requires { ⌜ (length (now s) ≤ 40960) × Begun (bitsOf (now s)) at n x × (6 < n) ⌝ }
+    requires { ⌜ Addressable (now s) × Begun (bitsOf (now s)) at n x × (6 < n) ⌝ }
     ensures { λ r. ⌜ Spelled (bitsOf (now (s .entry))) at r ⌝ }
 {
     let q = at + 5;
@@ -204,7 +205,7 @@ fn long_word(s: &[u8], at: usize, n: usize, x: u64) -> Spelt
 
 // An entry of the word list: its length, 1 to 31, and so many bytes (FORMAT 2.4).
 fn read_word(s: &[u8], at: usize) -> Spelt
-    requires { ⌜ length (now s) ≤ 40960 ⌝ }
+    requires { ⌜ Addressable (now s) ⌝ }
     ensures { λ r. ⌜ Spelled (bitsOf (now (s .entry))) at r ⌝ }
 {
     if at / 8 + 8 <= s.len() {
@@ -223,7 +224,7 @@ fn read_word(s: &[u8], at: usize) -> Spelt
 
 // Whether a word comes before another, of which the first six bytes are the same.
 fn rest_before(s: &[u8], a: Spelt, b: Spelt) -> bool
-    requires { ⌜ (length (now s) ≤ 40960) × Held (bitsOf (now s)) a × Held (bitsOf (now s)) b ⌝ }
+    requires { ⌜ Addressable (now s) × Held (bitsOf (now s)) a × Held (bitsOf (now s)) b ⌝ }
     ensures { λ r. ⌜ r ≡ listBefore (drop 6 (bytesOf (bitsOf (now (s .entry))) a)) (drop 6 (bytesOf (bitsOf (now (s .entry))) b)) ⌝ }
 {
     let p = a.at;
@@ -250,7 +251,7 @@ fn rest_before(s: &[u8], a: Spelt, b: Spelt) -> bool
 
 // Whether a word comes before another (FORMAT 1.2).
 fn is_before(s: &[u8], a: Spelt, b: Spelt) -> bool
-    requires { ⌜ (length (now s) ≤ 40960) × Held (bitsOf (now s)) a × Held (bitsOf (now s)) b ⌝ }
+    requires { ⌜ Addressable (now s) × Held (bitsOf (now s)) a × Held (bitsOf (now s)) b ⌝ }
     ensures { λ r. ⌜ r ≡ bytesBefore (bytesOf (bitsOf (now (s .entry))) a) (bytesOf (bitsOf (now (s .entry))) b) ⌝ }
 {
     if a.head < b.head {
@@ -264,7 +265,7 @@ fn is_before(s: &[u8], a: Spelt, b: Spelt) -> bool
 
 // Whether words still ascend with one more.
 fn still_up(s: &[u8], up: bool, a: Spelt, b: Spelt) -> bool
-    requires { ⌜ (length (now s) ≤ 40960) × Held (bitsOf (now s)) a × Held (bitsOf (now s)) b ⌝ }
+    requires { ⌜ Addressable (now s) × Held (bitsOf (now s)) a × Held (bitsOf (now s)) b ⌝ }
     ensures { λ r. ⌜ r ≡ (up && bytesBefore (bytesOf (bitsOf (now (s .entry))) a) (bytesOf (bitsOf (now (s .entry))) b)) ⌝ }
 {
     if up {
@@ -275,7 +276,7 @@ fn still_up(s: &[u8], up: bool, a: Spelt, b: Spelt) -> bool
 
 // Whether a word is `resource`: its first six bytes, and the two behind them.
 fn is_resource(s: &[u8], w: Spelt) -> bool
-    requires { ⌜ (length (now s) ≤ 40960) × Held (bitsOf (now s)) w ⌝ }
+    requires { ⌜ Addressable (now s) × Held (bitsOf (now s)) w ⌝ }
     ensures { λ r. ⌜ r ≡ sameList eqb resourceBytes (bytesOf (bitsOf (now (s .entry))) w) ⌝ }
 {
     if w.head == 125780053947762 {
@@ -301,7 +302,7 @@ fn first_place(hit: bool, old: usize, i: usize, n: usize) -> usize
 
 // The places with one word more, the i-th of n.
 fn with_name(s: &[u8], t: Found, up: bool, w: Spelt, i: usize, n: usize) -> Found
-    requires { ⌜ (length (now s) ≤ 40960) × Held (bitsOf (now s)) w ⌝ }
+    requires { ⌜ Addressable (now s) × Held (bitsOf (now s)) w ⌝ }
     ensures { λ r. ⌜ Named (bitsOf (now (s .entry))) t up w i n r ⌝ }
 {
     Found {
@@ -313,7 +314,7 @@ fn with_name(s: &[u8], t: Found, up: bool, w: Spelt, i: usize, n: usize) -> Foun
 
 // What is found with one word more, the i-th of n. Only words that begin with r or s are looked at for their names.
 fn with_word(s: &[u8], t: Found, last: Spelt, w: Spelt, i: usize, n: usize) -> Found
-    requires { ⌜ (length (now s) ≤ 40960) × Held (bitsOf (now s)) last × Held (bitsOf (now s)) w ⌝ }
+    requires { ⌜ Addressable (now s) × Held (bitsOf (now s)) last × Held (bitsOf (now s)) w ⌝ }
     ensures { λ r. ⌜ With (bitsOf (now (s .entry))) t last w i n r ⌝ }
 {
     let up = still_up(s, t.up, last, w);
@@ -356,7 +357,7 @@ fn words_refused(r: Fault) -> WordsRead
 
 // n words.
 fn read_each_word(s: &[u8], c: Cursor, n: usize) -> WordsRead
-    requires { ⌜ (length (now s) ≤ 40960) × (n ≤ 200) ⌝ }
+    requires { ⌜ Addressable (now s) × (n ≤ 200) ⌝ }
     ensures { λ r. ⌜ (ofWordsRead (bitsOf (now (s .entry))) r ≡ told (repeat word n (drop (c .at) (bitsOf (now (s .entry)))))) × (r .count ≤ 200) ⌝ }
 {
     let mut at = c.at;
@@ -392,7 +393,7 @@ fn read_each_word(s: &[u8], c: Cursor, n: usize) -> WordsRead
 
 // The word list, of 2 to 200 words (FORMAT 2.2), and what its spelling tells (FORMAT 1.2).
 pub fn read_words(s: &[u8], c: Cursor) -> WordsRead
-    requires { ⌜ length (now s) ≤ 40960 ⌝ }
+    requires { ⌜ Addressable (now s) ⌝ }
     ensures { λ r. ⌜ (ofWordsRead (bitsOf (now (s .entry))) r ≡ told (counted 8 2 200 word (drop (c .at) (bitsOf (now (s .entry)))))) × (r .count ≤ 200) ⌝ }
 {
     match fields::read_between(s, c, 8, 2, 200) {

@@ -1,5 +1,5 @@
 use native.Mathlib.Omega.{arith}
-use Prim.Native.Nat.{_+_, _*_, _/_}
+use Prim.Native.Nat.{_+_, _*_, _/_, _^_}
 use Rattle.bits.specs.NumberLaws.{num-lt}
 use Prim.Native.Nat.{_≤_}
 use Rattle.definitions.specs.Bits.{bitsOf}
@@ -14,7 +14,7 @@ abbrev μ-loop : tie.MeasureT-loop
 μ-loop s at left₀ out₀ next₀ left out next = left
 
 -- the end of a mark is in the sheet
-end : (c : tie.After-with-mark Inv-loop μ-loop) → c .before .before .before .loop .next + 1 + c .before .peek2 .result / 256 * 8 ≤ 327680
+end : (c : tie.After-with-mark Inv-loop μ-loop) → c .before .before .before .loop .next + 1 + c .before .peek2 .result / 256 * 8 ≤ 2 ^ 63
 end c =
     let s = c .before .before .before .before .before .before in
     let l = c .before .before .before .loop in

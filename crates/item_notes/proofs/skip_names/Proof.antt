@@ -1,5 +1,5 @@
 use native.Mathlib.Omega.{arith}
-use Prim.Native.Nat.{_+_, _*_, _/_, _%_}
+use Prim.Native.Nat.{_+_, _*_, _/_, _%_, _^_}
 use Prim.Native.Nat.{_≤_}
 use Rattle.definitions.specs.Bits.{bitsOf}
 use Rattle.item_notes.specs.NoteLaws.{room, NamesTo, names-start, names-there, names-more, names-all}
@@ -13,7 +13,7 @@ abbrev μ-loop : tie.MeasureT-loop
 μ-loop s at n next₀ left₀ next left = left
 
 -- the end of a name is in the sheet
-end : (c : tie.After-peek Inv-loop μ-loop) → c .before .before .loop .next + 9 + c .peek .result / 256 % 2 * 8 ≤ 327680
+end : (c : tie.After-peek Inv-loop μ-loop) → c .before .before .loop .next + 9 + c .peek .result / 256 % 2 * 8 ≤ 2 ^ 63
 end c =
     let s = c .before .before .before .before in
     let l = c .before .before .loop in

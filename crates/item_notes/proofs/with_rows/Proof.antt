@@ -1,5 +1,5 @@
 use native.Mathlib.Omega.{arith}
-use Prim.Native.Nat.{_+_, _*_, _/_, _%_}
+use Prim.Native.Nat.{_+_, _*_, _/_, _%_, _^_}
 use Prim.Native.Nat.{_≤_}
 use Rattle.definitions.specs.Bits.{bitsOf}
 use Rattle.item_notes.specs.NoteLaws.{room, RowsTo, rows-start, rows-there, rows-more, rows-all, peek-small}
@@ -13,7 +13,7 @@ abbrev μ-loop : tie.MeasureT-loop
 μ-loop s t n resources kind out₀ next₀ left₀ out next left = left
 
 -- the end of a name is in the sheet
-end : (c : tie.After-with-class Inv-loop μ-loop) → c .before .before .before .before .loop .next + 9 + c .before .before .peek .result / 256 % 2 * 8 ≤ 327680
+end : (c : tie.After-with-class Inv-loop μ-loop) → c .before .before .before .before .loop .next + 9 + c .before .before .peek .result / 256 % 2 * 8 ≤ 2 ^ 63
 end c =
     let s = c .before .before .before .before .before .before .before in
     let l = c .before .before .before .before .loop in

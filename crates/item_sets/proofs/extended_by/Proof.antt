@@ -17,8 +17,8 @@ loop-holds c = (omega arith, extended-none _)
 extension-key-at-requires : tie.Need-extension-key-at-requires Inv-loop μ-loop
 extension-key-at-requires c κs = omega (arith, c .before .before .pre .few)
 
-types-with-requires : tie.Need-types-with-requires Inv-loop μ-loop
-types-with-requires c κs =
+type-of-requires : tie.Need-type-of-requires Inv-loop μ-loop
+type-of-requires c κs =
     let s = c .before .before .before in
     omega (arith, c .extension-key-at .ensures, s .pre .small (c .before .before .loop .e) (c .before .loop-test .taken))
 
@@ -32,7 +32,7 @@ loop-again : tie.Need-loop-again Inv-loop μ-loop
 loop-again c =
     let s = c .before .before .before .before in
     let l = c .before .before .before .loop in
-    (omega arith, extended-more (s .args .t .now) (l .e) (l .out) (c .before .extension-key-at .result) (c .types-with .result) (c .before .extension-key-at .ensures) (c .types-with .ensures) (l .inv .1))
+    (omega arith, extended-more (s .args .t .now) (l .e) (l .out) (c .before .extension-key-at .result) (c .type-of .result) (c .before .extension-key-at .ensures) (c .type-of .ensures) (l .inv .1))
 
 returns : tie.Need-returns Inv-loop μ-loop
 returns c =
@@ -48,7 +48,7 @@ extended-by-spec =
     μ-loop
     loop-holds
     extension-key-at-requires
-    types-with-requires
+    type-of-requires
     add-e
     loop-less
     loop-again

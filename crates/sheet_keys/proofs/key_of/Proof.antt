@@ -26,4 +26,4 @@ returns c = key-words _ _ (omega arith) (omega arith)
 
 pub key-of-spec : {M : Type 1} → statement M
 key-of-spec =
-    tie.close (tie.spec cast-a cast-b mul-result add-result add-result-2  returns)
+    tie.close (tie.spec cast-a cast-b mul-result add-result add-result-2 returns)

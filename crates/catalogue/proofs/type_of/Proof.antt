@@ -1,9 +1,9 @@
 use mathlib.Core.Path.{ap₂}
 use lib.Bits.{bitAnd}
 use borrow.Author.Needs.{needs}
-use Rattle.order_parents.specs.Parents.{looked}
-use Rattle.order_parents.proofs.type_of.Statement.{statement}
-use Rattle.order_parents.proofs.type_of.Tie as tie
+use Rattle.catalogue.specs.Layout.{looked}
+use Rattle.catalogue.proofs.type_of.Statement.{statement}
+use Rattle.catalogue.proofs.type_of.Tie as tie
 
 first-at-requires : tie.Need-first-at-requires
 first-at-requires c κs = search needs
