@@ -1,7 +1,7 @@
 -- What the compact form asks holds of every sheet that tests 3 to 7 let pass.
 use mathlib.Core.Bool.{Bool, true, false}
-use mathlib.Core.List.{List, [], _∷_, List·Memᴰ·head, List·Memᴰ·tail}
-use mathlib.Core.Path.{_≡_, refl, sym, _∙_, subst}
+use mathlib.Core.List.{List, [], _∷_}
+use mathlib.Core.Path.{_≡_, refl, _∙_}
 use Prim.Native.Nat.{ℕ, _≤_, _<_}
 use native.Mathlib.Omega.{arith}
 use borrow.Author.Tests.{lt-ltb}
@@ -17,18 +17,13 @@ use Rattle.definitions.specs.Checks.{namesTwice, somethingTwice}
 use Rattle.definitions.specs.Map.{typeMapOf}
 use Rattle.definitions.specs.Legal.{Every, LegalName, LegalType}
 use Rattle.definitions.specs.Relisted.{Holds}
+use Rattle.laws.specs.Spelling.{every-in}
 use Rattle.reading_laws.specs.Rules.{repeats-none}
 use Rattle.ordering.specs.Lists.{same-list-sym}
 use Rattle.ordering.specs.Reading.{noType, isName}
-use Rattle.parents.specs.Parents.{Readable}
-use Rattle.sorting.specs.Sorting.{byName}
+use Rattle.ordering.specs.Compact.{Within}
+use Rattle.item_draft.specs.Fill.{byName}
 use Rattle.decoding.specs.ReadLaws.{limits, few-words, few-types, self-lt}
-
--- ---- members
-
-every-in : {A : Type 0} (P : A → Type 0) {x : A} {l : List A} → Every P l → In x l → P x
-every-in P h (List·Memᴰ·head e) = subst P (sym e) (h .0)
-every-in P h (List·Memᴰ·tail i) = every-in P (h .1) i
 
 -- ---- names
 
@@ -64,16 +59,16 @@ module _ (bytes : List ℕ) (t : Sheet) (h : Holds bytes t) where
   unfolding somethingTwice namesTwice
   once = or-false-left (repeats sameType (t .types)) _ (h .once)
 
-  pub readable : Readable (typeMapOf t .types) (typeMapOf t .self)
+  pub readable : Within (typeMapOf t)
   unfolding typeMapOf
   readable =
       let same : length (t .types) ≡ length (sort byName (t .types)) = perm-length (sort-perm byName (t .types)) in
       let kept : (k : ℕ) → k < length (sort byName (t .types)) → LegalType (length (t .words)) (getD (sort byName (t .types)) k noType) =
       λ k l. legal _ (sort-is byName (t .types) _ .0 (getD-in (sort byName (t .types)) noType k l)) in
       record {
-        few = omega (arith, same, few-types (bitsOf bytes) t (h .rest) (h .read));
+        most = omega (arith, same, few-types (bitsOf bytes) t (h .rest) (h .read));
         word = omega (arith, words-at-most, self-lt (t .words) (h .words));
         distinct = distinct-sorted (t .types) once;
-        most = λ k l. kept k l .parents .few;
+        parents = λ k l. kept k l .parents .few;
         names = λ k l. legal-are-names (length (t .words)) (getD (sort byName (t .types)) k noType .parents) (omega (arith, words-at-most)) (kept k l .parents .every);
       }

@@ -1,38 +1,33 @@
--- What the schedule call works on: the sheet by value where rows are written, the catalogue where it is filled.
+-- What the schedule call works on: the tables where rows are written, and the catalogue where it is filled.
 use mathlib.Core.Bool.{Bool, true, false}
-use mathlib.Core.List.{List, map}
+use mathlib.Core.List.{List}
 use mathlib.Core.Path.{_≡_, sym, ap, _∙_, subst}
 use Prim.Native.Nat.{ℕ, _*_, _<_}
 use native.Mathlib.Omega.{arith}
 use lib.ListN.{length}
-use Rattle.lists.specs.Tests.{by}
 use Rattle.lists.specs.Tabulating.{tabulate, tabulate-same}
 use Rattle.definitions.specs.Bits.{bitsOf}
 use Rattle.definitions.specs.Records.{Sheet}
 use Rattle.definitions.specs.Map.{TypeMap, typeMapOf}
 use Rattle.definitions.specs.Order.{hasOrder}
-use Rattle.definitions.specs.Relisted.{Holds}
-use Rattle.line_laws.specs.Reading.{read-is-within}
-use Rattle.line_laws.specs.Statements.{Readable, lineMap, anyRefused}
+use Rattle.line_laws.specs.Statements.{lineMap, anyRefused}
 use Rattle.rows.specs.Rows.{hasBit}
-use Rattle.words.specs.Words.{ofWords}
-use Rattle.types.specs.Types.{ofTypes}
 use Rattle.ordering.specs.declared.Parents.{Parents}
-use Rattle.parents.specs.Parents as parents
-use Rattle.decoding.specs.declared.Decoded.{Decoded}
-use Rattle.decoding.specs.Decoding.{turnedBack, whole, decoded}
-use Rattle.decoding.specs.Decoding as decoding
-use Rattle.decoding.specs.Answers.{mapIn, decodedOf}
-use Rattle.decoding.specs.DecodingLaws.{held-is-whole}
 use Rattle.synthesis.specs.Synthesized.{Synthesizes, Synthesized}
+use Rattle.synth_places.specs.Places as places
+use Rattle.synth_places.specs.PlaceLaws.{readable, noted}
 use Rattle.sheet_extensions.specs.Records as extensions
 use Rattle.sheet_decode.specs.declared.Decoding.{Decoding}
 use Rattle.sheet_decode.specs.Decodes.{Whole}
 use Rattle.catalogue.specs.Catalogue.{Catalogued}
 use Rattle.order_parents.specs.MapLaws.{parent-sets, childed-are}
+use Rattle.order_compact.specs.Compact.{Drafts}
+use Rattle.order_compact.specs.Reading as compact
+use Rattle.order_compact.specs.Reading.{Compacts}
+use Rattle.order_compact.specs.SheetLaws.{drafts-of, drawn-of}
 use Rattle.item_entries.specs.Entries.{firstsOf, secondsOf}
 use Rattle.item_draft.specs.declared.Known.{Known}
-use Rattle.item_draft.specs.Fill.{NamesStand, recordIn, Stands, Fillable, Fills}
+use Rattle.item_draft.specs.Fill.{Drawn, NamesStand, recordIn, Stands, Fillable, Fills}
 use Rattle.item_draft.specs.Standing.{record-as, records-stand}
 use Rattle.item_draft.specs.Rows as rows
 use Rattle.item_refusal.specs.Tests.{Decides}
@@ -41,50 +36,47 @@ use Rattle.answers.specs.declared.Answer.{Answer}
 use Rattle.answers.specs.Answers.{parts}
 use Rattle.answers.specs.Telling.{Tells}
 use Rattle.access.specs.declared.Placing.{Placing}
-use Rattle.access.specs.Tables.{knownOf, Organizes, RowsDue}
+use Rattle.access.specs.Tables.{knownOf, Organizes, FilledFor, RowsDue}
 use Rattle.access.specs.TableLaws as tables
 use Rattle.access.specs.EndLaws.{rows-so}
-use Rattle.access.specs.ReadLaws as read
 
--- ---- the sheet by value
+-- ---- the rows of 9
 
--- the map that a decoder gave, another where it gave none
-abbrev mapOf : decoding.Decoding → TypeMap → TypeMap
-mapOf (turnedBack n) other = other
-mapOf (whole ws m) other = m
+module _ (bytes d entries t : List ℕ) (n : Decoding) (s : Sheet) (f : FilledFor s bytes d entries t n) where
+  abbrev bs : List Bool
+  bs = bitsOf bytes
 
-module _ (bytes : List ℕ) (x : Decoded) (e : decodedOf x ≡ decoded bytes) (s : Sheet) (h : Holds bytes s) where
-  -- it has the map of the sheet that the bytes hold
-  map-is : mapIn x ≡ typeMapOf s
-  map-is =
-      by (x .ok)
-      (λ q. let r : decodedOf x ≡ whole (ofWords (x .words)) (mapIn x) = rw q in ap (λ y. mapOf y (mapIn x)) (sym r ∙ e ∙ held-is-whole bytes s h))
-      (λ q. let r : decodedOf x ≡ turnedBack (x .refusal) = rw q in ap (λ y. mapOf y (mapIn x)) (sym r ∙ e ∙ held-is-whole bytes s h))
+  pub drafts : Drafts d entries (n .count)
+  drafts = drafts-of s bs d entries (n .count) (f .drawn .drafted) (f .drawn .entered .long) (f .drawn .sorted) (f .drawn .within)
 
-  pub by-value : parents.Readable (ofTypes (x .types)) (x .«self_word»)
-  by-value = subst (λ (m : TypeMap). parents.Readable (m .types) (m .self)) (sym map-is) (read.readable bytes s h)
+  pub width-fits : (0 < n .width) × (n .width < 256)
+  width-fits = (omega (arith, f .width, f .drawn .within .least), omega (arith, f .width, f .drawn .within .words))
 
-  pub synthesizes : (p : Parents) → parents.Reading (ofTypes (x .types)) (x .«self_word») p → hasOrder (typeMapOf s) ≡ true
-      → Synthesizes s (x .types) (x .extensions) (x .resource) p
-  unfolding typeMapOf
-  synthesizes p g o = record {
-    held = record {
-      readable = record { words = h .words; once = h .once };
-      within = read-is-within (bitsOf bytes) (h .rest) s (h .read);
-      order = o;
-      types = ap (λ (m : TypeMap). m .types) map-is;
-      extensions = ap (λ (m : TypeMap). m .extensions) map-is;
-      reads = g .reads (typeMapOf s) (sym (ap (λ (m : TypeMap). m .types) map-is)) (sym (ap (λ (m : TypeMap). m .self) map-is));
-    };
-    word = ap (λ (m : TypeMap). m .resource) map-is;
-  }
+  pub standing : places.Readable (n .width) (bitsOf bytes) d entries (n .count)
+  standing = subst (λ (W : ℕ). places.Readable W bs d entries (n .count)) (sym (f .width)) (readable s bs d entries (n .count) (f .drawn))
 
-pub rows-due : (bytes : List ℕ) (x : Decoded) → decodedOf x ≡ decoded bytes → (p : Parents) → parents.Reading (ofTypes (x .types)) (x .«self_word») p
-    → (d d′ : List ℕ) (count : ℕ) (more : Bool) (a : Answer) → Synthesized (x .types) (x .extensions) (x .resource) p d d′ count more → Tells a (parts 9 0 count more)
-    → RowsDue bytes d d′ a
-rows-due bytes x e p g d d′ count more a q t = record {
-  due = λ s h o r l.
-      rows-so s (record { words = h .words; once = h .once }) o l d d′ count more a r (q .written s (synthesizes bytes x e s h p g o)) t;
+  pub synthesizes : (p : Parents) (notes : List ℕ) → Compacts t d entries (n .count) (n .own) p → places.Numbered (n .width) (bitsOf bytes) d entries (n .count) notes
+      → Synthesizes s t (bitsOf bytes) notes p
+  synthesizes p notes c k =
+      let r = c .reads (typeMapOf s) (f .sketch) in
+      let q = subst (λ (W : ℕ). places.Numbered W bs d entries (n .count) notes) (f .width) k in
+      let e : p .count ≡ n .count = r .count ∙ rows.count-types s bs d entries (n .count) (f .drawn) in
+      record {
+        held = record {
+          readable = f .drawn .readable;
+          within = f .drawn .within;
+          order = f .order;
+          noted = λ a h. noted s bs d entries (n .count) (f .drawn) notes q a (omega (arith, e));
+          reads = r;
+        };
+        known = record { readable = f .drawn .readable; within = f .drawn .within; listed = f .catalogued .listed };
+      }
+
+pub rows-due : (bytes d entries t : List ℕ) (n : Decoding) (p : Parents) (notes : List ℕ) → Compacts t d entries (n .count) (n .own) p
+    → places.Numbered (n .width) (bitsOf bytes) d entries (n .count) notes → (b b′ : List ℕ) (count : ℕ) (more : Bool) (a : Answer)
+    → Synthesized t (bitsOf bytes) notes p b b′ count more → Tells a (parts 9 0 count more) → RowsDue bytes d entries t n b b′ a
+rows-due bytes d entries t n p notes c k b b′ count more a q u = record {
+  due = λ s f r l. rows-so s (f .drawn .readable) (f .order) l b b′ count more a r (q .written s (synthesizes bytes d entries t n s f p notes c k)) u;
 }
 
 -- ---- the catalogue
@@ -141,6 +133,21 @@ module _ (bytes d entries t : List ℕ) (n : Decoding) (w : Whole bytes d entrie
 
     catalogued : Catalogued s v
     catalogued = filled .catalogued s stands
+
+    drawn : Drawn s (bitsOf bytes) d entries (n .count)
+    drawn = tables.drawn bytes d entries t n w
+
+    pub filled-for : FilledFor (w .s) bytes d entries v n
+    filled-for = record {
+      short = w .holds .short;
+      drawn = drawn;
+      width = w .width;
+      sketch =
+          subst (λ (y : ℕ). compact.Drawn m v d entries (n .count) y) (sym (tables.self-is bytes d entries t n w))
+          (drawn-of s (bitsOf bytes) d entries (n .count) (w .drafted) (w .entered .long) (drawn .sorted) v (tables.within bytes d entries t n w) (catalogued .listed) (tables.listable bytes d entries t n w));
+      catalogued = catalogued;
+      order = has-order;
+    }
 
     -- the test of the catalogue is that of the map
     pub refused-is : b ≡ anyRefused (lineMap (w .s))

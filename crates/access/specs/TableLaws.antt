@@ -34,14 +34,14 @@ use Rattle.item_draft.specs.Fill.{Drawn, NamesStand}
 use Rattle.item_draft.specs.Standing.{names-stand, looked-bits, looked-most, parents-listed, parents-small}
 use Rattle.item_draft.specs.Rows as rows
 use Rattle.order_parents.specs.declared.Found.{Found}
-use Rattle.order_parents.specs.Parents.{looked, rowOf, Prepared, ParentsPut}
+use Rattle.order_parents.specs.Parents.{rowOf, Prepared, ParentsPut}
 use Rattle.order_parents.specs.Known.{Looks, Rows}
 use Rattle.order_parents.specs.SheetLaws.{ByName, prepared-of}
 use Rattle.order_rounds.specs.Organized.{Holds, Asked, Organized}
 use Rattle.order_rounds.specs.HoldsLaws.{holds-of}
 use Rattle.order_compact.specs.Compact.{Drafts}
 use Rattle.order_compact.specs.Reading as compact
-use Rattle.order_compact.specs.SheetLaws.{within-of, names-of, drafts-of}
+use Rattle.order_compact.specs.SheetLaws.{names-of, drafts-of}
 use Rattle.order_listing.specs.Order.{nameOf, namesIn, orderIn, Placed}
 use Rattle.access.specs.declared.Placing.{Placing}
 use Rattle.access.specs.Tables.{Organizes}
@@ -74,7 +74,7 @@ module _ (bytes d entries t : List ℕ) (n : Decoding) (w : Whole bytes d entrie
   readable = record { words = w .holds .words; once = w .holds .once }
 
   pub listable : Within (typeMapOf (w .s))
-  listable = within-of m (read.readable bytes s (w .holds))
+  listable = read.readable bytes s (w .holds)
 
   sorted : ByName s bs d entries (n .count)
   sorted = rows-by-name (length (s .words)) bs d (n .count) (w .drafted .few) entries (w .entered)
@@ -101,14 +101,13 @@ module _ (bytes d entries t : List ℕ) (n : Decoding) (w : Whole bytes d entrie
   pub drafts : Drafts d entries (n .count)
   drafts = drafts-of s bs d entries (n .count) (w .drafted) (w .entered .long) sorted within
 
-  self-is : n .own ≡ m .self
+  pub self-is : n .own ≡ typeMapOf (w .s) .self
   unfolding typeMapOf
   self-is = w .self
 
   -- a table with the names
   module _ (u : List ℕ) (r : ℕ) (ns : NamesStand (firstsOf entries) (secondsOf entries) (n .count) (n .width) u r) where
     looks : (a k : ℕ) → a < n .count → k < parentCountAt d (rowOf entries a) → Looks m u (parentAt d (rowOf entries a) k)
-    unfolding looked
     looks a k h l =
         let small = parents-small s bs d entries (n .count) drawn a k h l in
         record {

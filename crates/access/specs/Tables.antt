@@ -4,18 +4,21 @@ use mathlib.Core.List.{List}
 use mathlib.Core.Path.{_≡_}
 use Prim.Native.Nat.{ℕ, _*_, _≤_}
 use lib.ListN.{length}
+use Rattle.definitions.specs.Bits.{bitsOf}
 use Rattle.definitions.specs.Records.{Sheet}
 use Rattle.definitions.specs.Map.{typeMapOf}
 use Rattle.definitions.specs.Order.{hasOrder}
-use Rattle.definitions.specs.Relisted.{Holds}
 use Rattle.definitions.specs.Answer.{mostRowBytes, order, schedule}
 use Rattle.line_laws.specs.Statements.{lineMap, anyRefused}
+use Rattle.catalogue.specs.Catalogue.{Catalogued}
+use Rattle.item_draft.specs.Fill.{Drawn}
 use Rattle.item_draft.specs.declared.Known.{Known}
 use Rattle.item_names.specs.Names.{NamesPut}
 use Rattle.item_entries.specs.Entries.{firstsOf, secondsOf}
 use Rattle.order_parents.specs.declared.Found.{Found}
 use Rattle.order_parents.specs.Parents.{ParentsPut}
 use Rattle.order_rounds.specs.Organized.{Organized}
+use Rattle.order_compact.specs.Reading as compact
 use Rattle.sheet_decode.specs.declared.Decoding.{Decoding}
 use Rattle.sheet_decode.specs.Decodes.{Whole}
 use Rattle.answers.specs.declared.Answer.{Answer}
@@ -57,15 +60,18 @@ pub record Ordered (d entries t : List ℕ) (n : Decoding) (listing diagnosis : 
 abbrev pub knownOf : Decoding → Placing → Known
 knownOf n o = record { count = n .count; words = o .words; extensions = n .extensions; resource = n .resource; childed = o .childed; width = n .width }
 
--- The bytes hold a sheet whose map has an order (FORMAT 3.2).
-pub record HeldInOrder (bytes : List ℕ) : Type 0 where
-  pub s : Sheet
-  pub holds : Holds bytes s
+-- The tables have the sheet that the bytes hold: its draft, and the catalogue of its map, which has an order (FORMAT 3.2).
+pub record FilledFor (s : Sheet) (bytes d entries t : List ℕ) (n : Decoding) : Type 0 where
+  pub short : length bytes ≤ 40960
+  pub drawn : Drawn s (bitsOf bytes) d entries (n .count)
+  pub width : n .width ≡ length (s .words)
+  pub sketch : compact.Drawn (typeMapOf s) t d entries (n .count) (n .own)
+  pub catalogued : Catalogued s t
   pub order : hasOrder (typeMapOf s) ≡ true
 
 -- 9 is due to each such sheet of which a type is refused (FORMAT 8.11).
-pub record RowsDue (bytes entry exit : List ℕ) (r : Answer) : Type 0 where
-  pub due : (s : Sheet) → Holds bytes s → hasOrder (typeMapOf s) ≡ true → anyRefused (lineMap s) ≡ true → (listing : List ℕ)
+pub record RowsDue (bytes d entries t : List ℕ) (n : Decoding) (entry exit : List ℕ) (r : Answer) : Type 0 where
+  pub due : (s : Sheet) → FilledFor s bytes d entries t n → anyRefused (lineMap s) ≡ true → (listing : List ℕ)
       → Answered r listing exit (ended schedule (typeMapOf s) listing entry)
 
 -- What the schedule call owes to the sheet that the bytes hold (FORMAT 7.3, 7.4).

@@ -5,6 +5,7 @@ use sheet_decode::Decoding;
 ghost use mathlib.Core.Path.{_≡_};
 ghost use Prim.Native.Nat.{_≤_};
 ghost use lib.ListN.{length};
+ghost use Rattle.definitions.specs.Records.{Sheet};
 ghost use Rattle.definitions.specs.Answer.{mostRowBytes, outcome};
 ghost use Rattle.order_compact.specs.Compact.{Drafts};
 ghost use Rattle.sheet_decode.specs.Lists.{Tables};
@@ -12,7 +13,7 @@ ghost use Rattle.sheet_decode.specs.Decodes.{Whole};
 ghost use Rattle.answers.specs.Answers.{answerOf, Answered, orderInput, scheduleInput};
 ghost use Rattle.access.specs.Ending.{Unordered};
 ghost use Rattle.access.specs.Lines.{LinesListed};
-ghost use Rattle.access.specs.Tables.{Takes, Decoded, Organizes, Ordered, knownOf, HeldInOrder, RowsDue, Scheduled};
+ghost use Rattle.access.specs.Tables.{Takes, Decoded, Organizes, Ordered, knownOf, FilledFor, RowsDue, Scheduled};
 
 // 8: the map has no order; its rows are written (FORMAT 8.3 to 8.5).
 fn no_order(
@@ -138,24 +139,24 @@ fn known(n: Decoding, o: Placing) -> Known
     }
 }
 
-// 9: a type is refused; the rows of the synthesis are written (FORMAT 8.6 to 8.11). The synthesis works on the map by value, so the
-// sheet is read again.
-fn type_refused(sheet: &[u8], diagnosis: &mut [u8]) -> Answer
-    requires { ⌜ HeldInOrder (now sheet) ⌝ }
+// 9: a type is refused; the rows of the synthesis are written (FORMAT 8.6 to 8.11). The catalogue of the map is filled.
+fn type_refused(
+    sheet: &[u8],
+    t: &[u64; 1544],
+    d: &[u64; 704],
+    entries: &[u64; 64],
+    n: Decoding,
+    diagnosis: &mut [u8],
+) -> Answer
+    requires { ⌜ ((s : Sheet) × FilledFor s (now sheet) (now d) (now entries) (now t) n) ⌝ }
     requires { ⌜ mostRowBytes ≤ length (now diagnosis) ⌝ }
-    ensures { λ r. ⌜ RowsDue (now (sheet .entry)) (now (diagnosis .entry)) (now (diagnosis .exit)) r ⌝ }
+    ensures { λ r. ⌜ RowsDue (now (sheet .entry)) (now (d .entry)) (now (entries .entry)) (now (t .entry)) n (now (diagnosis .entry)) (now (diagnosis .exit)) r ⌝ }
 {
-    let held = decoding::decode(sheet);
-    let types = held.types;
-    let extensions = held.extensions;
-    let p = parents::parents_of(types, held.self_word);
-    let report = synthesis::apply_associate_annotations(
-        types,
-        extensions,
-        held.resource,
-        p,
-        diagnosis,
-    );
+    let mut l = order_table::blank();
+    order_compact::fill(&mut l, t, d, entries, n.count, n.own);
+    let mut notes = [0u64; 64];
+    synth_places::fill(&mut notes, sheet, d, entries, n.count, n.width);
+    let report = synthesis::apply_associate_annotations(sheet, t, &l, &notes, diagnosis);
     answers::type_refused(report.rows, report.more)
 }
 
@@ -182,7 +183,7 @@ fn end_schedule(
     let k = known(n, o);
     let lost = item_draft::fill(t, sheet, d, entries, &places, k);
     if item_refusal::is_refused(t, lost) {
-        return type_refused(sheet, diagnosis);
+        return type_refused(sheet, t, d, entries, n, diagnosis);
     }
     let listed = item_schedule::write_schedule(listing, t, &places, n.count);
     answers::listed(listed.short, listed.size)

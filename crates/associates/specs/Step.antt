@@ -7,16 +7,19 @@ use lib.ListN.{length}
 use Rattle.lists.specs.Lists.{filter, firstOf}
 use Rattle.rows.specs.declared.Row.{Row}
 use Rattle.definitions.specs.Records as records
-use Rattle.definitions.specs.Records.{Item}
-use Rattle.definitions.specs.Map.{LineType}
+use Rattle.definitions.specs.Records.{Item, Sheet}
+use Rattle.definitions.specs.Map.{LineType, LineMap}
 use Rattle.definitions.specs.Synthesis.{Verdict, unknownClasses, ends, noResource, duplicate, makes, judge, classRow, isDuplicate, withMaking}
 use Rattle.definitions.specs.Answer.{mostRows}
-use Rattle.table.specs.declared.Table.{Table}
-use Rattle.table.specs.Table.{declarationAt, tableMap, Sound}
-use Rattle.synthetic.specs.Made.{classesOf, Fits, created}
+use Rattle.line_laws.specs.Statements.{lineMap}
+use Rattle.law_classes.specs.Sets.{typeAt}
+use Rattle.synth_classes.specs.declared.Site.{Site}
+use Rattle.synth_classes.specs.declared.Origin.{Origin}
+use Rattle.synth_classes.specs.Made.{classesOf, created}
+use Rattle.synth_classes.specs.Known.{Known}
 use Rattle.interpretation.specs.Emit.{emit}
 use Rattle.interpretation.specs.Judged.{isUnknown, isOther}
-use Rattle.duplicates.specs.Held.{Makings, makingsIn, heldItems, Holding}
+use Rattle.duplicates.specs.Held.{Makings, makingsIn, heldItems}
 use Rattle.associates.specs.declared.Progress.{Progress}
 
 -- how far an annotation is, with the makings of its type
@@ -60,31 +63,34 @@ itemsIn T r new is duplicate = is
 itemsIn T r new is makes = withMaking T r new is
 
 -- the makings held, as items
-abbrev pub itemsHeld : Table → ℕ → Makings → List Item
-itemsHeld t T h = heldItems t T h (h .count)
+abbrev pub itemsHeld : LineMap → ℕ → Makings → List Item
+itemsHeld m T h = heldItems m T h (h .count)
 
 -- what the word comes to
-unfoldable pub verdictOf : Table → ℕ → ℕ → Row → ℕ → Bool → List Item → Verdict
-verdictOf t T r doms ps failed is =
-    judge failed (filter (isUnknown t) (classesOf doms r)) (firstOf (isOther t) (classesOf doms r)) (isDuplicate (tableMap t) (declarationAt t T) r (created t T r doms ps) is)
+unfoldable pub verdictOf : LineMap → ℕ → ℕ → Row → ℕ → Bool → List Item → Verdict
+verdictOf m T r doms ps failed is =
+    judge failed (filter (isUnknown m) (classesOf doms r)) (firstOf (isOther m) (classesOf doms r)) (isDuplicate m (typeAt m T) r (created m T r doms ps) is)
 
 -- p is s behind a word with that verdict
-pub record SteppedBy (t : Table) (T r : ℕ) (doms : Row) (ps limit : ℕ) (s : Reached) (b : List ℕ) (p : Reached) (b′ : List ℕ) (v : Verdict) : Type 0 where
-  pub rows : (b′, p .rows) ≡ emit limit (b, s .rows) (rowsIn (declarationAt t T) r v)
+pub record SteppedBy (m : LineMap) (T r : ℕ) (doms : Row) (ps limit : ℕ) (s : Reached) (b : List ℕ) (p : Reached) (b′ : List ℕ) (v : Verdict) : Type 0 where
+  pub rows : (b′, p .rows) ≡ emit limit (b, s .rows) (rowsIn (typeAt m T) r v)
   pub ended : p .ended ≡ endsIn v
   pub failed : p .failed ≡ failsIn v
-  pub items : itemsHeld t T (p .made) ≡ itemsIn (declarationAt t T) r (created t T r doms ps) (itemsHeld t T (s .made)) v
-  pub holding : Holding t T (p .made)
+  pub items : itemsHeld m T (p .made) ≡ itemsIn (typeAt m T) r (created m T r doms ps) (itemsHeld m T (s .made)) v
+
+abbrev pub SteppedIn : LineMap → ℕ → ℕ → Row → ℕ → ℕ → Reached → List ℕ → Reached → List ℕ → Type 0
+SteppedIn m T r doms ps limit s b p b′ = SteppedBy m T r doms ps limit s b p b′ (verdictOf m T r doms ps (s .failed) (itemsHeld m T (s .made)))
+
+-- the same for every sheet whose catalogue the table is; at most one making was added
+pub record Stepped (t : List ℕ) (site : Site) (o : Origin) (limit : ℕ) (s : Reached) (b : List ℕ) (p : Reached) (b′ : List ℕ) : Type 0 where
   pub count : p .made .count ≤ s .made .count + 1
+  pub right : (x : Sheet) → Known x t → site .place < length (lineMap x .types)
+      → SteppedIn (lineMap x) (site .place) (site .word) (o .doms) (o .parents) limit s b p b′
 
-abbrev pub Stepped : Table → ℕ → ℕ → Row → ℕ → ℕ → Reached → List ℕ → Reached → List ℕ → Type 0
-Stepped t T r doms ps limit s b p b′ = SteppedBy t T r doms ps limit s b p b′ (verdictOf t T r doms ps (s .failed) (itemsHeld t T (s .made)))
-
--- what a word needs: the table is sound, the making fits, so do those held, and there is room for one more and for the rows
-pub record Ready (t : Table) (T r : ℕ) (doms : Row) (ps limit : ℕ) (s : Reached) (b : List ℕ) : Type 0 where
-  pub sound : Sound t
-  pub fits : Fits t T r doms ps
-  pub holding : Holding t T (s .made)
+-- what a word needs: room for one making more and for the rows
+pub record Ready (site : Site) (limit : ℕ) (s : Reached) (b : List ℕ) : Type 0 where
+  pub place : site .place < 64
+  pub word : site .word < 255
   pub room : s .made .count < 380
   pub slice : 6 * limit ≤ length b
   pub few : limit ≤ mostRows

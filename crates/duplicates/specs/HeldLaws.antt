@@ -1,34 +1,38 @@
 -- Laws of held makings.
-use mathlib.Core.Bool.{Bool, true, false, _&&_, _||_, not, Bool·beq, or-false, and-false}
-use mathlib.Core.List.{List, [], _∷_, _++_}
-use mathlib.Core.Path.{_≡_, refl, sym, ap, _∙_}
-use Prim.Native.Nat.{ℕ, zero, suc, _+_, _*_, _≤_, _<_}
+use mathlib.Core.Bool.{Bool, true, false, _||_, not, or-false, and-false}
+use mathlib.Core.List.{List, [], _∷_}
+use mathlib.Core.Path.{_≡_, refl, sym, ap, ap₂, _∙_}
+use Prim.Native.Nat.{ℕ, zero, suc, _+_, _*_, _-_, _/_, _%_, _≤_, _<_}
 use native.Mathlib.Numerals.{add-one}
 use native.Mathlib.Omega.{arith}
-use borrow.Author.Tests.{ne-eqb, eqb-true, eqb-false}
+use borrow.Author.Tests.{eq-eqb, ne-eqb, eqb-true, eqb-false}
 use lib.Dec.{eqb, ltb}
-use lib.ListN.{length, getD, set, length-set, length-append}
+use lib.ListN.{length, getD, set, length-set}
 use lib.Seq
-use Rattle.lists.specs.Lists.{any, null, keep, sameList}
-use Rattle.lists.specs.Tests.{by, never, and-left, and-right, and-both}
+use Rattle.lists.specs.Lists.{any, null, keep}
+use Rattle.lists.specs.Tests.{by}
 use Rattle.lists.specs.Appending.{any-append}
+use Rattle.lists.specs.Members.{filter-none}
 use Rattle.rows.specs.declared.Row.{Row}
-use Rattle.definitions.specs.Records.{Name, Mark, Item, synthesized, extension}
+use Rattle.definitions.specs.Records.{Name, Mark, Item, Sheet, synthesized}
 use Rattle.definitions.specs.Comparisons.{sameName, lookUp, dotted}
-use Rattle.definitions.specs.Map.{LineType}
-use Rattle.definitions.specs.Making.{declared, allVirtual, extensionParents, createSyntheticResource, extensionLine, sameItem}
-use Rattle.definitions.specs.Synthesis.{withMaking}
-use Rattle.fields.specs.Fields.{optional, twoWords}
-use Rattle.making.specs.Making.{itemOf}
-use Rattle.making.specs.MakingLaws.{length-parentsOf, length-marksOf}
-use Rattle.making.specs.declared.Making.{Making}
-use Rattle.table.specs.declared.Table.{Table}
-use Rattle.table.specs.Table.{nameAt, declarationAt, tableMap, Sound, Finds}
-use Rattle.table.specs.TableLaws.{declared-at, none-there}
-use Rattle.synthetic.specs.Made.{classesOf, firstsOf, Fits, created}
+use Rattle.definitions.specs.Map.{LineType, LineMap}
+use Rattle.definitions.specs.Making.{declared, createSyntheticResource, extensionLine, sameItem}
+use Rattle.definitions.specs.Synthesis.{isDuplicate, withMaking}
+use Rattle.line_laws.specs.Statements.{lineMap}
+use Rattle.law_classes.specs.Sets.{noType, typeAt}
+use Rattle.law_classes.specs.Numbers.{place-of}
+use Rattle.catalogue.specs.Layout.{keyAt}
+use Rattle.sheet_keys.specs.Keys.{nameOfKey}
+use Rattle.synth_classes.specs.declared.Site.{Site}
+use Rattle.synth_classes.specs.declared.Origin.{Origin}
+use Rattle.synth_classes.specs.Classes.{placeOf}
+use Rattle.synth_classes.specs.Made.{created}
+use Rattle.synth_classes.specs.Known.{Known, name-known, type-known}
+use Rattle.synth_same.specs.Same.{SameMaking}
 use Rattle.store.specs.Store.{rowAt, putRow}
 use Rattle.store.specs.StoreLaws.{row-long, row-keeps, row-there, row-same}
-use Rattle.duplicates.specs.Held.{Makings, makingsIn, wordAt, domsAt, parentsAt, heldItems, Holding, Keeps}
+use Rattle.duplicates.specs.Held.{Makings, makingsIn, wordAt, domsAt, parentsAt, heldItems, Keeps, Declared, Made, Repeated}
 
 -- ---- what stands among the items
 
@@ -48,7 +52,7 @@ made-step n r v ps ms D w new is =
     (kept-none (not (any (sameItem (extensionLine D w)) is)) n r v ps ms D w)
     ∙ ap (λ b. any (sameItem (synthesized n r v ps ms)) is || b) (or-false (sameItem (synthesized n r v ps ms) new))
 
-module _ (t : Table) (T : ℕ) (h : Makings) (n : Name) (r : ℕ) (v : Bool) (ps : List Name) (ms : List Mark) where
+module _ (t : LineMap) (T : ℕ) (h : Makings) (n : Name) (r : ℕ) (v : Bool) (ps : List Name) (ms : List Mark) where
   abbrev x : Item
   x = synthesized n r v ps ms
 
@@ -56,7 +60,7 @@ module _ (t : Table) (T : ℕ) (h : Makings) (n : Name) (r : ℕ) (v : Bool) (ps
   unfolding heldItems
   held-step i =
       ap (λ (k : ℕ). any (sameItem x) (heldItems t T h k)) (add-one i)
-      ∙ made-step n r v ps ms (declarationAt t T) (wordAt h i) (created t T (wordAt h i) (domsAt h i) (parentsAt h i)) (heldItems t T h i)
+      ∙ made-step n r v ps ms (typeAt t T) (wordAt h i) (created t T (wordAt h i) (domsAt h i) (parentsAt h i)) (heldItems t T h i)
 
   pub held-start : any (sameItem x) (heldItems t T h 0) ≡ false
   unfolding heldItems
@@ -80,10 +84,10 @@ module _ (t : Table) (T : ℕ) (h : Makings) (n : Name) (r : ℕ) (v : Bool) (ps
   -- makings of other words are not the same
   pub unlike-word : (w : ℕ) (doms : Row) (qs : ℕ) → (w ≡ r → ⊥) → sameItem x (created t T w doms qs) ≡ false
   unfolding created createSyntheticResource sameItem
-  unlike-word w doms qs e = rw (ne-eqb r w (λ z. e (sym z))) (and-false (sameName n (declarationAt t T .name)))
+  unlike-word w doms qs e = rw (ne-eqb r w (λ z. e (sym z))) (and-false (sameName n (typeAt t T .name)))
 
 -- likewise for the making of a word
-module _ (t : Table) (T : ℕ) (h : Makings) (r : ℕ) (doms : Row) (ps : ℕ) where
+module _ (t : LineMap) (T : ℕ) (h : Makings) (r : ℕ) (doms : Row) (ps : ℕ) where
   abbrev new : Item
   new = created t T r doms ps
 
@@ -104,71 +108,19 @@ module _ (t : Table) (T : ℕ) (h : Makings) (r : ℕ) (doms : Row) (ps : ℕ) w
   unfolding created createSyntheticResource
   new-unlike w e qs l = unlike-word t T h _ _ _ _ _ w e qs l
 
--- ---- makings of one word
-
-same-long : {A : Type 0} (same : A → A → Bool) (a b : List A) → sameList same a b ≡ true → length a ≡ length b
-same-long same [] [] e = refl
-same-long same [] (y ∷ b) e = never e refl
-same-long same (x ∷ a) [] e = never e refl
-same-long same (x ∷ a) (y ∷ b) e = ap suc (same-long same a b (and-right (same x y) (sameList same a b) e))
-
--- lists that go on alike and are the same begin alike
-same-begin : {A : Type 0} (same : A → A → Bool) (a b k : List A) → sameList same (a ++ k) (b ++ k) ≡ true → sameList same a b ≡ true
-same-begin same [] [] k e = refl
-same-begin same [] (y ∷ b) k e = absurd (omega (arith, same-long same k (y ∷ b ++ k) e, length-append b k))
-same-begin same (x ∷ a) [] k e = absurd (omega (arith, same-long same (x ∷ a ++ k) k e, length-append a k))
-same-begin same (x ∷ a) (y ∷ b) k e =
-    and-both (and-left (same x y) (sameList same (a ++ k) (b ++ k)) e) (same-begin same a b k (and-right (same x y) (sameList same (a ++ k) (b ++ k)) e))
-
--- behind the first parents the parents are those of T and r: where the first ones differ, the makings do
-pub firsts-unlike : (t : Table) (T r : ℕ) (d : Row) (ps : ℕ) (e : Row) (qs : ℕ) → sameList sameName (firstsOf t d ps r) (firstsOf t e qs r) ≡ false →
-    sameItem (created t T r d ps) (created t T r e qs) ≡ false
-unfolding created createSyntheticResource sameItem
-firsts-unlike t T r d ps e qs h =
-    let k = (tableMap t .resource ∷ []) ∷ extensionParents (tableMap t) (declarationAt t T .name) r in
-    let n = sameName (declarationAt t T .name) (declarationAt t T .name) in
-    let l : sameList sameName (firstsOf t d ps r ++ k) (firstsOf t e qs r ++ k) ≡ false =
-    by (sameList sameName (firstsOf t d ps r ++ k) (firstsOf t e qs r ++ k)) (λ y. never (same-begin sameName (firstsOf t d ps r) (firstsOf t e qs r) k y) h) (λ y. y) in
-    rw (l, and-false (Bool·beq (declarationAt t T .virtual && allVirtual (tableMap t) (classesOf d r)) (declarationAt t T .virtual && allVirtual (tableMap t) (classesOf e r))), and-false (eqb r r)) (and-false n)
-
--- ---- the making's counts
-
-abbrev parentsIn : Item → List Name
-parentsIn (synthesized n r v ps ms) = ps
-parentsIn (extension n v t r) = []
-
-abbrev marksIn : Item → List Mark
-marksIn (synthesized n r v ps ms) = ms
-marksIn (extension n v t r) = []
-
--- a making as the code holds it is within its arrays
-pub record Counted (new : Making) : Type 0 where
-  pub parents : new .parents .count ≤ 17
-  pub marks : new .marks .count ≤ 448
-
-pub counted : (t : Table) (T r : ℕ) (doms : Row) (ps : ℕ) (new : Making) → Fits t T r doms ps → itemOf new ≡ created t T r doms ps → Counted new
-unfolding created createSyntheticResource declarationAt
-counted t T r doms ps new f e =
-    let a = ap (λ x. length (parentsIn x)) e in
-    let b = ap (λ x. length (marksIn x)) e in
-    record {
-      parents = omega (arith, a, length-parentsOf (new .parents), length-append (firstsOf t doms ps r) ((tableMap t .resource ∷ []) ∷ extensionParents (tableMap t) (nameAt t T) r), f .firsts, f .added);
-      marks = omega (arith, b, length-marksOf (new .marks), f .marks);
-    }
-
 -- ---- one more
 
-same-items : (t : Table) (T : ℕ) (h r : Makings) (n : ℕ) → ((i : ℕ) → i < n → wordAt r i ≡ wordAt h i) → ((i : ℕ) → i < n → domsAt r i ≡ domsAt h i) →
+same-items : (t : LineMap) (T : ℕ) (h r : Makings) (n : ℕ) → ((i : ℕ) → i < n → wordAt r i ≡ wordAt h i) → ((i : ℕ) → i < n → domsAt r i ≡ domsAt h i) →
     ((i : ℕ) → i < n → parentsAt r i ≡ parentsAt h i) → heldItems t T r n ≡ heldItems t T h n
 unfolding heldItems
 same-items t T h r zero a b c = refl
 same-items t T h r (suc n) a b c =
     rw (same-items t T h r n (λ i l. a i (omega arith)) (λ i l. b i (omega arith)) (λ i l. c i (omega arith)), a n (omega arith), b n (omega arith), c n (omega arith))
 
-held-one : (t : Table) (T : ℕ) (h r : Makings) (n word : ℕ) (doms : Row) (ps : ℕ) → heldItems t T r n ≡ heldItems t T h n → wordAt r n ≡ word → domsAt r n ≡ doms →
-    parentsAt r n ≡ ps → heldItems t T r (n + 1) ≡ withMaking (declarationAt t T) word (created t T word doms ps) (heldItems t T h n)
+held-one : (t : LineMap) (T : ℕ) (h r : Makings) (n word : ℕ) (doms : Row) (ps : ℕ) → heldItems t T r n ≡ heldItems t T h n → wordAt r n ≡ word → domsAt r n ≡ doms →
+    parentsAt r n ≡ ps → heldItems t T r (n + 1) ≡ withMaking (typeAt t T) word (created t T word doms ps) (heldItems t T h n)
 unfolding heldItems
-held-one t T h r n word doms ps p a b c = ap (λ (k : ℕ). heldItems t T r k) (add-one n) ∙ (λ i. withMaking (declarationAt t T) (a i) (created t T (a i) (b i) (c i)) (p i))
+held-one t T h r n word doms ps p a b c = ap (λ (k : ℕ). heldItems t T r k) (add-one n) ∙ (λ i. withMaking (typeAt t T) (a i) (created t T (a i) (b i) (c i)) (p i))
 
 -- the numbers with one making more behind the first n
 unfoldable pub putMaking : List ℕ → ℕ → ℕ → Row → ℕ → List ℕ
@@ -213,8 +165,8 @@ module _ (s : List ℕ) (n word : ℕ) (doms : Row) (ps : ℕ) where
     unfolding putMaking
     parents-there = Seq.getD-set-same s₂ (6 * n + 5) ps 0 (omega (arith, l₂))
 
-    items-more : (t : Table) (T : ℕ) →
-        heldItems t T (makingsIn (putMaking s n word doms ps) (n + 1)) (n + 1) ≡ withMaking (declarationAt t T) word (created t T word doms ps) (heldItems t T (makingsIn s n) n)
+    items-more : (t : LineMap) (T : ℕ) →
+        heldItems t T (makingsIn (putMaking s n word doms ps) (n + 1)) (n + 1) ≡ withMaking (typeAt t T) word (created t T word doms ps) (heldItems t T (makingsIn s n) n)
     items-more t T =
         held-one t T (makingsIn s n) (makingsIn (putMaking s n word doms ps) (n + 1)) n word doms ps
         (same-items t T (makingsIn s n) (makingsIn (putMaking s n word doms ps) (n + 1)) n
@@ -225,40 +177,101 @@ module _ (s : List ℕ) (n word : ℕ) (doms : Row) (ps : ℕ) where
         doms-there
         parents-there
 
-    holding-more : (t : Table) (T : ℕ) → n < 380 → Holding t T (makingsIn s n) → Fits t T word doms ps → Holding t T (makingsIn (putMaking s n word doms ps) (n + 1))
-    holding-more t T b k f =
-        record {
-          room = omega arith;
-          fits = λ i l.
-              by (eqb i n)
-              (λ e.
-              let z : i ≡ n = eqb-true i n e in
-              rw (z, word-there, doms-there, parents-there) f)
-              (λ e.
-              let z = eqb-false i n e in
-              rw (kept (6 * i) (omega (arith, z)), row-same s (putMaking s n word doms ps) (6 * i + 1) (λ j c. kept (6 * i + 1 + j) (omega (arith, z))), kept (6 * i + 5) (omega (arith, z)))
-              (k .fits i (omega (arith, z))));
-        }
-
-    pub keeps-more : n < 380 → Keeps (makingsIn s n) word doms ps (makingsIn (putMaking s n word doms ps) (n + 1))
-    keeps-more b = record { count = refl; items = items-more; holding = λ t T k f. holding-more t T b k f }
+    pub keeps-more : Keeps (makingsIn s n) word doms ps (makingsIn (putMaking s n word doms ps) (n + 1))
+    keeps-more = record { count = refl; items = items-more }
 
 -- ---- T.r
 
-tail-longer : (b d w : ℕ) → (d ≡ 255 → ⊥) → sameName (optional b) (optional d ++ (w ∷ [])) ≡ false
-tail-longer b d w h = rw (ne-eqb d 255 h) (by (eqb b 255) (λ e. rw e) (λ e. rw e (and-false (eqb b d))))
+-- a two-word T gives a name of three words, which is not that of a type
+short-name : (key : ℕ) (a b c : ℕ) (l : Name) → sameName (nameOfKey key) (a ∷ b ∷ c ∷ l) ≡ false
+unfolding nameOfKey
+short-name key a b c l =
+    by (eqb (key % 256) 0)
+    (λ e. rw e (and-false (eqb (key / 256) a)))
+    (λ e. rw (e, and-false (eqb (key % 256 - 1) b)) (and-false (eqb (key / 256) a)))
 
--- a name of three words is not declared
-pub three-words : (t : Table) (place word : ℕ) → (getD (t .seconds) place 0 ≡ 255 → ⊥) → declared (tableMap t) (dotted (nameAt t place) word) ≡ []
-unfolding tableMap lookUp declarationAt
-three-words t place word h =
-    none-there (λ (D : LineType). sameName (D .name) (dotted (nameAt t place) word)) (declarationAt t) (t .count)
-    (λ i _.
-    ap (λ x. eqb (getD (t .firsts) i 0) (getD (t .firsts) place 0) && x) (tail-longer (getD (t .seconds) i 0) (getD (t .seconds) place 0) word h)
-    ∙ and-false (eqb (getD (t .firsts) i 0) (getD (t .firsts) place 0)))
+module _ (s : Sheet) (t : List ℕ) (known : Known s t) (T word : ℕ) (h : T < length (lineMap s .types)) where
+  abbrev key : ℕ
+  key = keyAt t T
 
-pub one-word : (t : Table) (place word : ℕ) → getD (t .seconds) place 0 ≡ 255 → word < 255 → twoWords (getD (t .firsts) place 0) word ≡ dotted (nameAt t place) word
-one-word t place word h l = rw (h, ne-eqb word 255 (λ e. omega arith))
+  key-name : keyAt t T % 65536 ≡ keyAt t T
+  key-name = omega (arith, known .listed .entry T h .key)
 
-pub declared-there : (t : Table) → Sound t → (c : Name) (r : ℕ) → Finds (t .firsts) (t .seconds) (t .count) c r → ltb r (t .count) ≡ not (null (declared (tableMap t) c))
-declared-there t s c r f = rw (declared-at t s c r f) (by (ltb r (t .count)) (λ e. rw e) (λ e. rw e))
+  name-is : nameOfKey key ≡ typeAt (lineMap s) T .name
+  name-is = ap nameOfKey (sym key-name) ∙ name-known s t known T h
+
+  three : (key % 256 ≡ 0 → ⊥) → dotted (nameOfKey key) word ≡ (key / 256) ∷ (key % 256 - 1) ∷ word ∷ []
+  unfolding nameOfKey
+  three e = rw (ne-eqb (key % 256) 0 e) refl
+
+  two-words : (key % 256 ≡ 0 → ⊥) → declared (lineMap s) (dotted (typeAt (lineMap s) T .name) word) ≡ []
+  unfolding lookUp
+  two-words e =
+      ap (λ c. declared (lineMap s) (dotted c word)) (sym name-is)
+      ∙ filter-none (λ (D : LineType). sameName (D .name) (dotted (nameOfKey key) word)) (lineMap s .types)
+      (λ D i.
+      let p = place-of noType D (lineMap s .types) i in
+      let q : nameOfKey (keyAt t (p .0) % 65536) ≡ D .name = name-known s t known (p .0) (p .1) ∙ ap (λ (E : LineType). E .name) (p .2) in
+      ap₂ sameName (sym q) (three e) ∙ short-name (keyAt t (p .0) % 65536) _ _ _ [])
+
+  one-word : key % 256 ≡ 0 → word < 255 → not (null (declared (lineMap s) (dotted (typeAt (lineMap s) T .name) word))) ≡ ltb (placeOf t (key / 256 % 256 * 256 + (word + 1))) 64
+  unfolding nameOfKey
+  one-word e w =
+      let k = key / 256 % 256 * 256 + (word + 1) in
+      let a : k / 256 ≡ key / 256 = omega (arith, known .listed .entry T h .key) in
+      let b : k % 256 ≡ word + 1 = omega arith in
+      let c : word + 1 - 1 ≡ word = omega arith in
+      let q : dotted (nameOfKey key) word ≡ nameOfKey k = rw (eq-eqb (key % 256) 0 e, a, b, ne-eqb (word + 1) 0 (λ z. omega arith), c) refl in
+      ap (λ c. not (null (declared (lineMap s) (dotted c word)))) (sym name-is)
+      ∙ ap (λ c. not (null (declared (lineMap s) c))) q
+      ∙ ap (λ l. not (null l)) (type-known s t known k)
+      ∙ by (ltb (placeOf t k) 64) (λ z. rw z) (λ z. rw z)
+
+pub declared-three : (t : List ℕ) (T word key : ℕ) → key ≡ keyAt t T → (key % 256 ≡ 0 → ⊥) → Declared t T word false
+declared-three t T word key e h = record { right = λ s k l. sym (ap (λ x. not (null x)) (two-words s t k T word l (λ z. h (ap (λ (y : ℕ). y % 256) e ∙ z)))) }
+
+pub declared-two : (t : List ℕ) (T word key p : ℕ) → key ≡ keyAt t T → key % 256 ≡ 0 → word < 255 → p ≡ placeOf t (key / 256 % 256 * 256 + (word + 1)) → Declared t T word (ltb p 64)
+declared-two t T word key p e h w q =
+    record {
+      right = λ s k l.
+          ap (λ (x : ℕ). ltb x 64) (q ∙ ap (λ (x : ℕ). placeOf t (x / 256 % 256 * 256 + (word + 1))) e)
+          ∙ sym (one-word s t k T word l (ap (λ (y : ℕ). y % 256) (sym e) ∙ h) w);
+    }
+
+-- ---- the makings one after the other
+
+module _ (t : List ℕ) (site : Site) (o : Origin) (h : Makings) where
+  pub made-start : Made t site o h 0 false
+  made-start = record { right = λ s k l. sym (new-start (lineMap s) (site .place) h (site .word) (o .doms) (o .parents)) }
+
+  module _ (i : ℕ) (d : Row) (w : wordAt h i ≡ site .word) (e : d ≡ domsAt h i) (r : Bool) (same : SameMaking t site o (record { doms = d; parents = parentsAt h i }) r) where
+    answer : (s : Sheet) → Known s t → site .place < length (lineMap s .types)
+        → sameItem (created (lineMap s) (site .place) (site .word) (o .doms) (o .parents)) (created (lineMap s) (site .place) (wordAt h i) (domsAt h i) (parentsAt h i)) ≡ r
+    answer s k l =
+        (λ j. sameItem (created (lineMap s) (site .place) (site .word) (o .doms) (o .parents)) (created (lineMap s) (site .place) (w j) (sym e j) (parentsAt h i)))
+        ∙ sym (same .right s k l)
+
+    pub made-found : (n : ℕ) → i < n → r ≡ true → Made t site o h n true
+    made-found n l q = record { right = λ s k z. sym (new-found (lineMap s) (site .place) h (site .word) (o .doms) (o .parents) i n l (answer s k z ∙ q)) }
+
+    pub made-unlike : r ≡ false → Made t site o h i false → Made t site o h (i + 1) false
+    made-unlike q m =
+        record { right = λ s k z. sym (new-next (lineMap s) (site .place) h (site .word) (o .doms) (o .parents) i (sym (m .right s k z)) (answer s k z ∙ q)) }
+
+  pub made-other : (i : ℕ) → (wordAt h i ≡ site .word → ⊥) → Made t site o h i false → Made t site o h (i + 1) false
+  made-other i w m =
+      record {
+        right = λ s k z.
+            sym (new-next (lineMap s) (site .place) h (site .word) (o .doms) (o .parents) i (sym (m .right s k z))
+            (new-unlike (lineMap s) (site .place) h (site .word) (o .doms) (o .parents) (wordAt h i) (domsAt h i) (parentsAt h i) w));
+      }
+
+  -- ---- a duplicate
+
+  pub repeated-declared : (n : ℕ) (r : Bool) → Declared t (site .place) (site .word) r → r ≡ true → Repeated t site o h n true
+  unfolding isDuplicate
+  repeated-declared n r d q = record { right = λ s k l. rw (← d .right s k l, q) refl }
+
+  pub repeated-made : (n : ℕ) (r x : Bool) → Declared t (site .place) (site .word) r → r ≡ false → Made t site o h n x → Repeated t site o h n x
+  unfolding isDuplicate
+  repeated-made n r x d q m = record { right = λ s k l. rw (← d .right s k l, q) (m .right s k l) }

@@ -3,9 +3,8 @@ use mathlib.Core.Bool.{Bool, true, false}
 use mathlib.Core.List.{List, _++_, map}
 use mathlib.Core.Path.{_≡_}
 use Prim.Native.Nat.{ℕ, _+_, _*_, _<_, _≤_, _^_}
-use lib.Dec.{eqb}
 use lib.ListN.{length, getD}
-use Rattle.lists.specs.Lists.{In, any, ascends}
+use Rattle.lists.specs.Lists.{ascends}
 use Rattle.rows.specs.Rows.{hasBit}
 use Rattle.definitions.specs.Records.{Name, TypeInfo, Sheet}
 use Rattle.definitions.specs.Comparisons.{nameBefore}
@@ -14,18 +13,12 @@ use Rattle.definitions.specs.Inherited.{InheritedAnnotation, dedup, dedupOnto, 
 use Rattle.definitions.specs.Synthesis.{listedParents}
 use Rattle.synthesis_laws.specs.Statements.{inheritedBy}
 use Rattle.visit_laws.specs.Trail.{gotFrom}
-use Rattle.types.specs.Types.{typeInfoOf, zeroType}
-use Rattle.types.specs.declared.TypeInfo as held
-use Rattle.types.specs.declared.Types.{Types}
-use Rattle.types.specs.declared.Extensions.{Extensions}
-use Rattle.dedup.specs.declared.Entry.{Entry}
 use Rattle.dedup.specs.declared.Inherited.{Inherited}
-use Rattle.dedup.specs.Entries.{entriesOf}
 use Rattle.dedup.specs.Reading.{namesAt, inheritedOf, Good, under′}
 use Rattle.store.specs.Store.{Holds}
-use Rattle.own_associates.specs.Owning.{AllFit}
+use Rattle.own_associates.specs.Owning.{Noted, OwnFit}
 use Rattle.ordering.specs.Lists.{tab}
-use Rattle.ordering.specs.Reading.{Parent, howMany, listed, typeAt}
+use Rattle.ordering.specs.Reading.{howMany, typeAt}
 use Rattle.ordering.specs.declared.Parents.{Parents}
 use Rattle.held_map.specs.HeldMap.{HeldMap}
 
@@ -33,29 +26,19 @@ use Rattle.held_map.specs.HeldMap.{HeldMap}
 abbrev pub namesOf : TypeMap → List Name
 namesOf m = map (λ (T : TypeInfo). T .name) (m .types)
 
--- the type at a place as the code holds it
-abbrev pub itemAt : Types → ℕ → held.TypeInfo
-itemAt ts i = getD (ts .items) i zeroType
-
 -- ---- in the store
 
 -- the entries are within the array
 abbrev pub Fits : Inherited → Type 0
 Fits g = g .list .count ≤ length (g .list .items)
 
--- each entry has a parent, and its parents are listed by type t, so they are at most eight
-pub record FromParents (p : Parents) (t : ℕ) (l : List Entry) : Type 0 where
-  pub some : (e : Entry) → In e l → (i : ℕ) × (hasBit (e .parents) i ≡ true)
-  pub only : (e : Entry) → In e l → (i : ℕ) → hasBit (e .parents) i ≡ true → any (λ (q : Parent). eqb (q .place) i) (listed p t) ≡ true
-
 -- what type a inherits where all its parents hand on stands in the store
-pub record Stored (p : Parents) (m : TypeMap) (st : List ℕ) (a : ℕ) : Type 0 where
+pub record Stored (m : TypeMap) (st : List ℕ) (a : ℕ) : Type 0 where
   pub list : Inherited
   pub holds : Holds st a list
   pub fits : Fits list
   pub good : Good list
   pub reads : inheritedOf (namesOf m) list ≡ inheritedBy m (typeAt m a)
-  pub parents : FromParents p a (entriesOf (list .list))
 
 -- ---- one parent
 
@@ -63,42 +46,31 @@ pub record Stored (p : Parents) (m : TypeMap) (st : List ℕ) (a : ℕ) : Type 0
 abbrev pub handsUnder : List Name → TypeInfo → List InheritedAnnotation → List InheritedAnnotation
 handsUnder ps T l = map (λ a. record { annotation = asAssociate a; parents = ps }) (ownAssociates T) ++ map (under′ ps) l
 
--- what is asked of a parent
-pub record HandsFrom (ts : Types) (st : List ℕ) (place : ℕ) : Type 0 where
+-- what is asked of a parent whose annotations stand where x says
+pub record HandsFrom (bs : List Bool) (x : ℕ) (st : List ℕ) (place : ℕ) : Type 0 where
   pub low : place < 64
-  pub room : 2001 * place + 2001 ≤ length st
+  pub room : 1601 * place + 1601 ≤ length st
   pub most : length st < 1000000
-  pub fit : AllFit (itemAt ts place)
+  pub fit : OwnFit bs x
   pub list : Inherited
   pub holds : Holds st place list
   pub fits : Fits list
   pub good : Good list
 
--- r is h and what the type at the place hands on, whatever the names of the types
-pub record Takes (h : Inherited) (ts : Types) (st : List ℕ) (place : ℕ) (r : Inherited) : Type 0 where
+-- r is h and what the type at the place hands on, whichever type has these annotations, and whatever the names of the types
+pub record Takes (h : Inherited) (bs : List Bool) (x : ℕ) (st : List ℕ) (place : ℕ) (r : Inherited) : Type 0 where
   pub good : Good r
   pub fits : Fits r
-  pub dedup : (g : Inherited) → Fits g → Holds st place g → (names : List Name) → ascends nameBefore names ≡ true
-      → inheritedOf names r ≡ dedupOnto (inheritedOf names h) (handsUnder (namesAt names (2 ^ place)) (typeInfoOf (itemAt ts place)) (inheritedOf names g))
+  pub dedup : (T : TypeInfo) → Noted bs x (T .annotations) → (g : Inherited) → Fits g → Good g → Holds st place g → (names : List Name) → ascends nameBefore names ≡ true
+      → inheritedOf names r ≡ dedupOnto (inheritedOf names h) (handsUnder (namesAt names (2 ^ place)) T (inheritedOf names g))
 
-pub record TakesIf (h : Inherited) (ts : Types) (st : List ℕ) (place : ℕ) (counts : Bool) (r : Inherited) : Type 0 where
-  pub taken : counts ≡ true → Takes h ts st place r
+-- likewise for a parent that counts
+pub record HandsIf (bs : List Bool) (x : ℕ) (st : List ℕ) (place : ℕ) (counts : Bool) : Type 0 where
+  pub from : counts ≡ true → HandsFrom bs x st place
+
+pub record TakesIf (h : Inherited) (bs : List Bool) (x : ℕ) (st : List ℕ) (place : ℕ) (counts : Bool) (r : Inherited) : Type 0 where
+  pub taken : counts ≡ true → Takes h bs x st place r
   pub passed : counts ≡ false → r ≡ h
-
--- likewise by the record at the place alone, whatever the other types are
-pub record HandsAs (info : held.TypeInfo) (st : List ℕ) (place : ℕ) : Type 0 where
-  pub types : Types
-  pub same : itemAt types place ≡ info
-  pub hands : HandsFrom types st place
-
-pub record TakesAs (h : Inherited) (info : held.TypeInfo) (st : List ℕ) (place : ℕ) (r : Inherited) : Type 0 where
-  pub takes : (ts : Types) → itemAt ts place ≡ info → Takes h ts st place r
-
-pub record HandsIfAs (info : held.TypeInfo) (st : List ℕ) (place : ℕ) (counts : Bool) : Type 0 where
-  pub from : counts ≡ true → HandsAs info st place
-
-pub record TakesIfAs (h : Inherited) (info : held.TypeInfo) (st : List ℕ) (place : ℕ) (counts : Bool) (r : Inherited) : Type 0 where
-  pub takes : (ts : Types) → itemAt ts place ≡ info → TakesIf h ts st place counts r
 
 -- ---- all listed parents
 
@@ -108,14 +80,13 @@ placeAt p t i = getD (p .places) (8 * t + i) 0
 
 -- the parents with a flag are stored
 pub record StoredParents (p : Parents) (m : TypeMap) (st : List ℕ) (t flags : ℕ) : Type 0 where
-  pub at : (i : ℕ) → i < howMany p t → hasBit flags i ≡ true → Stored p m st (placeAt p t i)
+  pub at : (i : ℕ) → i < howMany p t → hasBit flags i ≡ true → Stored m st (placeAt p t i)
 
-pub record Ready (p : Parents) (ts : Types) (st : List ℕ) (t flags : ℕ) : Type 0 where
+pub record Ready (p : Parents) (bs : List Bool) (ns st : List ℕ) (t flags : ℕ) : Type 0 where
   pub sheet : Sheet
-  pub extensions : Extensions
-  pub held : HeldMap sheet ts extensions p
+  pub held : HeldMap sheet bs ns p
   pub low : t < p .count
-  pub room : 2001 * p .count ≤ length st
+  pub room : 1601 * p .count ≤ length st
   pub most : length st < 1000000
   pub stored : StoredParents p (typeMapOf sheet) st t flags
 
@@ -123,21 +94,19 @@ pub record Ready (p : Parents) (ts : Types) (st : List ℕ) (t flags : ℕ) : Ty
 abbrev pub handedTo : TypeMap → Parents → ℕ → ℕ → List InheritedAnnotation
 handedTo m p t flags = gotFrom m (tab (hasBit flags) (howMany p t)) (listedParents m (typeAt m t))
 
--- r is what type t gets from the listings with a flag, for every sheet that the code holds so
-pub record Gathered (p : Parents) (ts : Types) (st : List ℕ) (t flags : ℕ) (r : Inherited) : Type 0 where
+-- r is what type t gets from the listings with a flag, for every sheet that is held so
+pub record Gathered (p : Parents) (bs : List Bool) (ns st : List ℕ) (t flags : ℕ) (r : Inherited) : Type 0 where
   pub good : Good r
   pub fits : Fits r
-  pub reads : (s : Sheet) (es : Extensions) → HeldMap s ts es p → StoredParents p (typeMapOf s) st t flags
+  pub reads : (s : Sheet) → HeldMap s bs ns p → StoredParents p (typeMapOf s) st t flags
       → inheritedOf (namesOf (typeMapOf s)) r ≡ dedup (handedTo (typeMapOf s) p t flags)
-  pub parents : FromParents p t (entriesOf (r .list))
 
 -- r is what type t inherits where all its parents hand on. It stands in the store afterwards, and all else there is kept.
-pub record KeepsIt (p : Parents) (ts : Types) (st : List ℕ) (t : ℕ) (after : List ℕ) (r : Inherited) : Type 0 where
+pub record KeepsIt (p : Parents) (bs : List Bool) (ns st : List ℕ) (t : ℕ) (after : List ℕ) (r : Inherited) : Type 0 where
   pub good : Good r
   pub fits : Fits r
-  pub reads : (s : Sheet) (es : Extensions) → HeldMap s ts es p → StoredParents p (typeMapOf s) st t 255
+  pub reads : (s : Sheet) → HeldMap s bs ns p → StoredParents p (typeMapOf s) st t 255
       → inheritedOf (namesOf (typeMapOf s)) r ≡ inheritedBy (typeMapOf s) (typeAt (typeMapOf s) t)
-  pub parents : FromParents p t (entriesOf (r .list))
-  pub stored : (s : Sheet) (es : Extensions) → HeldMap s ts es p → StoredParents p (typeMapOf s) st t 255 → Stored p (typeMapOf s) after t
-  pub others : (m : TypeMap) (u : ℕ) → (u ≡ t → ⊥) → Stored p m st u → Stored p m after u
+  pub stored : (s : Sheet) → HeldMap s bs ns p → StoredParents p (typeMapOf s) st t 255 → Stored (typeMapOf s) after t
+  pub others : (m : TypeMap) (u : ℕ) → (u ≡ t → ⊥) → Stored m st u → Stored m after u
   pub long : length after ≡ length st

@@ -14,8 +14,6 @@ use Rattle.definitions.specs.Inherited.{InheritedAnnotation, dedup, handedOn}
 use Rattle.definitions.specs.Synthesis.{onlyIf, listedParents}
 use Rattle.synthesis_laws.specs.Statements.{inheritedBy}
 use Rattle.visit_laws.specs.Trail.{gotFrom}
-use Rattle.types.specs.declared.Types.{Types}
-use Rattle.types.specs.declared.Extensions.{Extensions}
 use Rattle.dedup.specs.declared.Inherited.{Inherited}
 use Rattle.dedup.specs.Reading.{inheritedOf}
 use Rattle.store.specs.Store.{Stores}
@@ -27,7 +25,7 @@ use Rattle.held_laws.specs.HeldLaws.{parents-are}
 use Rattle.handing.specs.Handing.{namesOf, Stored, StoredParents, handedTo, Gathered, KeepsIt}
 
 -- the parents of a type are stored, whichever have a flag
-pub stored-parents : (p : Parents) (m : TypeMap) (st : List ℕ) (t flags : ℕ) → ((q : Parent) → In q (listed p t) → Stored p m st (q .place)) → StoredParents p m st t flags
+pub stored-parents : (p : Parents) (m : TypeMap) (st : List ℕ) (t flags : ℕ) → ((q : Parent) → In q (listed p t) → Stored m st (q .place)) → StoredParents p m st t flags
 unfolding listed
 stored-parents p m st t flags h =
     record {
@@ -61,30 +59,28 @@ got-all m (f ∷ fs) (P ∷ Ps) e a =
     (got-all m fs Ps (omega (arith, e)) (and-right f (all (λ f. f) fs) a))
 
 -- with all flags every listed parent hands on
-all-handed : (s : Sheet) (ts : Types) (es : Extensions) (p : Parents) (t : ℕ) → HeldMap s ts es p → t < p .count
+all-handed : (s : Sheet) (bs : List Bool) (ns : List ℕ) (p : Parents) (t : ℕ) → HeldMap s bs ns p → t < p .count
     → handedTo (typeMapOf s) p t 255 ≡ each (handedOn (typeMapOf s)) (listedParents (typeMapOf s) (typeAt (typeMapOf s) t))
-all-handed s ts es p t h l =
+all-handed s bs ns p t h l =
     let m = typeMapOf s in
     got-all m (tab (hasBit 255) (howMany p t)) (listedParents m (typeAt m t))
-    (tab-length (hasBit 255) (howMany p t) ∙ sym (ap length (parents-are s ts es p h t l) ∙ length-map (listed p t) (λ (q : Parent). typeAt m (q .place)) ∙ listed-length p t))
+    (tab-length (hasBit 255) (howMany p t) ∙ sym (ap length (parents-are s bs ns p h t l) ∙ length-map (listed p t) (λ (q : Parent). typeAt m (q .place)) ∙ listed-length p t))
     (all-tab-of (hasBit 255) (λ f. f) (howMany p t) (λ i k. eight i (omega (arith, k, h .reads .types t l .most))))
 
 -- ---- stored
 
-module _ (p : Parents) (ts : Types) (st : List ℕ) (t : ℕ) (after : List ℕ) (r : Inherited) (l : t < p .count) (g : Gathered p ts st t 255 r) (w : Stores st t r after) where
-  all-read : (s : Sheet) (es : Extensions) → HeldMap s ts es p → StoredParents p (typeMapOf s) st t 255
+module _ (p : Parents) (bs : List Bool) (ns st : List ℕ) (t : ℕ) (after : List ℕ) (r : Inherited) (l : t < p .count) (g : Gathered p bs ns st t 255 r) (w : Stores st t r after) where
+  all-read : (s : Sheet) → HeldMap s bs ns p → StoredParents p (typeMapOf s) st t 255
       → inheritedOf (namesOf (typeMapOf s)) r ≡ inheritedBy (typeMapOf s) (typeAt (typeMapOf s) t)
-  all-read s es h k = g .reads s es h k ∙ ap dedup (all-handed s ts es p t h l)
+  all-read s h k = g .reads s h k ∙ ap dedup (all-handed s bs ns p t h l)
 
-  pub keeps-by : KeepsIt p ts st t after r
+  pub keeps-by : KeepsIt p bs ns st t after r
   keeps-by =
       record {
         good = g .good;
         fits = g .fits;
         reads = all-read;
-        parents = g .parents;
-        stored = λ s es h k.
-            record { list = r; holds = w .holds; fits = g .fits; good = g .good; reads = all-read s es h k; parents = g .parents };
+        stored = λ s h k. record { list = r; holds = w .holds; fits = g .fits; good = g .good; reads = all-read s h k };
         others = λ m u n b.
             record {
               list = b .list;
@@ -92,7 +88,6 @@ module _ (p : Parents) (ts : Types) (st : List ℕ) (t : ℕ) (after : List ℕ)
               fits = b .fits;
               good = b .good;
               reads = b .reads;
-              parents = b .parents;
             };
         long = w .long;
       }

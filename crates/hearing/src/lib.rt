@@ -1,11 +1,11 @@
 // Which listings of a type hand on what their parent has. A listing at which the parent is reached for the first time, and
 // fails, hands on nothing, and the type itself fails; listed again, the parent hands on everything (FORMAT 8.6).
-use ordering::Parents;
 ghost use mathlib.Core.Bool.{_&&_, _||_, not};
 ghost use mathlib.Core.Path.{_≡_};
 ghost use Prim.Native.Nat.{_<_};
 ghost use Rattle.rows.specs.Rows.{hasBit};
 ghost use Rattle.ordering.specs.Reading.{Valid};
+ghost use Rattle.order_table.specs.Form.{formOf};
 ghost use Rattle.parent_laws.specs.Placed.{ParentsBelow};
 ghost use Rattle.hearing.specs.Hearing.{WithFlag, FlagsOf, WithOk};
 
@@ -54,18 +54,17 @@ fn with_flag(f: Flags, i: usize, handed: bool) -> Flags
 }
 
 // The flags of the listings of type t.
-pub fn flags_of(p: Parents, t: usize, fresh: u8, ok: u64) -> Flags
-    requires { ⌜ Valid p ⌝ }
-    requires { ⌜ (t < p .count) × ParentsBelow p t ⌝ }
-    ensures { λ r. ⌜ FlagsOf p t fresh ok r ⌝ }
+pub fn flags_of(l: &[u64; 577], t: usize, fresh: u8, ok: u64) -> Flags
+    requires { ⌜ Valid (formOf (now l)) ⌝ }
+    requires { ⌜ (t < formOf (now l) .count) × ParentsBelow (formOf (now l)) t ⌝ }
+    ensures { λ r. ⌜ FlagsOf (formOf (now (l .entry))) t fresh ok r ⌝ }
 {
-    let count = p.counts[t] as usize;
+    let count = order_table::count_at(l, t);
     let base = 8 * t;
     let mut flags = Flags { row: 0, all: true };
     let mut i: usize = 0;
     while i < count {
-        let at = base + i;
-        let place = p.places[at] as usize;
+        let place = order_table::place_at(l, base + i);
         let handed = passes(fresh, i, ok, place);
         flags = with_flag(flags, i, handed);
         i += 1;

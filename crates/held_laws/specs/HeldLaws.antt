@@ -1,27 +1,22 @@
--- What follows from `HeldMap s ts es p`: how many types there are, which stand at which place, their names and their parents,
--- and that there is an order.
-use mathlib.Core.Bool.{true, false}
+-- What follows from `HeldMap s bs ns p`: which types stand at which place, their names and their parents.
+use mathlib.Core.Bool.{Bool, true, false}
 use mathlib.Core.List.{List, map, Memᴰ·map}
 use mathlib.Core.Path.{_≡_, sym, ap, _∙_, subst}
-use Prim.Native.Nat.{ℕ, _≤_, _<_}
+use Prim.Native.Nat.{ℕ, _<_}
 use native.Mathlib.Omega.{arith}
-use lib.ListN.{length, getD}
+use lib.ListN.{length}
 use Rattle.lists.specs.Lists.{In, ascends}
-use Rattle.lists.specs.Sorting.{perm-length, sorted-ascends}
+use Rattle.lists.specs.Sorting.{sorted-ascends}
 use Rattle.lists.specs.Members as members
-use Rattle.lists.specs.Tabulating.{length-places, getD-places}
 use Rattle.lists.specs.Appending.{map-map, each-single}
-use Rattle.lists.specs.Places.{getD-in, sorted-places}
+use Rattle.lists.specs.Places.{getD-in}
 use Rattle.definitions.specs.Records.{Name, TypeInfo, Sheet}
 use Rattle.definitions.specs.Comparisons.{nameBefore}
 use Rattle.definitions.specs.Checks.{namesTwice}
 use Rattle.definitions.specs.Map.{typeMapOf}
 use Rattle.definitions.specs.Synthesis.{listedParents}
 use Rattle.definitions.specs.OrderRows.{typeNamed}
-use Rattle.laws.specs.Comparisons.{names-once, types-perm, types-is, types-apart, types-ascend}
-use Rattle.types.specs.Types.{typeInfoOf, zeroType, ofTypes}
-use Rattle.types.specs.declared.Types.{Types}
-use Rattle.types.specs.declared.Extensions.{Extensions}
+use Rattle.laws.specs.Comparisons.{names-once, types-is, types-ascend}
 use Rattle.ordering.specs.Reading.{Parent, listed, noType, typeAt, placeIn, parentIn}
 use Rattle.ordering.specs.Rounds.{final, listsSelf}
 use Rattle.ordering.specs.Names.{whole-order, no-self, named-yes}
@@ -30,32 +25,13 @@ use Rattle.parent_laws.specs.Placed.{ParentsBelow}
 use Rattle.parent_laws.specs.Earlier.{all-below}
 use Rattle.held_map.specs.HeldMap.{HeldMap}
 
-module _ (s : Sheet) (ts : Types) (es : Extensions) (p : Parents) (h : HeldMap s ts es p) where
-  -- ---- how many
-
-  pub count-types : ts .count ≡ length (typeMapOf s .types)
-  unfolding ofTypes
-  count-types = sym (length-places typeInfoOf zeroType (ts .items) (ts .count)) ∙ ap length (h .types)
-
-  pub count-sheet : length (typeMapOf s .types) ≡ length (s .types)
-  count-sheet = sym (perm-length (types-perm s))
-
-  pub count-most : ts .count ≤ 64
-  count-most = omega (arith, count-types, count-sheet, h .within .types)
-
-  pub count-parents : p .count ≡ ts .count
-  count-parents = h .reads .count ∙ sym count-types
-
+module _ (s : Sheet) (bs : List Bool) (ns : List ℕ) (p : Parents) (h : HeldMap s bs ns p) where
   -- ---- the type at a place
 
-  pub type-at : (i : ℕ) → i < ts .count → typeInfoOf (getD (ts .items) i zeroType) ≡ typeAt (typeMapOf s) i
-  unfolding ofTypes
-  type-at i l = sym (getD-places typeInfoOf zeroType (ts .items) (ts .count) i noType l) ∙ ap (λ (k : List TypeInfo). getD k i noType) (h .types)
+  type-in-map : (i : ℕ) → i < p .count → In (typeAt (typeMapOf s) i) (typeMapOf s .types)
+  type-in-map i l = getD-in (typeMapOf s .types) noType i (omega (arith, h .reads .count))
 
-  pub type-in-map : (i : ℕ) → i < ts .count → In (typeAt (typeMapOf s) i) (typeMapOf s .types)
-  type-in-map i l = getD-in (typeMapOf s .types) noType i (omega (arith, count-types))
-
-  pub type-in : (i : ℕ) → i < ts .count → In (typeAt (typeMapOf s) i) (s .types)
+  pub type-in : (i : ℕ) → i < p .count → In (typeAt (typeMapOf s) i) (s .types)
   type-in i l = types-is s (typeAt (typeMapOf s) i) .0 (type-in-map i l)
 
   -- ---- the order
@@ -82,14 +58,14 @@ module _ (s : Sheet) (ts : Types) (es : Extensions) (p : Parents) (h : HeldMap s
   unfolding listedParents parentIn
   parents-are t l =
       let m = typeMapOf s in
-      let ns : List Name = typeAt m t .parents in
-      each-single (typeNamed m) (λ n. typeAt m (placeIn m n)) ns (λ n i. named-yes p m (h .reads) n (parent-place t l n i))
-      ∙ sym (map-map (λ (q : Parent). typeAt m (q .place)) (parentIn m) ns)
+      let qs : List Name = typeAt m t .parents in
+      each-single (typeNamed m) (λ n. typeAt m (placeIn m n)) qs (λ n i. named-yes p m (h .reads) n (parent-place t l n i))
+      ∙ sym (map-map (λ (q : Parent). typeAt m (q .place)) (parentIn m) qs)
       ∙ ap (map (λ (q : Parent). typeAt m (q .place))) (sym (h .reads .types t l .parents))
 
   -- ---- the names
 
-  pub names-once-held : namesTwice s ≡ false
+  names-once-held : namesTwice s ≡ false
   names-once-held = names-once s (h .readable .once)
 
   -- the types of a map stand in name order (FORMAT 1.4)
@@ -98,7 +74,3 @@ module _ (s : Sheet) (ts : Types) (es : Extensions) (p : Parents) (h : HeldMap s
       let f : TypeInfo → Name = λ T. T .name in
       sorted-ascends nameBefore (map f (typeMapOf s .types))
       (members.sorted-map (λ a b. nameBefore a b ≡ true) f (typeMapOf s .types) (types-ascend s names-once-held))
-
-  pub names-apart-at : (i j : ℕ) → i < j → j < ts .count → typeAt (typeMapOf s) i .name ≡ typeAt (typeMapOf s) j .name → ⊥
-  names-apart-at i j l k =
-      sorted-places (λ (T U : TypeInfo). T .name ≡ U .name → ⊥) (typeMapOf s .types) noType (types-apart s names-once-held) i j l (omega (arith, count-types))

@@ -1,3 +1,2 @@
 pub mod HeldLaws
 pub mod Limits
-pub mod Instance

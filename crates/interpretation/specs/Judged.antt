@@ -1,34 +1,36 @@
--- What `interpret_associate` finds of a word's classes, over a table.
-use mathlib.Core.Bool.{Bool, not, cond}
-use mathlib.Core.List.{List, [], _∷_, map}
-use Prim.Native.Nat.{ℕ}
-use lib.Dec.{ltb}
-use Rattle.lists.specs.Lists.{null, filter}
+-- What `interpret_associate` finds of a word's classes: in a map, and in the numbers of its catalogue.
+use mathlib.Core.Bool.{Bool, not}
+use mathlib.Core.List.{List, [], _∷_}
+use Prim.Native.Nat.{ℕ, _%_}
+use Rattle.lists.specs.Lists.{null}
 use Rattle.rows.specs.declared.Row.{Row}
-use Rattle.rows.specs.Rows.{has}
-use Rattle.rows.specs.Lists.{between}
-use Rattle.annotations.specs.Reading.{domAt}
+use Rattle.rows.specs.Lists.{below}
+use Rattle.definitions.specs.Records as records
 use Rattle.definitions.specs.Records.{Name}
-use Rattle.definitions.specs.Comparisons.{dotted}
+use Rattle.definitions.specs.Map.{LineMap}
 use Rattle.definitions.specs.Making.{declared, isResource}
-use Rattle.table.specs.declared.Table.{Table}
-use Rattle.table.specs.Table.{tableMap}
-
-abbrev pub className : ℕ → ℕ → Name
-className word k = dotted (domAt k) word
+use Rattle.catalogue.specs.Layout.{keyAt}
+use Rattle.sheet_keys.specs.Keys.{nameOfKey}
+use Rattle.synth_classes.specs.Classes.{unknownAt}
+use Rattle.synth_classes.specs.Made.{className}
+use Rattle.synth_classes.specs.Walks.{among}
 
 -- a class that is not declared: kind 4 (FORMAT 8.10)
-abbrev pub isUnknown : Table → Name → Bool
-isUnknown t c = null (declared (tableMap t) c)
+abbrev pub isUnknown : LineMap → Name → Bool
+isUnknown m c = null (declared m c)
 
 -- a declared class of another variant than a resource's: kind 5 (FORMAT 8.10)
-abbrev pub isOther : Table → Name → Bool
-isOther t c = not (isResource (tableMap t) c)
+abbrev pub isOther : LineMap → Name → Bool
+isOther m c = not (isResource m c)
 
--- the classes of n doms from k on, of which f holds
-unfoldable pub classesWith : (Name → Bool) → Row → ℕ → ℕ → ℕ → List Name
-classesWith f doms word k n = filter f (map (className word) (between (has doms) k n))
+-- the doms whose classes are not declared
+unfoldable pub unknownDoms : List ℕ → Row → ℕ → List ℕ
+unknownDoms t doms word = below (among doms (unknownAt t word)) 201
 
--- the class of a dom below 201, or none
-abbrev pub classIf : ℕ → ℕ → List Name
-classIf word k = cond (ltb k 201) (className word k ∷ []) []
+-- the name of the type at a place
+abbrev pub nameIn : List ℕ → ℕ → Name
+nameIn t place = nameOfKey (keyAt t place % 65536)
+
+-- the row of an unknown class, by its dom
+abbrev pub unknownRow : List ℕ → ℕ → ℕ → ℕ → records.Row
+unknownRow t place word k = record { kind = 4; subject = nameIn t place; other = className word k; word = word ∷ [] }

@@ -1,21 +1,20 @@
 // What a word's classes come to, and the rows of kinds 4, 5 and 6, after `interpret_associate` of compile.rs.
 use fields::Name;
 use rows::Row;
-use table::Table;
 ghost use mathlib.Core.Bool.{_&&_, not};
 ghost use mathlib.Core.List.{[], _∷_, map};
 ghost use mathlib.Core.Path.{_≡_};
 ghost use Prim.Native.Nat.{_*_, _<_, _≤_};
-ghost use lib.Dec.{eqb, ltb};
+ghost use lib.Dec.{ltb};
 ghost use lib.ListN.{length};
-ghost use Rattle.lists.specs.Lists.{null, filter, firstOf};
-ghost use Rattle.rows.specs.Rows.{has};
-ghost use Rattle.definitions.specs.Synthesis.{classRow};
+ghost use Rattle.rows.specs.Next.{First};
 ghost use Rattle.definitions.specs.Answer.{mostRows};
-ghost use Rattle.table.specs.Table.{declarationAt, Sound};
-ghost use Rattle.synthetic.specs.Made.{classesOf};
+ghost use Rattle.catalogue.specs.Layout.{headAt};
+ghost use Rattle.catalogue.specs.Catalogue.{isResourceHead};
+ghost use Rattle.synth_classes.specs.Classes.{unknownAt, otherAt};
+ghost use Rattle.synth_classes.specs.Walks.{among};
 ghost use Rattle.interpretation.specs.Emit.{emitBytes, emit};
-ghost use Rattle.interpretation.specs.Judged.{isUnknown, isOther, classIf};
+ghost use Rattle.interpretation.specs.Judged.{unknownDoms, unknownRow};
 
 // Writes the row of these names at place n, as far as the limit goes.
 pub fn put_row(
@@ -41,56 +40,41 @@ pub fn put_row(
     emitting::put_row(buf, limit, n, row)
 }
 
-// Whether the class of a dom stands in the row and has no place.
-fn is_unknown(doms: Row, dom: usize, place: usize, count: usize) -> bool
-    requires { ⌜ dom < 201 ⌝ }
-    ensures { λ r. ⌜ r ≡ (has doms dom && not (ltb place count)) ⌝ }
+// The first dom from a number on whose class is not declared (FORMAT 8.10), or 201.
+pub fn next_unknown(t: &[u64; 1544], doms: Row, word: u8, from: usize) -> usize
+    requires { ⌜ (word < 255) × (from ≤ 201) ⌝ }
+    ensures { λ r. ⌜ First (among doms (unknownAt (now (t .entry)) word)) 201 from r ⌝ }
 {
-    if rows::holds(doms, dom) {
-        return count <= place;
-    }
-    false
-}
-
-// Whether a class has a place, and another variant than a resource's.
-fn is_other(place: usize, count: usize, variant: usize) -> bool
-    ensures { λ r. ⌜ r ≡ (ltb place count && not (eqb variant 1)) ⌝ }
-{
-    if place < count {
-        return variant != 1;
-    }
-    false
-}
-
-// Whether all classes of a word are declared.
-pub fn all_known(t: Table, doms: Row, word: u8) -> bool
-    requires { ⌜ Sound t ⌝ }
-    requires { ⌜ word < 255 ⌝ }
-    ensures { λ r. ⌜ r ≡ null (filter (isUnknown t) (classesOf doms word)) ⌝ }
-{
-    let count = t.count;
-    let mut k = rows::next(doms, 0);
+    let mut k = rows::next(doms, from);
     while k < 201 {
-        let p = synthetic::class_place(&t.firsts, &t.seconds, count, doms, k, word);
-        if is_unknown(doms, k, p, count) {
-            return false;
+        let p = synth_classes::class_place(t, k, word);
+        if 64 <= p {
+            return k;
         }
         k = rows::next(doms, k + 1);
     }
-    true
+    201
 }
 
-// The dom of the first class that has another variant than a resource's, or 201 (FORMAT 8.10).
-pub fn first_other(t: Table, doms: Row, word: u8) -> usize
-    requires { ⌜ Sound t ⌝ }
-    requires { ⌜ word < 255 ⌝ }
-    ensures { λ r. ⌜ (firstOf (isOther t) (classesOf doms word) ≡ classIf word r) × (r ≤ 201) ⌝ }
+// Whether a class has a place, and another variant than a resource's.
+fn is_other(t: &[u64; 1544], place: usize) -> bool
+    ensures { λ r. ⌜ r ≡ (ltb place 64 && not (isResourceHead (headAt (now (t .entry)) place))) ⌝ }
 {
-    let count = t.count;
+    if place < 64 {
+        return catalogue::head_at(t, place) / 64 != 1;
+    }
+    false
+}
+
+// The first dom whose class has another variant than a resource's (FORMAT 8.10), or 201.
+pub fn first_other(t: &[u64; 1544], doms: Row, word: u8) -> usize
+    requires { ⌜ word < 255 ⌝ }
+    ensures { λ r. ⌜ First (among doms (otherAt (now (t .entry)) word)) 201 0 r ⌝ }
+{
     let mut k = rows::next(doms, 0);
     while k < 201 {
-        let p = synthetic::class_place(&t.firsts, &t.seconds, count, doms, k, word);
-        if is_other(p, count, t.variants[p]) {
+        let p = synth_classes::class_place(t, k, word);
+        if is_other(t, p) {
             return k;
         }
         k = rows::next(doms, k + 1);
@@ -100,7 +84,7 @@ pub fn first_other(t: Table, doms: Row, word: u8) -> usize
 
 // A row of kind 4 for each unknown class, with the class as the other name (FORMAT 8.10).
 pub fn unknown_rows(
-    t: Table,
+    t: &[u64; 1544],
     place: usize,
     doms: Row,
     word: u8,
@@ -108,24 +92,16 @@ pub fn unknown_rows(
     limit: usize,
     n: usize,
 ) -> usize
-    requires { ⌜ Sound t ⌝ }
-    requires { ⌜ (word < 255) × (place < t .count) × (6 * limit ≤ length (now buf)) × (limit ≤ mostRows) ⌝ }
-    ensures { λ r. ⌜ (now (buf .exit), r) ≡ emit limit (now (buf .entry), n) (map (classRow 4 (declarationAt t place) word) (filter (isUnknown t) (classesOf doms word))) ⌝ }
+    requires { ⌜ (word < 255) × (place < 64) × (6 * limit ≤ length (now buf)) × (limit ≤ mostRows) ⌝ }
+    ensures { λ r. ⌜ (now (buf .exit), r) ≡ emit limit (now (buf .entry), n) (map (unknownRow (now (t .entry)) place word) (unknownDoms (now (t .entry)) doms word)) ⌝ }
 {
-    let count = t.count;
-    let subject = Name {
-        first: t.firsts[place],
-        second: t.seconds[place],
-    };
+    let subject = synth_classes::name_at(t, place);
     let mut rows = n;
-    let mut k = rows::next(doms, 0);
+    let mut k = next_unknown(t, doms, word, 0);
     while k < 201 {
-        let p = synthetic::class_place(&t.firsts, &t.seconds, count, doms, k, word);
-        if is_unknown(doms, k, p, count) {
-            let other = table::class_name(k, word);
-            rows = put_row(buf, limit, rows, 4, subject, other, word);
-        }
-        k = rows::next(doms, k + 1);
+        let other = synth_classes::class_name(k, word);
+        rows = put_row(buf, limit, rows, 4, subject, other, word);
+        k = next_unknown(t, doms, word, k + 1);
     }
     rows
 }

@@ -1,5 +1,5 @@
 -- What a type inherits, entry after entry. No two share a word, so that they make at most 200 resources.
-use mathlib.Core.List.{List, [], _∷_, _++_, map}
+use mathlib.Core.List.{List, [], _∷_, _++_}
 use mathlib.Core.Path.{_≡_, refl, sym, ap, _∙_}
 use Prim.Native.Nat.{ℕ, zero, suc, _+_, _≤_, _<_}
 use native.Mathlib.Numerals.{add-one}
@@ -7,11 +7,9 @@ use native.Mathlib.Nat.{not-suc-le-zero, le-of-suc-le-suc}
 use native.Mathlib.Omega.{arith}
 use lib.ListN.{length, take, getD}
 use lib.Seq
-use Rattle.lists.specs.Tabulating.{getD-tabulate, tabulate, length-tabulate}
 use Rattle.lists.specs.Appending.{map-append}
 use Rattle.rows.specs.declared.Row.{Row}
-use Rattle.rows.specs.Rows.{has, hasBit}
-use Rattle.rows.specs.Lists.{below, map-between}
+use Rattle.rows.specs.Rows.{has}
 use Rattle.definitions.specs.Records.{Name}
 use Rattle.definitions.specs.Checks.{resourcesOf}
 use Rattle.definitions.specs.Inherited.{InheritedAnnotation}
@@ -22,28 +20,16 @@ use Rattle.dedup.specs.Entries.{entriesOf, Sound, covers, Apart, cons}
 use Rattle.dedup.specs.EntryLaws.{zeros}
 use Rattle.dedup.specs.Reading.{resourcesAt, namesAt, read, readAll, tableOf, inheritedOf, Good}
 use Rattle.dedup.specs.ReadingLaws.{read-is}
-use Rattle.table.specs.declared.Table.{Table}
-use Rattle.table.specs.Table.{nameAt}
-use Rattle.synthetic.specs.Made.{namesIn}
 use Rattle.interpreting.specs.Entry.{size}
-use Rattle.interpreting.specs.Annotations.{typeNames}
 
--- ---- names
-
--- the types at the places of a row are those that the table gives
-pub names-in : (t : Table) (ps : ℕ) → namesAt (typeNames t) ps ≡ namesIn t ps
-unfolding namesAt namesIn typeNames
-names-in t ps =
-    ap (λ (n : ℕ). map (λ i. getD (tabulate (nameAt t) (t .count)) i []) (below (hasBit ps) n)) (length-tabulate (nameAt t) (t .count))
-    ∙ map-between (hasBit ps) (hasBit ps) (λ i. getD (tabulate (nameAt t) (t .count)) i []) (nameAt t) 0 (t .count) (λ k p q. refl)
-    (λ k p q e. getD-tabulate (nameAt t) (t .count) k [] (omega arith))
+-- ---- one entry
 
 pub read-resources : (names : List Name) (D : ℕ → Row) (e : Entry) → Sound e → resourcesOf (read names D e .annotation) ≡ resourcesAt D (e .words)
 read-resources names D e s = ap (λ (x : InheritedAnnotation). resourcesOf (x .annotation)) (read-is names D e s)
 
-pub read-parents : (t : Table) (D : ℕ → Row) (e : Entry) → read (typeNames t) D e .parents ≡ namesIn t (e .parents)
+pub read-parents : (names : List Name) (D : ℕ → Row) (e : Entry) → read names D e .parents ≡ namesAt names (e .parents)
 unfolding read
-read-parents t D e = names-in t (e .parents)
+read-parents names D e = refl
 
 -- ---- how many words the entries have
 

@@ -5,17 +5,25 @@ use dedup::Entry;
 use dedup::Inherited;
 use own_associates::OwnAssociates;
 use rows::Row;
-use table::Table;
+use synth_classes::Origin;
+use synth_classes::Site;
 ghost use mathlib.Core.Bool.{_&&_, not};
 ghost use mathlib.Core.List.{[], _∷_};
 ghost use mathlib.Core.Path.{_≡_};
-ghost use Prim.Native.Nat.{_<_};
+ghost use Prim.Native.Nat.{_+_, _≤_, _<_};
 ghost use Rattle.rows.specs.Rows.{has};
-ghost use Rattle.dedup.specs.Reading.{inheritedOf, noDoms};
+ghost use Rattle.dedup.specs.Reading.{inheritedOf, noDoms, Good};
+ghost use Rattle.inheritance.specs.Own.{Own, AllOwn};
 ghost use Rattle.duplicates.specs.Held.{makingsIn};
 ghost use Rattle.associates.specs.Step.{reached};
 ghost use Rattle.interpreting.specs.Entry.{EntryReady, EntryDone};
-ghost use Rattle.interpreting.specs.Annotations.{typeReached, typeNames, plainOf, ownEntriesIn, Added, WithEntry, Ground, Room, OwnFits, OwnsFit, InheritedFits, TypeReady, TypeDone};
+ghost use Rattle.interpreting.specs.Annotations.{typeReached, plainOf, ownEntriesIn, Added, WithEntry, Ground, TypeReady, TypeDone};
+
+// A type's turn: its place, and how many rows there can be.
+pub struct Turn {
+    pub place: usize,
+    pub limit: usize,
+}
 
 // How far a type is: whether it added no row, the count of rows, and that of its makings.
 pub struct Told {
@@ -43,20 +51,21 @@ fn is_due(words: Row, word: usize, ended: bool) -> bool
 
 // One annotation, its words ascending.
 pub fn interpret_associate(
-    t: Table,
-    place: usize,
+    t: &[u64; 1544],
+    turn: Turn,
     e: Entry,
     doms: [Row; 200],
     s: Progress,
     made: &mut [u64; 2280],
     buf: &mut [u8],
-    limit: usize,
 ) -> Progress
-    requires { ⌜ EntryReady t place e doms limit (makingsIn (now made) (s .made)) (now buf) ⌝ }
-    ensures { λ r. ⌜ EntryDone t place e doms limit (reached s (now (made .entry))) (now (buf .entry)) (reached r (now (made .exit))) (now (buf .exit)) ⌝ }
+    requires { ⌜ EntryReady (turn .place) e (turn .limit) (makingsIn (now made) (s .made)) (now buf) ⌝ }
+    ensures { λ r. ⌜ EntryDone (now (t .entry)) (turn .place) e doms (turn .limit) (reached s (now (made .entry))) (now (buf .entry)) (reached r (now (made .exit))) (now (buf .exit)) ⌝ }
 {
     let words = e.words;
     let parents = e.parents;
+    let place = turn.place;
+    let limit = turn.limit;
     let mut p = Progress {
         failed: false,
         ended: false,
@@ -67,7 +76,15 @@ pub fn interpret_associate(
     while w < 200 {
         if is_due(words, w, p.ended) {
             let d = doms[w];
-            p = associates::interpret_word(t, place, w as u8, d, parents, p, made, buf, limit);
+            let site = Site {
+                place: place,
+                word: w as u8,
+            };
+            let origin = Origin {
+                doms: d,
+                parents: parents,
+            };
+            p = associates::interpret_word(t, site, origin, p, made, buf, limit);
         }
         w = rows::next(words, w + 1);
     }
@@ -86,17 +103,16 @@ fn still_clean(clean: bool, failed: bool) -> bool
 
 // One annotation more.
 fn with_entry(
-    t: Table,
-    place: usize,
+    t: &[u64; 1544],
+    turn: Turn,
     e: Entry,
     doms: [Row; 200],
     s: Told,
     made: &mut [u64; 2280],
     buf: &mut [u8],
-    limit: usize,
 ) -> Told
-    requires { ⌜ EntryReady t place e doms limit (makingsIn (now made) (s .made)) (now buf) ⌝ }
-    ensures { λ r. ⌜ WithEntry t place e doms limit (typeReached s (now (made .entry))) (now (buf .entry)) (typeReached r (now (made .exit))) (now (buf .exit)) ⌝ }
+    requires { ⌜ EntryReady (turn .place) e (turn .limit) (makingsIn (now made) (s .made)) (now buf) ⌝ }
+    ensures { λ r. ⌜ WithEntry (now (t .entry)) (turn .place) e doms (turn .limit) (typeReached s (now (made .entry))) (now (buf .entry)) (typeReached r (now (made .exit))) (now (buf .exit)) ⌝ }
 {
     let p = Progress {
         failed: false,
@@ -104,7 +120,7 @@ fn with_entry(
         rows: s.rows,
         made: s.made,
     };
-    let r = interpret_associate(t, place, e, doms, p, made, buf, limit);
+    let r = interpret_associate(t, turn, e, doms, p, made, buf);
     let clean = still_clean(s.clean, r.failed);
     Told {
         clean: clean,
@@ -123,17 +139,16 @@ fn no_doms() -> [Row; 200]
 
 // One own associate more. An Associate is an annotation without parents; a NestAssociate (2) is not interpreted.
 fn interpret_own(
-    t: Table,
-    place: usize,
+    t: &[u64; 1544],
+    turn: Turn,
     a: AnnotationInfo,
     s: Told,
     made: &mut [u64; 2280],
     buf: &mut [u8],
-    limit: usize,
 ) -> Told
-    requires { ⌜ Ground t place limit (now buf) ⌝ }
-    requires { ⌜ OwnFits t place a × Room t place (makingsIn (now made) (s .made)) 15 ⌝ }
-    ensures { λ r. ⌜ Added t place limit (plainOf (a ∷ [])) 15 (typeReached s (now (made .entry))) (now (buf .entry)) (typeReached r (now (made .exit))) (now (buf .exit)) ⌝ }
+    requires { ⌜ Ground (turn .place) (turn .limit) (now buf) ⌝ }
+    requires { ⌜ Own a × (s .made + 15 ≤ 380) ⌝ }
+    ensures { λ r. ⌜ Added (now (t .entry)) (turn .place) (turn .limit) (λ ns. plainOf (a ∷ [])) 15 (typeReached s (now (made .entry))) (now (buf .entry)) (typeReached r (now (made .exit))) (now (buf .exit)) ⌝ }
 {
     if a.kind != 1 {
         return s;
@@ -146,22 +161,21 @@ fn interpret_own(
         words: words,
         parents: 0,
     };
-    with_entry(t, place, e, doms, s, made, buf, limit)
+    with_entry(t, turn, e, doms, s, made, buf)
 }
 
 // The type's own associates one after the other, in their order (FORMAT 8.6, 8.7).
 fn interpret_owns(
-    t: Table,
-    place: usize,
+    t: &[u64; 1544],
+    turn: Turn,
     own: OwnAssociates,
     s: Told,
     made: &mut [u64; 2280],
     buf: &mut [u8],
-    limit: usize,
 ) -> Told
-    requires { ⌜ Ground t place limit (now buf) ⌝ }
-    requires { ⌜ OwnsFit t place own × Room t place (makingsIn (now made) (s .made)) 180 ⌝ }
-    ensures { λ r. ⌜ Added t place limit (ownEntriesIn own) 180 (typeReached s (now (made .entry))) (now (buf .entry)) (typeReached r (now (made .exit))) (now (buf .exit)) ⌝ }
+    requires { ⌜ Ground (turn .place) (turn .limit) (now buf) ⌝ }
+    requires { ⌜ AllOwn (own .items) (own .count) × (s .made + 180 ≤ 380) ⌝ }
+    ensures { λ r. ⌜ Added (now (t .entry)) (turn .place) (turn .limit) (λ ns. ownEntriesIn own) 180 (typeReached s (now (made .entry))) (now (buf .entry)) (typeReached r (now (made .exit))) (now (buf .exit)) ⌝ }
 {
     let count = own.count;
     let items = own.items;
@@ -169,7 +183,7 @@ fn interpret_owns(
     let mut i: usize = 0;
     while i < count {
         let a = items[i];
-        p = interpret_own(t, place, a, p, made, buf, limit);
+        p = interpret_own(t, turn, a, p, made, buf);
         i += 1;
     }
     p
@@ -177,17 +191,16 @@ fn interpret_owns(
 
 // What the type inherits, in the order in which the dedup left it (FORMAT 8.6, 8.9).
 fn interpret_extra(
-    t: Table,
-    place: usize,
+    t: &[u64; 1544],
+    turn: Turn,
     h: Inherited,
     s: Told,
     made: &mut [u64; 2280],
     buf: &mut [u8],
-    limit: usize,
 ) -> Told
-    requires { ⌜ Ground t place limit (now buf) ⌝ }
-    requires { ⌜ InheritedFits t place h × Room t place (makingsIn (now made) (s .made)) 200 ⌝ }
-    ensures { λ r. ⌜ Added t place limit (inheritedOf (typeNames t) h) 200 (typeReached s (now (made .entry))) (now (buf .entry)) (typeReached r (now (made .exit))) (now (buf .exit)) ⌝ }
+    requires { ⌜ Ground (turn .place) (turn .limit) (now buf) ⌝ }
+    requires { ⌜ Good h × (s .made + 200 ≤ 380) ⌝ }
+    ensures { λ r. ⌜ Added (now (t .entry)) (turn .place) (turn .limit) (λ ns. inheritedOf ns h) 200 (typeReached s (now (made .entry))) (now (buf .entry)) (typeReached r (now (made .exit))) (now (buf .exit)) ⌝ }
 {
     let list = h.list;
     let count = list.count;
@@ -197,7 +210,7 @@ fn interpret_extra(
     let mut i: usize = 0;
     while i < count {
         let e = items[i];
-        p = with_entry(t, place, e, doms, p, made, buf, limit);
+        p = with_entry(t, turn, e, doms, p, made, buf);
         i += 1;
     }
     p
@@ -205,7 +218,7 @@ fn interpret_extra(
 
 // All annotations of the type at a place: its own associates, and what it inherits. The rows go behind the first n.
 pub fn interpret_inherited_annotations(
-    t: Table,
+    t: &[u64; 1544],
     place: usize,
     own: OwnAssociates,
     h: Inherited,
@@ -213,8 +226,8 @@ pub fn interpret_inherited_annotations(
     limit: usize,
     n: usize,
 ) -> Interpreted
-    requires { ⌜ TypeReady t place own h limit (now buf) ⌝ }
-    ensures { λ r. ⌜ TypeDone t place own h limit n (now (buf .entry)) r (now (buf .exit)) ⌝ }
+    requires { ⌜ TypeReady place own h limit (now buf) ⌝ }
+    ensures { λ r. ⌜ TypeDone (now (t .entry)) place own h limit n (now (buf .entry)) r (now (buf .exit)) ⌝ }
 {
     if own.count == 0 {
         if h.list.count == 0 {
@@ -225,13 +238,14 @@ pub fn interpret_inherited_annotations(
         }
     }
     let mut made = [0u64; 2280];
+    let turn = Turn { place, limit };
     let s = Told {
         clean: true,
         rows: n,
         made: 0,
     };
-    let p = interpret_owns(t, place, own, s, &mut made, buf, limit);
-    let r = interpret_extra(t, place, h, p, &mut made, buf, limit);
+    let p = interpret_owns(t, turn, own, s, &mut made, buf);
+    let r = interpret_extra(t, turn, h, p, &mut made, buf);
     Interpreted {
         rows: r.rows,
         clean: r.clean,

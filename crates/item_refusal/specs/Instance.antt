@@ -53,7 +53,7 @@ each-at P (suc n) h a l =
 
 -- ---- a map refused for two identical makings (`crossed`): places p 0, p.f 1, q.f 2, t 3
 
-abbrev crossedTable : List ℕ
+abbrev pub crossedTable : List ℕ
 crossedTable =
     fill 64 (256 ∷ 257 ∷ 513 ∷ 1280 ∷ [])
     ++ (fill 64 (0 ∷ 64 ∷ 64 ∷ 1 ∷ [])

@@ -47,7 +47,7 @@ mark-bits (deriveMark t) xs e = absurd (omega (arith, ap length e))
 abbrev pub AllWithin : List Mark → Type 0
 AllWithin l = (a : Mark) → In a l → MarkWithin a
 
-one-code : (l k : List Mark) → AllWithin l → AllWithin k → each markBits l ≡ each markBits k → l ≡ k
+pub one-code : (l k : List Mark) → AllWithin l → AllWithin k → each markBits l ≡ each markBits k → l ≡ k
 one-code [] [] h g e = refl
 one-code [] (b ∷ k) h g e = absurd (mark-bits b (each markBits k) (sym e))
 one-code (a ∷ l) [] h g e = absurd (mark-bits a (each markBits l) e)

@@ -12,12 +12,13 @@ ghost use mathlib.Core.List.{[], _∷_, _++_};
 ghost use mathlib.Core.Path.{_≡_};
 ghost use Prim.Native.Nat.{_+_, _≤_, _<_};
 ghost use lib.Dec.{eqb};
-ghost use lib.ListN.{length, drop};
+ghost use lib.ListN.{drop};
 ghost use Rattle.definitions.specs.Bits.{bitsOf};
 ghost use Rattle.definitions.specs.Parse.{repeat, counted};
 ghost use Rattle.definitions.specs.Reading.{annotation, mark};
+ghost use Rattle.bits.specs.Reading.{Addressable};
 ghost use Rattle.fields.specs.Fields.{ofNames, ofNamesRead};
-ghost use Rattle.records.specs.Annotations.{rowOfWord, rowOfTag, rowsFor, withKind, annotationOf, ofAnnotationRead, ofAnnotations, ofAnnotationsRead};
+ghost use Rattle.records.specs.Annotations.{rowOfWord, rowOfTag, rowsFor, withKind, ofAnnotationRead, ofAnnotations, ofAnnotationsRead};
 ghost use Rattle.records.specs.Marks.{markOf, ofMarkRead, ofMarks, ofMarksRead};
 
 // An annotation as read (01: 'a kind beside flat arrays'), the kinds numbered as in the sheet (FORMAT 2.7). An associate has
@@ -97,7 +98,7 @@ fn one_row(w: u8, next: Cursor) -> NamesRead
 
 // The word of an Alias (FORMAT 2.7).
 fn read_alias(s: &[u8], c: Cursor, limit: usize) -> NamesRead
-    requires { ⌜ length (now s) ≤ 40960 ⌝ }
+    requires { ⌜ Addressable (now s) ⌝ }
     ensures { λ r. ⌜ ofNamesRead (bitsOf (now (s .entry))) r ≡ rowOfWord limit (drop (c .at) (bitsOf (now (s .entry)))) ⌝ }
 {
     match fields::read_word_field(s, c, limit) {
@@ -108,7 +109,7 @@ fn read_alias(s: &[u8], c: Cursor, limit: usize) -> NamesRead
 
 // The tag of a Derive (FORMAT 2.7).
 fn read_derive(s: &[u8], c: Cursor) -> NamesRead
-    requires { ⌜ length (now s) ≤ 40960 ⌝ }
+    requires { ⌜ Addressable (now s) ⌝ }
     ensures { λ r. ⌜ ofNamesRead (bitsOf (now (s .entry))) r ≡ rowOfTag (drop (c .at) (bitsOf (now (s .entry)))) ⌝ }
 {
     match fields::read_tag(s, c) {
@@ -119,7 +120,7 @@ fn read_derive(s: &[u8], c: Cursor) -> NamesRead
 
 // What follows the kind (FORMAT 2.7): the resources of an associate, the names of an Inherit, a word, a tag, or nothing.
 fn read_rows(s: &[u8], c: Cursor, limit: usize, kind: usize) -> NamesRead
-    requires { ⌜ (length (now s) ≤ 40960) × (limit ≤ 255) ⌝ }
+    requires { ⌜ Addressable (now s) × (limit ≤ 255) ⌝ }
     ensures { λ r. ⌜ ofNamesRead (bitsOf (now (s .entry))) r ≡ rowsFor limit kind (drop (c .at) (bitsOf (now (s .entry)))) ⌝ }
 {
     match kind {
@@ -178,7 +179,7 @@ fn is_nested_in_two(kind: usize, single: bool) -> bool
 
 // An annotation: its kind, and what follows it. A NestAssociate in a two-word type is refused at its kind (FORMAT 2.7).
 pub fn read_annotation(s: &[u8], c: Cursor, limit: usize, single: bool) -> AnnotationRead
-    requires { ⌜ (length (now s) ≤ 40960) × (limit ≤ 255) ⌝ }
+    requires { ⌜ Addressable (now s) × (limit ≤ 255) ⌝ }
     ensures { λ r. ⌜ ofAnnotationRead (bitsOf (now (s .entry))) r ≡ annotation limit single (drop (c .at) (bitsOf (now (s .entry)))) ⌝ }
 {
     match fields::read_between(s, c, 3, 0, 6) {
@@ -228,7 +229,7 @@ fn read_each_annotation(
     single: bool,
     n: usize,
 ) -> AnnotationsRead
-    requires { ⌜ (length (now s) ≤ 40960) × (limit ≤ 255) × (n ≤ 12) ⌝ }
+    requires { ⌜ Addressable (now s) × (limit ≤ 255) × (n ≤ 12) ⌝ }
     ensures { λ r. ⌜ ofAnnotationsRead (bitsOf (now (s .entry))) r ≡ repeat (annotation limit single) n (drop (c .at) (bitsOf (now (s .entry)))) ⌝ }
 {
     let mut next = c;
@@ -258,7 +259,7 @@ fn read_each_annotation(
 
 // The annotations of a type, at most 12 (FORMAT 2.6).
 pub fn read_annotations(s: &[u8], c: Cursor, limit: usize, single: bool) -> AnnotationsRead
-    requires { ⌜ (length (now s) ≤ 40960) × (limit ≤ 255) ⌝ }
+    requires { ⌜ Addressable (now s) × (limit ≤ 255) ⌝ }
     ensures { λ r. ⌜ ofAnnotationsRead (bitsOf (now (s .entry))) r ≡ counted 4 0 12 (annotation limit single) (drop (c .at) (bitsOf (now (s .entry)))) ⌝ }
 {
     match fields::read_between(s, c, 4, 0, 12) {
@@ -268,7 +269,7 @@ pub fn read_annotations(s: &[u8], c: Cursor, limit: usize, single: bool) -> Anno
 }
 
 pub fn read_mark(s: &[u8], c: Cursor) -> MarkRead
-    requires { ⌜ length (now s) ≤ 40960 ⌝ }
+    requires { ⌜ Addressable (now s) ⌝ }
     ensures { λ r. ⌜ ofMarkRead (bitsOf (now (s .entry))) r ≡ mark (drop (c .at) (bitsOf (now (s .entry)))) ⌝ }
 {
     match c.read(s, 1) {
@@ -323,7 +324,7 @@ fn marks_refused(r: Fault) -> MarksRead
 
 // n marks.
 fn read_each_mark(s: &[u8], c: Cursor, n: usize) -> MarksRead
-    requires { ⌜ (length (now s) ≤ 40960) × (n ≤ 7) ⌝ }
+    requires { ⌜ Addressable (now s) × (n ≤ 7) ⌝ }
     ensures { λ r. ⌜ ofMarksRead (bitsOf (now (s .entry))) r ≡ repeat mark n (drop (c .at) (bitsOf (now (s .entry)))) ⌝ }
 {
     let mut next = c;
@@ -351,7 +352,7 @@ fn read_each_mark(s: &[u8], c: Cursor, n: usize) -> MarksRead
 
 // The marks of a type, at most 7 (FORMAT 2.6).
 pub fn read_marks(s: &[u8], c: Cursor) -> MarksRead
-    requires { ⌜ length (now s) ≤ 40960 ⌝ }
+    requires { ⌜ Addressable (now s) ⌝ }
     ensures { λ r. ⌜ ofMarksRead (bitsOf (now (s .entry))) r ≡ counted 3 0 7 mark (drop (c .at) (bitsOf (now (s .entry)))) ⌝ }
 {
     match fields::read_between(s, c, 3, 0, 7) {

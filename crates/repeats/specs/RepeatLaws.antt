@@ -22,8 +22,7 @@ use Rattle.fields.specs.FieldLaws.{same-words}
 use Rattle.records.specs.Annotations.{resourceOf, wordOfRows, annotationAs, annotationOf, zeroAnnotation, ofAnnotations}
 use Rattle.records.specs.declared.Annotation.{Annotation}
 use Rattle.records.specs.declared.Annotations.{Annotations}
-use Rattle.keys.specs.Keys.{sameTypeName, sameExtensionKey}
-use Rattle.repeats.specs.Repeats.{wordsOf, rowAt, rowsOf, sameWord, repeatsWord, kindIn, sameContent, repeatsIn, typeRepeats}
+use Rattle.repeats.specs.Repeats.{wordsOf, rowAt, rowsOf, sameWord, repeatsWord, kindIn, sameContent, repeatsIn, typeRepeats, sameTypeName, sameExtensionKey}
 
 pub length-wordsOf : (a : Annotation) → length (wordsOf a) ≡ a .count
 unfolding wordsOf

@@ -6,6 +6,7 @@ use lib.Dec.{eqb, ltb}
 use lib.ListN.{getD}
 use Rattle.lists.specs.Lists.{any, all, repeats, sameList}
 use Rattle.lists.specs.Tabulating.{tabulate}
+use Rattle.definitions.specs.Comparisons.{sameName}
 use Rattle.definitions.specs.Checks.{resourcesOf, sameAnnotation}
 use Rattle.definitions.specs.Records.{Resource, AnnotationOf}
 use Rattle.definitions.specs.Records as records
@@ -46,3 +47,10 @@ repeatsIn l = any repeatsWord l || repeats sameAnnotation l
 
 abbrev pub typeRepeats : records.TypeInfo → Bool
 typeRepeats T = repeatsIn (T .annotations)
+
+-- what may not stand twice: the name among types, name and word among extensions (FORMAT 2.12)
+abbrev pub sameTypeName : records.TypeInfo → records.TypeInfo → Bool
+sameTypeName T U = sameName (T .name) (U .name)
+
+abbrev pub sameExtensionKey : records.Extension → records.Extension → Bool
+sameExtensionKey e f = sameName (e .name) (f .name) && eqb (e .word) (f .word)

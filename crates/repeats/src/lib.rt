@@ -2,7 +2,6 @@
 // equal if they have the same words (FORMAT 2.12).
 use records::Annotation;
 use records::Annotations;
-use types::TypeInfo;
 ghost use mathlib.Core.Bool.{_&&_, _||_};
 ghost use mathlib.Core.Path.{_≡_};
 ghost use lib.Dec.{eqb};
@@ -243,10 +242,9 @@ fn has_repeated_word(t: Annotations) -> bool
 }
 
 // Whether within a type a word stands twice in an associate, or an annotation twice.
-pub fn is_repeating(x: TypeInfo) -> bool
-    ensures { λ r. ⌜ r ≡ repeatsIn (ofAnnotations (x .annotations)) ⌝ }
+pub fn is_repeating(a: Annotations) -> bool
+    ensures { λ r. ⌜ r ≡ repeatsIn (ofAnnotations a) ⌝ }
 {
-    let a = x.annotations;
     if has_repeated_word(a) {
         true
     } else {

@@ -1,13 +1,13 @@
 -- The draft of a map: its types in the order of the sheet, one lent table of numbers. What stands where in it, and what it means.
 use mathlib.Core.Bool.{Bool, cond}
-use mathlib.Core.List.{List, []}
+use mathlib.Core.List.{List, [], _∷_}
 use Prim.Native.Nat.{ℕ, _+_, _*_, _/_, _%_}
 use lib.Dec.{eqb}
 use lib.ListN.{drop, getD}
 use Rattle.lists.specs.Tabulating.{tabulate}
 use Rattle.definitions.specs.Parse.{Parsed, done, refused}
 use Rattle.definitions.specs.Records as records
-use Rattle.types.specs.Types.{variantOf}
+use Rattle.definitions.specs.Records.{Variant, domain, resource, other}
 use Rattle.sheet_keys.specs.Keys.{nameOfKey, namesFrom}
 use Rattle.sheet_notes.specs.Notes.{Notes, notes}
 
@@ -39,6 +39,10 @@ notesOf (refused r) = record { annotations = []; marks = [] }
 -- Those of row i, out of the bits of a sheet with W words.
 unfoldable pub notesAt : ℕ → List Bool → List ℕ → ℕ → Notes
 notesAt W bs d i = notesOf (notes W (eqb (keyAt d i % 256) 0) (drop (placeAt d i) bs))
+
+-- The variant of a number (FORMAT 2.6).
+abbrev pub variantOf : ℕ → Variant
+variantOf v = getD (domain ∷ resource ∷ other ∷ []) v other
 
 -- The type in row i: its name, head and parents out of the table, its annotations and marks out of the sheet.
 unfoldable pub typeIn : ℕ → List Bool → List ℕ → ℕ → records.TypeInfo

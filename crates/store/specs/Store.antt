@@ -14,25 +14,26 @@ unfoldable pub rowAt : List ℕ → ℕ → Row
 rowAt s at = record { a = getD s at 0; b = getD s (at + 1) 0; c = getD s (at + 2) 0; d = getD s (at + 3) 0 }
 
 unfoldable pub entryAt : List ℕ → ℕ → Entry
-entryAt s at = record { kind = getD s (at + 5) 0; words = rowAt s at; parents = getD s (at + 4) 0 }
+entryAt s at = record { kind = 1; words = rowAt s at; parents = 0 }
 
 unfoldable pub putRow : List ℕ → ℕ → Row → List ℕ
 putRow s at r = set (set (set (set s at (r .a)) (at + 1) (r .b)) (at + 2) (r .c)) (at + 3) (r .d)
-
-unfoldable pub putEntry : List ℕ → ℕ → Entry → List ℕ
-putEntry s at e = set (set (putRow s at (e .words)) (at + 4) (e .parents)) (at + 5) (e .kind)
 
 -- what a read past the end gives
 abbrev pub zeros : Entry
 zeros = record { kind = 0; words = empty; parents = 0 }
 
--- the kind of each of the entries from a place on is a byte
-abbrev pub KindsAt : List ℕ → ℕ → ℕ → Type 0
-KindsAt s at n = (i : ℕ) → i < n → getD s (at + 6 * i + 5) 0 < 256
+-- each of the entries is an Associate
+abbrev pub Associates : Entries → Type 0
+Associates l = (i : ℕ) → i < l .count → getD (l .items) i zeros .kind ≡ 1
 
--- the entries stand there, six numbers each
+-- the words of the entries stand there, four numbers each
+abbrev pub WordsAt : List ℕ → ℕ → Entries → Type 0
+WordsAt s at l = (i : ℕ) → i < l .count → rowAt s (at + 4 * i) ≡ getD (l .items) i zeros .words
+
+-- and these are the entries with such words
 abbrev pub EntriesAt : List ℕ → ℕ → Entries → Type 0
-EntriesAt s at l = (i : ℕ) → i < l .count → entryAt s (at + 6 * i) ≡ getD (l .items) i zeros
+EntriesAt s at l = (i : ℕ) → i < l .count → entryAt s (at + 4 * i) ≡ getD (l .items) i zeros
 
 -- the dom sets stand there, four numbers each
 abbrev pub DomsAt : List ℕ → ℕ → List Row → Type 0
@@ -47,8 +48,8 @@ abbrev pub Keeps : List ℕ → ℕ → ℕ → List ℕ → Type 0
 Keeps s at n t = (q : ℕ) → Away at n q → getD t q 0 ≡ getD s q 0
 
 pub record PutEntries (s : List ℕ) (at : ℕ) (l : Entries) (t : List ℕ) : Type 0 where
-  pub there : EntriesAt t at l
-  pub keeps : Keeps s at 1200 t
+  pub there : WordsAt t at l
+  pub keeps : Keeps s at 800 t
   pub long : length t ≡ length s
 
 pub record PutDoms (s : List ℕ) (at : ℕ) (ds : List Row) (t : List ℕ) : Type 0 where
@@ -56,16 +57,17 @@ pub record PutDoms (s : List ℕ) (at : ℕ) (ds : List Row) (t : List ℕ) : Ty
   pub keeps : Keeps s at 800 t
   pub long : length t ≡ length s
 
--- the numbers at the place of the type t are those of a list
-pub record Fetched (s : List ℕ) (t : ℕ) : Type 0 where
-  pub count : getD s (2001 * t) 0 ≤ 200
-  pub kinds : KindsAt s (2001 * t + 1) (getD s (2001 * t) 0)
-
 -- the list h stands at the place of the type t
 pub record Holds (s : List ℕ) (t : ℕ) (h : Inherited) : Type 0 where
-  pub count : getD s (2001 * t) 0 ≡ h .list .count
-  pub entries : EntriesAt s (2001 * t + 1) (h .list)
-  pub doms : DomsAt s (2001 * t + 1201) (h .doms)
+  pub count : getD s (1601 * t) 0 ≡ h .list .count
+  pub entries : WordsAt s (1601 * t + 1) (h .list)
+  pub doms : DomsAt s (1601 * t + 801) (h .doms)
+
+-- r is what stands there, without parents
+pub record Fetched (s : List ℕ) (t : ℕ) (r : Inherited) : Type 0 where
+  pub count : getD s (1601 * t) 0 ≡ r .list .count
+  pub entries : EntriesAt s (1601 * t + 1) (r .list)
+  pub doms : DomsAt s (1601 * t + 801) (r .doms)
 
 pub record Stores (s : List ℕ) (t : ℕ) (h : Inherited) (r : List ℕ) : Type 0 where
   pub holds : Holds r t h

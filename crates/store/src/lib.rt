@@ -1,5 +1,6 @@
-// What all types inherit, in one lent slice of numbers: 2001 to a type, its count of entries, then six numbers to an entry (four
-// of its words, its parents, its kind), then four to the dom set of a word.
+// What all types inherit, in one lent slice of numbers: 1601 to a type, its count of entries, then four numbers to the words of an
+// entry, then four to the dom set of a word. What is inherited is an Associate, and is handed on under the type that inherits it, so
+// that neither kind nor parents are stored.
 use dedup::Entries;
 use dedup::Entry;
 use dedup::Inherited;
@@ -7,7 +8,7 @@ use rows::Row;
 ghost use mathlib.Core.Path.{_≡_};
 ghost use Prim.Native.Nat.{_<_, _≤_, _+_, _*_};
 ghost use lib.ListN.{length, getD};
-ghost use Rattle.store.specs.Store.{rowAt, entryAt, putRow, putEntry, KindsAt, EntriesAt, DomsAt, Fetched, PutEntries, PutDoms, Holds, Stores};
+ghost use Rattle.store.specs.Store.{rowAt, entryAt, putRow, EntriesAt, DomsAt, Fetched, PutEntries, PutDoms, Stores};
 
 // The row at a place.
 pub fn row_at(s: &[u64], at: usize) -> Row
@@ -28,16 +29,14 @@ pub fn row_at(s: &[u64], at: usize) -> Row
 
 // The entry at a place.
 fn entry_at(s: &[u64], at: usize) -> Entry
-    requires { ⌜ (at + 6 ≤ length (now s)) × (length (now s) < 1000000) × (getD (now s) (at + 5) 0 < 256) ⌝ }
+    requires { ⌜ (at + 4 ≤ length (now s)) × (length (now s) < 1000000) ⌝ }
     ensures { λ r. ⌜ r ≡ entryAt (now (s .entry)) at ⌝ }
 {
     let words = row_at(s, at);
-    let parents = s[at + 4];
-    let kind = s[at + 5] as u8;
     Entry {
-        kind: kind,
+        kind: 1,
         words: words,
-        parents: parents,
+        parents: 0,
     }
 }
 
@@ -54,13 +53,13 @@ fn no_entries() -> [Entry; 201] {
 
 // The entries from a place on.
 fn entries_at(s: &[u64], at: usize, count: usize) -> Entries
-    requires { ⌜ (at + 1200 ≤ length (now s)) × (length (now s) < 1000000) × (count ≤ 200) × KindsAt (now s) at count ⌝ }
+    requires { ⌜ (at + 800 ≤ length (now s)) × (length (now s) < 1000000) × (count ≤ 200) ⌝ }
     ensures { λ r. ⌜ (r .count ≡ count) × EntriesAt (now (s .entry)) at r ⌝ }
 {
     let mut items = no_entries();
     let mut i: usize = 0;
     while i < count {
-        let e = entry_at(s, at + 6 * i);
+        let e = entry_at(s, at + 4 * i);
         items[i] = e;
         i += 1;
     }
@@ -93,13 +92,13 @@ fn doms_at(s: &[u64], at: usize) -> [Row; 200]
 
 // What the type t inherits.
 pub fn fetch(s: &[u64], t: usize) -> Inherited
-    requires { ⌜ (2001 * t + 2001 ≤ length (now s)) × (length (now s) < 1000000) × Fetched (now s) t ⌝ }
-    ensures { λ r. ⌜ Holds (now (s .entry)) t r ⌝ }
+    requires { ⌜ (1601 * t + 1601 ≤ length (now s)) × (length (now s) < 1000000) × (getD (now s) (1601 * t) 0 ≤ 200) ⌝ }
+    ensures { λ r. ⌜ Fetched (now (s .entry)) t r ⌝ }
 {
-    let base = 2001 * t;
+    let base = 1601 * t;
     let count = s[base] as usize;
     let list = entries_at(s, base + 1, count);
-    let doms = doms_at(s, base + 1201);
+    let doms = doms_at(s, base + 801);
     Inherited {
         list: list,
         doms: doms,
@@ -117,20 +116,9 @@ pub fn put_row(s: &mut [u64], at: usize, r: Row)
     s[at + 3] = r.d;
 }
 
-// An entry put at a place.
-fn put_entry(s: &mut [u64], at: usize, e: Entry)
-    requires { ⌜ (at + 6 ≤ length (now s)) × (length (now s) < 1000000) ⌝ }
-    ensures { λ _. ⌜ now (s .exit) ≡ putEntry (now (s .entry)) at e ⌝ }
-{
-    let words = e.words;
-    put_row(s, at, words);
-    s[at + 4] = e.parents;
-    s[at + 5] = e.kind as u64;
-}
-
 // The entries put from a place on.
 fn put_entries(s: &mut [u64], at: usize, l: Entries)
-    requires { ⌜ (at + 1200 ≤ length (now s)) × (length (now s) < 1000000) × (l .count ≤ 200) ⌝ }
+    requires { ⌜ (at + 800 ≤ length (now s)) × (length (now s) < 1000000) × (l .count ≤ 200) ⌝ }
     ensures { λ _. ⌜ PutEntries (now (s .entry)) at l (now (s .exit)) ⌝ }
 {
     let items = l.items;
@@ -138,7 +126,8 @@ fn put_entries(s: &mut [u64], at: usize, l: Entries)
     let mut i: usize = 0;
     while i < count {
         let e = items[i];
-        put_entry(s, at + 6 * i, e);
+        let words = e.words;
+        put_row(s, at + 4 * i, words);
         i += 1;
     }
 }
@@ -158,13 +147,13 @@ fn put_doms(s: &mut [u64], at: usize, doms: [Row; 200])
 
 // What the type t inherits is put at its place, and nothing else changes.
 pub fn store(s: &mut [u64], t: usize, h: Inherited)
-    requires { ⌜ (2001 * t + 2001 ≤ length (now s)) × (length (now s) < 1000000) × (h .list .count ≤ 200) ⌝ }
+    requires { ⌜ (1601 * t + 1601 ≤ length (now s)) × (length (now s) < 1000000) × (h .list .count ≤ 200) ⌝ }
     ensures { λ _. ⌜ Stores (now (s .entry)) t h (now (s .exit)) ⌝ }
 {
-    let base = 2001 * t;
+    let base = 1601 * t;
     let l = h.list;
     let doms = h.doms;
     s[base] = l.count as u64;
     put_entries(s, base + 1, l);
-    put_doms(s, base + 1201, doms);
+    put_doms(s, base + 801, doms);
 }

@@ -16,12 +16,10 @@ use Rattle.definitions.specs.Packing.{rowBytes}
 use Rattle.definitions.specs.Synthesis.{listedParents, interpretType}
 use Rattle.definitions.specs.Map.{TypeMap, typeMapOf}
 use Rattle.definitions.specs.Answer.{mostRows}
-use Rattle.types.specs.declared.Types.{Types}
 use Rattle.rows.specs.RowLaws.{bit-none}
 use Rattle.ordering.specs.Lists.{tab, tab-step, elem, elem-at}
 use Rattle.ordering.specs.Reading.{typeAt, Reads}
 use Rattle.ordering.specs.declared.Parents.{Parents}
-use Rattle.table.specs.declared.Table.{Table}
 use Rattle.interpretation.specs.Emit.{emit}
 use Rattle.visit_laws.specs.Trail as visit
 use Rattle.visit_laws.specs.Trail.{Reached, seenIn, flagsOf, gotFrom, play, playAll, nothingPlayed}
@@ -33,6 +31,7 @@ use Rattle.synthesis.specs.Going.{Going}
 use Rattle.synthesis.specs.GoingLaws.{same-name, play-last}
 use Rattle.synthesis.specs.Playing.{Turn, Plays, AllReady, PlayedTo, AllPlayed}
 use Rattle.synthesis.specs.declared.Played.{Played}
+use Rattle.synthesis.specs.declared.Visit.{Visit}
 
 -- ---- places in the trail
 
@@ -55,13 +54,13 @@ unseen r = record { count = r .count; items = r .items; fresh = r .fresh; seen =
 pub same-trail : (p : Parents) (r : Trail) → TrailOf p r → TrailOf p (unseen r)
 same-trail p r w = record { count = w .count; below = w .below; once = w .once; ready = w .ready; whole = w .whole; reached = w .reached }
 
-pub same-played : (tb : Table) (ts : Types) (p : Parents) (old : List ℕ) (r : Trail) (new : List ℕ) (n : ℕ) → AllPlayed tb ts p old (unseen r) new n → AllPlayed tb ts p old r new n
-same-played tb ts p old r new n g = record { emits = g .emits }
+pub same-played : (tb : List ℕ) (bs : List Bool) (ns : List ℕ) (p : Parents) (old : List ℕ) (r : Trail) (new : List ℕ) (n : ℕ) → AllPlayed tb bs ns p old (unseen r) new n → AllPlayed tb bs ns p old r new n
+same-played tb bs ns p old r new n g = record { emits = g .emits }
 
-module _ (tb : Table) (ts : Types) (p : Parents) (old : List ℕ) (r : Trail) where
-  pub played-none : (st : List ℕ) → PlayedTo tb ts p old r 0 st old (record { ok = 0; rows = 0 })
+module _ (tb : List ℕ) (bs : List Bool) (ns : List ℕ) (p : Parents) (old : List ℕ) (r : Trail) where
+  pub played-none : (st : List ℕ) → PlayedTo tb bs ns p old r 0 st old (record { ok = 0; rows = 0 })
   unfolding emitting.emit playAll
-  played-none st = record { going = λ s es h o. record { emits = refl; well = λ a l. bit-none a }; stored = λ s es h j l. absurd (omega arith) }
+  played-none st = record { going = λ s z. record { emits = refl; well = λ a l. bit-none a }; stored = λ s h j l. absurd (omega arith) }
 
   module _ (w : TrailOf p r) (i : ℕ) (l : i < r .count) (n : i < length (r .items)) where
     -- the type at i is none of those before it
@@ -76,36 +75,34 @@ module _ (tb : Table) (ts : Types) (p : Parents) (old : List ℕ) (r : Trail) wh
         ∙ ne-eqb (itemAt r j) (itemAt r i) (not-before j h))
 
     -- its parents are among them
-    pub parents-stored : (m : TypeMap) (st : List ℕ) → ((j : ℕ) → j < i → Stored p m st (itemAt r j)) → StoredParents p m st (itemAt r i) 255
+    pub parents-stored : (m : TypeMap) (st : List ℕ) → ((j : ℕ) → j < i → Stored m st (itemAt r j)) → StoredParents p m st (itemAt r i) 255
     parents-stored m st f =
         stored-parents p m st (itemAt r i) 255
-        (λ q v. let k = elem-place (q .place) (r .items) i (w .ready i l q v) in subst (λ (a : ℕ). Stored p m st a) (k .2) (f (k .0) (k .1)))
+        (λ q v. let k = elem-place (q .place) (r .items) i (w .ready i l q v) in subst (λ (a : ℕ). Stored m st a) (k .2) (f (k .0) (k .1)))
 
-    pub played-more : (st b : List ℕ) (d : Played) (st′ b′ : List ℕ) (d′ : Played) → PlayedTo tb ts p old r i st b d
-        → Plays tb ts p st b (itemAt r i) (getD (r .fresh) i 0) d st′ b′ d′ → PlayedTo tb ts p old r (i + 1) st′ b′ d′
+    pub played-more : (st b : List ℕ) (d : Played) (st′ b′ : List ℕ) (d′ : Played) → PlayedTo tb bs ns p old r i st b d
+        → Plays tb bs ns p st b (record { place = itemAt r i; fresh = getD (r .fresh) i 0; ok = d .ok; rows = d .rows }) st′ b′ d′ → PlayedTo tb bs ns p old r (i + 1) st′ b′ d′
     played-more st b d st′ b′ d′ g y =
         record {
-          going = λ s es h o.
+          going = λ s z.
               let m = typeMapOf s in
               subst (λ (k : List Reached). Going m p k old b′ (d′ .ok) (d′ .rows)) (sym (tab-step (reachedAt p m r) i))
-              (y .going s es h o (parents-stored m st (g .stored s es h)) (tab (reachedAt p m r) i) old (g .going s es h o) (not-seen m (h .reads)));
-          stored = λ s es h j k.
+              (y .going s z (parents-stored m st (g .stored s (z .held))) (tab (reachedAt p m r) i) old (g .going s z) (not-seen m (z .held .reads)));
+          stored = λ s h j k.
               by (eqb j i)
-              (λ e. subst (λ (a : ℕ). Stored p (typeMapOf s) st′ (itemAt r a)) (sym (eqb-true j i e)) (y .stored s es h (parents-stored (typeMapOf s) st (g .stored s es h))))
-              (λ e. let z : j < i = omega (arith, k, eqb-false j i e) in y .others (typeMapOf s) (itemAt r j) (not-before j z) (g .stored s es h j z));
+              (λ e. subst (λ (a : ℕ). Stored (typeMapOf s) st′ (itemAt r a)) (sym (eqb-true j i e)) (y .stored s h (parents-stored (typeMapOf s) st (g .stored s h))))
+              (λ e. let z : j < i = omega (arith, k, eqb-false j i e) in y .others (typeMapOf s) (itemAt r j) (not-before j z) (g .stored s h j z));
         }
 
-    pub turn : (q : Trail) (st₀ b₀ st b : List ℕ) (d : Played) → AllReady tb ts p st₀ b₀ q → length st ≡ length st₀ → length b ≡ length b₀ → PlayedTo tb ts p old r i st b d
-        → Turn tb ts p st b (itemAt r i)
+    pub turn : (q : Trail) (st₀ b₀ st b : List ℕ) (d : Played) → AllReady tb bs ns p st₀ b₀ q → length st ≡ length st₀ → length b ≡ length b₀ → PlayedTo tb bs ns p old r i st b d
+        → Turn tb bs ns p st b (itemAt r i)
     turn q st₀ b₀ st b d a e f g =
         record {
           sheet = a .sheet;
-          extensions = a .extensions;
-          held = a .held;
-          table = a .table;
+          so = a .so;
           low = w .below i l;
           room = record { store = omega (arith, a .room .store, e); most = omega (arith, a .room .most, e); slice = omega (arith, a .room .slice, f) };
-          stored = parents-stored (typeMapOf (a .sheet)) st (g .stored (a .sheet) (a .extensions) (a .held));
+          stored = parents-stored (typeMapOf (a .sheet)) st (g .stored (a .sheet) (a .so .held));
         }
 
   -- one past the limit the rows of the types that follow are not written
@@ -126,22 +123,22 @@ module _ (tb : Table) (ts : Types) (p : Parents) (old : List ℕ) (r : Trail) wh
       ∙ sym (emitting.emit-append rowBytes 256 (old, 0) (d .rows) rs)
       ∙ ap (λ (x : visit.Played). emit 256 (old, 0) (x .rows)) (sym (play-last m nothingPlayed (tab g n) (g n))))
 
-  pub played-full : (i : ℕ) (st b : List ℕ) (d : Played) → i ≤ r .count → 256 < d .rows → PlayedTo tb ts p old r i st b d → AllPlayed tb ts p old r b (d .rows)
+  pub played-full : (i : ℕ) (st b : List ℕ) (d : Played) → i ≤ r .count → 256 < d .rows → PlayedTo tb bs ns p old r i st b d → AllPlayed tb bs ns p old r b (d .rows)
   played-full i st b d l f g =
       record {
-        emits = λ s es h o.
+        emits = λ s z.
             let m = typeMapOf s in
-            let e = g .going s es h o .emits in
+            let e = g .going s z .emits in
             let k : d .rows ≡ 257 =
             omega (arith, f, ap (λ (x : emitting.State). x .1) e, emitting.emit-most rowBytes 256 (old, 0) (playAll m nothingPlayed (tab (reachedAt p m r) i) .rows) (omega arith)) in
             ap (λ (n : ℕ). (b, n)) k
             ∙ full-stays m (reachedAt p m r) i (r .count) b l (ap (λ (n : ℕ). (b, n)) (sym k) ∙ e);
       }
 
-  pub played-all : (i : ℕ) (st b : List ℕ) (d : Played) → i ≡ r .count → PlayedTo tb ts p old r i st b d → AllPlayed tb ts p old r b (d .rows)
+  pub played-all : (i : ℕ) (st b : List ℕ) (d : Played) → i ≡ r .count → PlayedTo tb bs ns p old r i st b d → AllPlayed tb bs ns p old r b (d .rows)
   played-all i st b d e g =
       record {
-        emits = λ s es h o.
-            g .going s es h o .emits
+        emits = λ s z.
+            g .going s z .emits
             ∙ ap (λ (n : ℕ). emit mostRows (old, 0) (playAll (typeMapOf s) nothingPlayed (tab (reachedAt p (typeMapOf s) r) n) .rows)) e;
       }

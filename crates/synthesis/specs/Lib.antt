@@ -1,6 +1,5 @@
 pub mod Going
 pub mod GoingLaws
-pub mod Fitting
 pub mod Playing
 pub mod PlayLaws
 pub mod AllLaws

@@ -2,52 +2,43 @@
 use mathlib.Core.Bool.{Bool, true, _&&_}
 use mathlib.Core.List.{List, [], _++_, map}
 use mathlib.Core.Path.{_≡_, sym, ap, ap₂, _∙_}
-use Prim.Native.Nat.{ℕ, _+_, _≤_, _<_}
+use Prim.Native.Nat.{ℕ, _≤_, _<_}
 use native.Mathlib.Omega.{arith}
 use lib.ListN.{length, getD, length-map}
 use Rattle.lists.specs.Lists.{all, null}
-use Rattle.lists.specs.Tests.{by}
-use Rattle.lists.specs.Tabulating.{map-tabulate}
 use Rattle.lists.specs.Appending.{map-map}
-use Rattle.definitions.specs.Records.{Name, TypeInfo, Sheet}
-use Rattle.definitions.specs.Map.{TypeMap, LineType, LineMap, lineTypeOf, lineMapOf, typeMapOf}
-use Rattle.definitions.specs.Inherited.{InheritedAnnotation, dedup}
+use Rattle.definitions.specs.Records.{Name, Sheet}
+use Rattle.definitions.specs.Map.{TypeMap, LineType, lineTypeOf, lineMapOf, typeMapOf}
+use Rattle.definitions.specs.Inherited.{InheritedAnnotation, dedup, ownAssociates}
 use Rattle.definitions.specs.Synthesis as definitions
-use Rattle.definitions.specs.Synthesis.{listedParents, interpretType, ownEntries, interpretAll}
+use Rattle.definitions.specs.Synthesis.{listedParents, interpretType, interpretAll}
 use Rattle.definitions.specs.Answer.{mostRows}
-use Rattle.types.specs.Types.{typeInfoOf, zeroType}
-use Rattle.types.specs.declared.Extensions.{Extensions}
-use Rattle.types.specs.declared.Types.{Types}
-use Rattle.types.specs.declared.TypeInfo as held
+use Rattle.line_laws.specs.Statements.{lineMap}
 use Rattle.rows.specs.Rows.{hasBit}
 use Rattle.ordering.specs.Lists.{tab, tab-length}
 use Rattle.ordering.specs.Reading.{Parent, howMany, listed, typeAt, listed-length}
 use Rattle.ordering.specs.declared.Parents.{Parents}
+use Rattle.annotations.specs.Reading.{infoOf}
 use Rattle.dedup.specs.declared.Inherited.{Inherited}
 use Rattle.dedup.specs.Reading.{inheritedOf}
-use Rattle.own_associates.specs.Owning.{AllFit, OwnOf}
+use Rattle.own_associates.specs.Owning as owning
+use Rattle.own_associates.specs.Owning.{OwnFit, OwnOf}
 use Rattle.own_associates.specs.declared.OwnAssociates.{OwnAssociates}
-use Rattle.lookup_laws.specs.Bare.{bare, bareMap}
-use Rattle.lookups.specs.TableOf.{TableOf}
-use Rattle.lookups.specs.OverMap.{interpreted-is}
-use Rattle.table.specs.declared.Table.{Table}
-use Rattle.table.specs.Table.{declarationAt, tableMap}
+use Rattle.order_parents.specs.SheetLaws.{line-count, line-at}
 use Rattle.interpretation.specs.Emit.{emit}
-use Rattle.interpreting.specs.Annotations.{typeNames, TypeReady, interpretedAt, TypeDone}
+use Rattle.synth_classes.specs.Made.{typeNames}
+use Rattle.interpreting.specs.Annotations.{ownEntriesIn, TypeReady, interpretedAt, TypeDone}
 use Rattle.interpreting.specs.declared.Interpreted.{Interpreted}
 use Rattle.interpreting.specs.OwnLaws.{own-entries}
 use Rattle.handing.specs.Handing.{namesOf, handedTo, StoredParents, Ready, Gathered, KeepsIt}
 use Rattle.handing.specs.Keeping.{eight, got-all}
-use Rattle.held_laws.specs.HeldLaws.{count-parents, type-at, parents-below, parents-are}
-use Rattle.held_laws.specs.Limits.{type-fits}
-use Rattle.held_map.specs.HeldMap.{HeldMap}
+use Rattle.held_laws.specs.HeldLaws.{parents-below, parents-are}
+use Rattle.held_laws.specs.Limits.{own-fits}
 use Rattle.parent_laws.specs.Placed.{ParentsBelow}
 use Rattle.hearing.specs.Hearing.{FlagsOf, WithOk}
 use Rattle.hearing.specs.declared.Flags.{Flags}
 use Rattle.synthesis.specs.Playing.{Flagged, Receives, Turn, Plays}
-use Rattle.synthesis.specs.Fitting.{owns-fit, inherited-fits}
 use Rattle.synthesis.specs.GoingLaws.{goes-on}
-use Rattle.synthesis.specs.declared.Played.{Played}
 
 -- ---- what is received
 
@@ -55,11 +46,10 @@ use Rattle.synthesis.specs.declared.Played.{Played}
 pub flagged-stored : (p : Parents) (m : TypeMap) (st : List ℕ) (t flags : ℕ) → howMany p t ≤ 8 → StoredParents p m st t 255 → StoredParents p m st t flags
 flagged-stored p m st t flags h s = record { at = λ i l e. s .at i l (eight i (omega arith)) }
 
-pub ready-flags : (p : Parents) (ts : Types) (st : List ℕ) (t flags : ℕ) → Ready p ts st t 255 → Ready p ts st t flags
-ready-flags p ts st t flags r =
+pub ready-flags : (p : Parents) (bs : List Bool) (ns st : List ℕ) (t flags : ℕ) → Ready p bs ns st t 255 → Ready p bs ns st t flags
+ready-flags p bs ns st t flags r =
     record {
       sheet = r .sheet;
-      extensions = r .extensions;
       held = r .held;
       low = r .low;
       room = r .room;
@@ -67,104 +57,89 @@ ready-flags p ts st t flags r =
       stored = flagged-stored p (typeMapOf (r .sheet)) st t flags (r .held .reads .types t (r .low) .most) (r .stored);
     }
 
-module _ (p : Parents) (ts : Types) (st : List ℕ) (t : ℕ) (f : Flags) (after : List ℕ) (l : t < p .count) where
+module _ (p : Parents) (bs : List Bool) (ns st : List ℕ) (t : ℕ) (f : Flags) (after : List ℕ) (l : t < p .count) where
   -- no call failed
-  pub receives-all : (r : Inherited) → Flagged p t f → f .all ≡ true → KeepsIt p ts st t after r → Receives p ts st t f after r
+  pub receives-all : (r : Inherited) → Flagged p t f → f .all ≡ true → KeepsIt p bs ns st t after r → Receives p bs ns st t f after r
   receives-all r g e k =
       record {
         good = k .good;
-        fits = k .fits;
-        parents = k .parents;
-        reads = λ s es h sp.
+        reads = λ s h sp.
             let m = typeMapOf s in
-            k .reads s es h sp
+            k .reads s h sp
             ∙ ap dedup
             (sym
             (got-all m (tab (hasBit (f .row)) (howMany p t)) (listedParents m (typeAt m t))
-            (tab-length (hasBit (f .row)) (howMany p t) ∙ sym (ap length (parents-are s ts es p h t l) ∙ length-map (listed p t) (λ (q : Parent). typeAt m (q .place)) ∙ listed-length p t))
+            (tab-length (hasBit (f .row)) (howMany p t) ∙ sym (ap length (parents-are s bs ns p h t l) ∙ length-map (listed p t) (λ (q : Parent). typeAt m (q .place)) ∙ listed-length p t))
             (sym (g .whole) ∙ e)));
         stored = k .stored;
         others = k .others;
         long = k .long;
       }
 
-  pub receives-some : (r whole : Inherited) → Gathered p ts st t (f .row) r → KeepsIt p ts st t after whole → Receives p ts st t f after r
+  pub receives-some : (r whole : Inherited) → Gathered p bs ns st t (f .row) r → KeepsIt p bs ns st t after whole → Receives p bs ns st t f after r
   receives-some r whole g k =
       record {
         good = g .good;
-        fits = g .fits;
-        parents = g .parents;
-        reads = λ s es h sp. g .reads s es h (flagged-stored p (typeMapOf s) st t (f .row) (h .reads .types t l .most) sp);
+        reads = λ s h sp. g .reads s h (flagged-stored p (typeMapOf s) st t (f .row) (h .reads .types t l .most) sp);
         stored = k .stored;
         others = k .others;
         long = k .long;
       }
 
--- ---- a table is read as its map
+-- ---- the interpretation of a type is that of the map
 
-type-names : (m : TypeMap) (t : Table) → TableOf m t → typeNames t ≡ namesOf m
-unfolding typeNames tableMap bareMap lineMapOf bare lineTypeOf declarationAt
-type-names m t o =
-    sym (map-tabulate (λ (D : LineType). D .name) (declarationAt t) (t .count))
-    ∙ ap (λ (M : LineMap). map (λ (D : LineType). D .name) (M .types)) (o .map)
-    ∙ map-map (λ (D : LineType). D .name) bare (map lineTypeOf (m .types))
-    ∙ map-map (λ (D : LineType). bare D .name) lineTypeOf (m .types)
+names-are : (s : Sheet) → typeNames (lineMap s) ≡ namesOf (typeMapOf s)
+unfolding typeNames lineMapOf lineTypeOf
+names-are s = map-map (λ (D : LineType). D .name) lineTypeOf (typeMapOf s .types)
 
-pub interpreted-type : (m : TypeMap) (t : Table) → TableOf m t → (T : ℕ) → T < t .count → (x : held.TypeInfo) (o : OwnAssociates) (h : Inherited) (got : List InheritedAnnotation)
-    → OwnOf x o → typeInfoOf x ≡ typeAt m T → inheritedOf (namesOf m) h ≡ dedup got → interpretedAt t T o h ≡ interpretType m (typeAt m T) got
+pub interpreted-type : (s : Sheet) (T : ℕ) → T < length (typeMapOf s .types) → (o : OwnAssociates) (h : Inherited) (got : List InheritedAnnotation)
+    → map infoOf (owning.listed o) ≡ ownAssociates (typeAt (typeMapOf s) T) → inheritedOf (namesOf (typeMapOf s)) h ≡ dedup got
+    → interpretedAt (lineMap s) T o h ≡ interpretType (typeMapOf s) (typeAt (typeMapOf s) T) got
 unfolding interpretedAt interpretType
-interpreted-type m t z T l x o h got w e r =
-    interpreted-is z T l _ []
+interpreted-type s T l o h got w r =
+    let m = typeMapOf s in
+    ap (λ (D : LineType). interpretAll (lineMap s) D (ownEntriesIn o ++ inheritedOf (typeNames (lineMap s)) h) []) (line-at s T l)
     ∙ ap₂ (λ (a b : List InheritedAnnotation). interpretAll (lineMapOf m) (lineTypeOf (typeAt m T)) (a ++ b) [])
-    (own-entries x o w ∙ ap ownEntries e)
-    (ap (λ (ns : List Name). inheritedOf ns h) (type-names m t z) ∙ r)
+    (own-entries (typeAt m T) o w)
+    (ap (λ (ns : List Name). inheritedOf ns h) (names-are s) ∙ r)
 
 -- ---- one type
 
 pub flagged-by : (p : Parents) (t fresh ok : ℕ) (f : Flags) → FlagsOf p t fresh ok f → Flagged p t f
 flagged-by p t fresh ok f g = record { whole = g .whole ∙ sym (ap (all (λ (b : Bool). b)) (g .bits)) }
 
-module _ (tb : Table) (ts : Types) (p : Parents) (st b : List ℕ) (t : ℕ) (u : Turn tb ts p st b t) where
-  pub turn-ready : Ready p ts st t 255
-  turn-ready = record { sheet = u .sheet; extensions = u .extensions; held = u .held; low = u .low; room = u .room .store; most = u .room .most; stored = u .stored }
+module _ (tb : List ℕ) (bs : List Bool) (ns : List ℕ) (p : Parents) (st b : List ℕ) (t : ℕ) (u : Turn tb bs ns p st b t) where
+  pub turn-ready : Ready p bs ns st t 255
+  turn-ready = record { sheet = u .sheet; held = u .so .held; low = u .low; room = u .room .store; most = u .room .most; stored = u .stored }
 
   pub turn-below : ParentsBelow p t
-  turn-below = parents-below (u .sheet) ts (u .extensions) p (u .held) t (u .low)
+  turn-below = parents-below (u .sheet) bs ns p (u .so .held) t (u .low)
 
   pub turn-low : t < 64
-  turn-low = omega (arith, u .low, u .held .reads .most)
+  turn-low = omega (arith, u .low, u .so .held .reads .most)
 
-  pub turn-fits : AllFit (getD (ts .items) t zeroType)
-  turn-fits = type-fits (u .sheet) ts (u .extensions) p (u .held) t (omega (arith, u .low, count-parents (u .sheet) ts (u .extensions) p (u .held)))
+  pub turn-fits : OwnFit bs (getD ns t 0)
+  turn-fits = own-fits (u .sheet) bs ns p (u .so .held) t (u .low)
 
-  table-low : (s : Sheet) → (es : Extensions) → HeldMap s ts es p → TableOf (typeMapOf s) tb → t < tb .count
-  table-low s es h o = omega (arith, u .low, h .reads .count, o .count)
+  module _ (f : Flags) (after : List ℕ) (got : Inherited) (v : Receives p bs ns st t f after got) (own : OwnAssociates) (w : OwnOf bs (getD ns t 0) own) where
+    pub type-ready : TypeReady t own got mostRows b
+    type-ready = record { ground = record { place = turn-low; slice = u .room .slice; few = omega arith }; own = w .all; inherited = v .good }
 
-  module _ (f : Flags) (after : List ℕ) (got : Inherited) (v : Receives p ts st t f after got) (own : OwnAssociates) (w : OwnOf (getD (ts .items) t zeroType) own) where
-    pub type-ready : TypeReady tb t own got mostRows b
-    type-ready =
-        let m = typeMapOf (u .sheet) in
-        let l = table-low (u .sheet) (u .extensions) (u .held) (u .table) in
+    pub plays : (fresh ok rows : ℕ) (told : Interpreted) (b′ : List ℕ) (ok′ : ℕ) → FlagsOf p t fresh ok f → TypeDone tb t own got mostRows rows b told b′
+        → WithOk ok t (f .all && told .clean) ok′ → Plays tb bs ns p st b (record { place = t; fresh = fresh; ok = ok; rows = rows }) after b′ (record { ok = ok′; rows = told .rows })
+    plays fresh ok rows told b′ ok′ fl e k =
         record {
-          ground = record { sound = u .table .sound; place = l; slice = u .room .slice; few = omega arith };
-          own = owns-fit m tb (u .table) t l (getD (ts .items) t zeroType) own w;
-          inherited =
-              inherited-fits m tb (u .table) t l p got (omega (arith, u .held .reads .count, u .table .count)) turn-below (u .held .reads .types t (u .low) .most) (v .good) (v .parents) (v .fits);
-        }
-
-    pub plays : (fresh : ℕ) (d : Played) (told : Interpreted) (b′ : List ℕ) (ok′ : ℕ) → FlagsOf p t fresh (d .ok) f → TypeDone tb t own got mostRows (d .rows) b told b′
-        → WithOk (d .ok) t (f .all && told .clean) ok′ → Plays tb ts p st b t fresh d after b′ (record { ok = ok′; rows = told .rows })
-    plays fresh d told b′ ok′ fl e k =
-        record {
-          going = λ s es h o sp before old g z.
+          going = λ s z sp before old g x.
               let m = typeMapOf s in
-              let c = count-parents s ts es p h in
-              let l : t < ts .count = omega (arith, u .low, c) in
-              let i : interpretedAt tb t own got ≡ interpretType m (typeAt m t) (handedTo m p t (f .row)) =
-              interpreted-type m tb o t (table-low s es h o) (getD (ts .items) t zeroType) own got (handedTo m p t (f .row)) w (type-at s ts es p h t l) (v .reads s es h sp) in
-              goes-on m p (h .reads) t (u .low) (parents-below s ts es p h t (u .low)) (parents-are s ts es p h t (u .low)) before old fresh b (d .ok) (d .rows) g z f fl b′ ok′ (told .rows) (told .clean)
-              (e .rows ∙ ap (λ (x : definitions.Interpreted). emit mostRows (b, d .rows) (x .rows)) i)
-              (e .clean ∙ ap (λ (x : definitions.Interpreted). null (x .rows)) i)
+              let h = z .held in
+              let l : t < length (m .types) = omega (arith, u .low, h .reads .count) in
+              let c : t < length (lineMap s .types) = omega (arith, l, line-count s) in
+              let d = e .right s (z .known) c in
+              let i : interpretedAt (lineMap s) t own got ≡ interpretType m (typeAt m t) (handedTo m p t (f .row)) =
+              interpreted-type s t l own got (handedTo m p t (f .row)) (w .reads (typeAt m t) (h .noted t (u .low))) (v .reads s h sp) in
+              goes-on m p (h .reads) t (u .low) (parents-below s bs ns p h t (u .low)) (parents-are s bs ns p h t (u .low)) before old fresh b ok rows g x f fl b′ ok′ (told .rows) (told .clean)
+              (d .rows ∙ ap (λ (x : definitions.Interpreted). emit mostRows (b, rows) (x .rows)) i)
+              (d .clean ∙ ap (λ (x : definitions.Interpreted). null (x .rows)) i)
               k;
           stored = v .stored;
           others = v .others;

@@ -13,17 +13,16 @@ use Rattle.definitions.specs.Map.{typeMapOf}
 use Rattle.definitions.specs.Packing.{nameBytes, rowBytes}
 use Rattle.definitions.specs.Synthesis.{synthesis}
 use Rattle.definitions.specs.Answer.{mostRows, mostRowBytes, overwrite}
-use Rattle.types.specs.declared.Types.{Types}
-use Rattle.types.specs.declared.Extensions.{Extensions}
 use Rattle.ordering.specs.declared.Parents.{Parents}
 use Rattle.held_map.specs.HeldMap.{HeldMap}
+use Rattle.synth_classes.specs.Known.{Known}
 use Rattle.emitting.specs.Emitting as emitting
 use Rattle.emitting.specs.Emitting.{State}
 
--- the map of a sheet, with the number of the word `resource`
-pub record Synthesizes (s : Sheet) (ts : Types) (es : Extensions) (resource : ℕ) (p : Parents) : Type 0 where
-  pub held : HeldMap s ts es p
-  pub word : resource ≡ typeMapOf s .resource
+-- the map of a sheet, with its catalogue
+pub record Synthesizes (s : Sheet) (tb : List ℕ) (bs : List Bool) (ns : List ℕ) (p : Parents) : Type 0 where
+  pub held : HeldMap s bs ns p
+  pub known : Known s tb
 
 -- the first `mostRows` rows are written and counted, and it is said whether there are more (FORMAT 8.2)
 pub record Written (rs : List Row) (old new : List ℕ) (count : ℕ) (more : Bool) : Type 0 where
@@ -31,8 +30,8 @@ pub record Written (rs : List Row) (old new : List ℕ) (count : ℕ) (more : Bo
   pub counted : count ≡ min mostRows (length rs)
   pub rest : more ≡ ltb mostRows (length rs)
 
-pub record Synthesized (ts : Types) (es : Extensions) (resource : ℕ) (p : Parents) (old new : List ℕ) (count : ℕ) (more : Bool) : Type 0 where
-  pub written : (s : Sheet) → Synthesizes s ts es resource p → Written (synthesis (typeMapOf s) .rows) old new count more
+pub record Synthesized (tb : List ℕ) (bs : List Bool) (ns : List ℕ) (p : Parents) (old new : List ℕ) (count : ℕ) (more : Bool) : Type 0 where
+  pub written : (s : Sheet) → Synthesizes s tb bs ns p → Written (synthesis (typeMapOf s) .rows) old new count more
 
 -- ---- the rows, all at once
 

@@ -2,20 +2,17 @@
 // `apply_associate_annotations` of compile.rs.
 use dedup::Inherited;
 use hearing::Flags;
-use ordering::Parents;
-use table::Table;
-use types::Extensions;
-use types::TypeInfo;
-use types::Types;
 use visiting::Trail;
 ghost use mathlib.Core.Path.{_≡_};
 ghost use Prim.Native.Nat.{_≤_};
 ghost use lib.ListN.{length, getD};
+ghost use Rattle.bits.specs.Reading.{Addressable};
+ghost use Rattle.definitions.specs.Bits.{bitsOf};
 ghost use Rattle.definitions.specs.Records.{Sheet};
 ghost use Rattle.definitions.specs.Answer.{mostRowBytes};
-ghost use Rattle.types.specs.Types.{zeroType};
+ghost use Rattle.order_table.specs.Form.{formOf};
 ghost use Rattle.handing.specs.Handing.{Ready};
-ghost use Rattle.synthesis.specs.Playing.{Flagged, Receives, Turn, Plays, AllReady, ReadyIn, ReadyInRoom, AllPlayed};
+ghost use Rattle.synthesis.specs.Playing.{Flagged, Receives, Turn, Plays, AllReady, ReadyIn, AllPlayed};
 ghost use Rattle.synthesis.specs.Synthesized.{Synthesizes, Synthesized};
 
 // How many rows were written, and whether there are more.
@@ -30,51 +27,65 @@ pub struct Played {
     pub rows: usize,
 }
 
+// A type at its turn: its place, which of its listings were the first to reach their parent, as bits, and what is known by then.
+pub struct Visit {
+    pub place: usize,
+    pub fresh: u8,
+    pub ok: u64,
+    pub rows: usize,
+}
+
 // What type t gets from the listings with a flag. What it inherits where all hand on is kept for its children: it is the same
 // where no call failed.
-fn receive(p: Parents, types: Types, store: &mut [u64], t: usize, flags: Flags) -> Inherited
-    requires { ⌜ Ready p types (now store) t 255 ⌝ }
-    requires { ⌜ Flagged p t flags ⌝ }
-    ensures { λ r. ⌜ Receives p types (now (store .entry)) t flags (now (store .exit)) r ⌝ }
+fn receive(
+    s: &[u8],
+    l: &[u64; 577],
+    notes: &[u64; 64],
+    store: &mut [u64],
+    t: usize,
+    flags: Flags,
+) -> Inherited
+    requires { ⌜ Addressable (now s) ⌝ }
+    requires { ⌜ Ready (formOf (now l)) (bitsOf (now s)) (now notes) (now store) t 255 ⌝ }
+    requires { ⌜ Flagged (formOf (now l)) t flags ⌝ }
+    ensures { λ r. ⌜ Receives (formOf (now (l .entry))) (bitsOf (now (s .entry))) (now (notes .entry)) (now (store .entry)) t flags (now (store .exit)) r ⌝ }
 {
     if flags.all {
-        return handing::keep_inherited(p, types, store, t);
+        return handing::keep_inherited(s, l, notes, store, t);
     }
-    let got = handing::gather(p, types, store, t, flags.row);
-    handing::keep_inherited(p, types, store, t);
+    let got = handing::gather(s, l, notes, store, t, flags.row);
+    handing::keep_inherited(s, l, notes, store, t);
     got
 }
 
-// Type t, of this record, takes what its parents hand on and is interpreted; its parents were, in the loop that calls this
-// and not by recursion.
+// A type takes what its parents hand on and is interpreted; its parents were, in the loop that calls this and not by recursion.
 fn inherit_annotations(
-    table: Table,
-    types: Types,
-    info: TypeInfo,
-    p: Parents,
+    s: &[u8],
+    t: &[u64; 1544],
+    l: &[u64; 577],
+    notes: &[u64; 64],
     store: &mut [u64],
     diagnosis: &mut [u8],
-    t: usize,
-    fresh: u8,
-    d: Played,
+    v: Visit,
 ) -> Played
-    requires { ⌜ Turn table types p (now store) (now diagnosis) t ⌝ }
-    requires { ⌜ getD (types .items) t zeroType ≡ info ⌝ }
-    ensures { λ r. ⌜ Plays table types p (now (store .entry)) (now (diagnosis .entry)) t fresh d (now (store .exit)) (now (diagnosis .exit)) r ⌝ }
+    requires { ⌜ Addressable (now s) ⌝ }
+    requires { ⌜ Turn (now t) (bitsOf (now s)) (now notes) (formOf (now l)) (now store) (now diagnosis) (v .place) ⌝ }
+    ensures { λ r. ⌜ Plays (now (t .entry)) (bitsOf (now (s .entry))) (now (notes .entry)) (formOf (now (l .entry))) (now (store .entry)) (now (diagnosis .entry)) v (now (store .exit)) (now (diagnosis .exit)) r ⌝ }
 {
-    let flags = hearing::flags_of(p, t, fresh, d.ok);
-    let got = receive(p, types, store, t, flags);
-    let own = own_associates::own_associates(info);
+    let place = v.place;
+    let flags = hearing::flags_of(l, place, v.fresh, v.ok);
+    let got = receive(s, l, notes, store, place, flags);
+    let own = own_associates::own_associates(s, notes[place]);
     let told = interpreting::interpret_inherited_annotations(
-        table,
         t,
+        place,
         own,
         got,
         diagnosis,
         answers::ROWS,
-        d.rows,
+        v.rows,
     );
-    let ok = hearing::with_ok(d.ok, t, flags.all, told.clean);
+    let ok = hearing::with_ok(v.ok, place, flags.all, told.clean);
     Played {
         ok: ok,
         rows: told.rows,
@@ -84,15 +95,17 @@ fn inherit_annotations(
 // The types in the order in which they are reached: the count of rows. One past the limit it stays as it is, and so does what
 // is written, so that no type more is played.
 fn play_all(
-    table: Table,
-    types: Types,
-    p: Parents,
+    s: &[u8],
+    t: &[u64; 1544],
+    l: &[u64; 577],
+    notes: &[u64; 64],
     store: &mut [u64],
     diagnosis: &mut [u8],
     trail: Trail,
 ) -> usize
-    requires { ⌜ AllReady table types p (now store) (now diagnosis) trail ⌝ }
-    ensures { λ r. ⌜ AllPlayed table types p (now (diagnosis .entry)) trail (now (diagnosis .exit)) r ⌝ }
+    requires { ⌜ Addressable (now s) ⌝ }
+    requires { ⌜ AllReady (now t) (bitsOf (now s)) (now notes) (formOf (now l)) (now store) (now diagnosis) trail ⌝ }
+    ensures { λ r. ⌜ AllPlayed (now (t .entry)) (bitsOf (now (s .entry))) (now (notes .entry)) (formOf (now (l .entry))) (now (diagnosis .entry)) trail (now (diagnosis .exit)) r ⌝ }
 {
     let count = trail.count;
     let items = trail.items;
@@ -103,71 +116,50 @@ fn play_all(
         if 256 < d.rows {
             return d.rows;
         }
-        let t = items[i] as usize;
-        let fresh = flags[i];
-        let info = types.items[t];
-        d = inherit_annotations(table, types, info, p, store, diagnosis, t, fresh, d);
+        let v = Visit {
+            place: items[i] as usize,
+            fresh: flags[i],
+            ok: d.ok,
+            rows: d.rows,
+        };
+        d = inherit_annotations(s, t, l, notes, store, diagnosis, v);
         i += 1;
     }
     d.rows
 }
 
-// What all types inherit is kept in 2,001 numbers a type, which are all set to 0 first: few for few types. Here for 8.
-fn play_few(table: Table, types: Types, p: Parents, diagnosis: &mut [u8], trail: Trail) -> usize
-    requires { ⌜ ReadyIn 16008 table types p (now diagnosis) trail ⌝ }
-    ensures { λ r. ⌜ AllPlayed table types p (now (diagnosis .entry)) trail (now (diagnosis .exit)) r ⌝ }
+// The same in a store of 1,601 numbers a type, for 64 types.
+fn play(
+    s: &[u8],
+    t: &[u64; 1544],
+    l: &[u64; 577],
+    notes: &[u64; 64],
+    diagnosis: &mut [u8],
+    trail: Trail,
+) -> usize
+    requires { ⌜ Addressable (now s) ⌝ }
+    requires { ⌜ ReadyIn (now t) (bitsOf (now s)) (now notes) (formOf (now l)) (now diagnosis) trail ⌝ }
+    ensures { λ r. ⌜ AllPlayed (now (t .entry)) (bitsOf (now (s .entry))) (now (notes .entry)) (formOf (now (l .entry))) (now (diagnosis .entry)) trail (now (diagnosis .exit)) r ⌝ }
 {
-    let mut store = [0u64; 16008];
-    play_all(table, types, p, &mut store, diagnosis, trail)
-}
-
-// For 24 types.
-fn play_some(table: Table, types: Types, p: Parents, diagnosis: &mut [u8], trail: Trail) -> usize
-    requires { ⌜ ReadyIn 48024 table types p (now diagnosis) trail ⌝ }
-    ensures { λ r. ⌜ AllPlayed table types p (now (diagnosis .entry)) trail (now (diagnosis .exit)) r ⌝ }
-{
-    let mut store = [0u64; 48024];
-    play_all(table, types, p, &mut store, diagnosis, trail)
-}
-
-// For all 64.
-fn play_most(table: Table, types: Types, p: Parents, diagnosis: &mut [u8], trail: Trail) -> usize
-    requires { ⌜ ReadyIn 128064 table types p (now diagnosis) trail ⌝ }
-    ensures { λ r. ⌜ AllPlayed table types p (now (diagnosis .entry)) trail (now (diagnosis .exit)) r ⌝ }
-{
-    let mut store = [0u64; 128064];
-    play_all(table, types, p, &mut store, diagnosis, trail)
-}
-
-// With room for as many types as there are.
-fn play_in_room(table: Table, types: Types, p: Parents, diagnosis: &mut [u8], trail: Trail) -> usize
-    requires { ⌜ ReadyInRoom table types p (now diagnosis) trail ⌝ }
-    ensures { λ r. ⌜ AllPlayed table types p (now (diagnosis .entry)) trail (now (diagnosis .exit)) r ⌝ }
-{
-    if p.count <= 8 {
-        return play_few(table, types, p, diagnosis, trail);
-    }
-    if p.count <= 24 {
-        return play_some(table, types, p, diagnosis, trail);
-    }
-    play_most(table, types, p, diagnosis, trail)
+    let mut store = [0u64; 102464];
+    play_all(s, t, l, notes, &mut store, diagnosis, trail)
 }
 
 // The rows of refusal 9: at most ROWS are written, and no other byte changes (FORMAT 8.2).
 pub fn apply_associate_annotations(
-    types: Types,
-    extensions: Extensions,
-    resource: u8,
-    p: Parents,
+    s: &[u8],
+    t: &[u64; 1544],
+    l: &[u64; 577],
+    notes: &[u64; 64],
     diagnosis: &mut [u8],
 ) -> Report
-    requires { ⌜ ((s : Sheet) × Synthesizes s types extensions resource p) ⌝ }
+    requires { ⌜ Addressable (now s) ⌝ }
+    requires { ⌜ ((x : Sheet) × Synthesizes x (now t) (bitsOf (now s)) (now notes) (formOf (now l))) ⌝ }
     requires { ⌜ mostRowBytes ≤ length (now diagnosis) ⌝ }
-    ensures { λ r. ⌜ Synthesized types extensions resource p (now (diagnosis .entry)) (now (diagnosis .exit)) (r .rows) (r .more) ⌝ }
+    ensures { λ r. ⌜ Synthesized (now (t .entry)) (bitsOf (now (s .entry))) (now (notes .entry)) (formOf (now (l .entry))) (now (diagnosis .entry)) (now (diagnosis .exit)) (r .rows) (r .more) ⌝ }
 {
-    let table = lookups::table_of(types, extensions, resource);
-    let trail = visiting::trail_of(p);
-    let total = play_in_room(table, types, p, diagnosis, trail);
+    let trail = visiting::trail_of(l);
+    let total = play(s, t, l, notes, diagnosis, trail);
     if answers::ROWS < total {
         return Report {
             rows: answers::ROWS,

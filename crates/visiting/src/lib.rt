@@ -1,9 +1,9 @@
 // Which types the visit of the synthesis reaches, and in which order, as places in name order: each once, behind its
 // ancestors (FORMAT 8.6).
-use ordering::Parents;
 ghost use mathlib.Core.Path.{_≡_};
 ghost use Prim.Native.Nat.{_<_, _≤_};
 ghost use Rattle.rows.specs.Rows.{hasBit};
+ghost use Rattle.order_table.specs.Form.{formOf};
 ghost use Rattle.visiting.specs.Trails.{Orderly, TrailOf};
 ghost use Rattle.visiting.specs.Holding.{Marked, Pushed, Held, ReachedFrom, NothingHeld};
 
@@ -59,23 +59,23 @@ fn pushed(s: Trail, t: usize, flags: u8) -> Trail
 
 // The trail once type t was tried. In an order the parents of t stand before it, so the place in the
 // order falls at each call, and t is not reached while its parents are tried.
-fn reach(p: Parents, t: usize, s: Trail) -> Trail
-    requires { ⌜ Orderly p ⌝ }
-    requires { ⌜ (t < p .count) × Held p s ⌝ }
-    ensures { λ r. ⌜ ReachedFrom p t s r ⌝ }
+fn reach(l: &[u64; 577], t: usize, s: Trail) -> Trail
+    requires { ⌜ Orderly (formOf (now l)) ⌝ }
+    requires { ⌜ (t < formOf (now l) .count) × Held (formOf (now l)) s ⌝ }
+    ensures { λ r. ⌜ ReachedFrom (formOf (now (l .entry))) t s r ⌝ }
 {
     if is_seen(s.seen, t) {
         return s;
     }
-    let count = p.counts[t] as usize;
+    let count = order_table::count_at(l, t);
     let base = 8 * t;
     let mut now = s;
     let mut flags: u8 = 0;
     let mut i = 0;
     while i < count {
-        let place = p.places[base + i] as usize;
+        let place = order_table::place_at(l, base + i);
         flags = marked(flags, i, now.seen, place);
-        now = reach(p, place, now);
+        now = reach(l, place, now);
         i += 1;
     }
     pushed(now, t, flags)
@@ -96,15 +96,15 @@ fn no_trail() -> Trail
 }
 
 // The types that are reached when all are tried in name order.
-pub fn trail_of(p: Parents) -> Trail
-    requires { ⌜ Orderly p ⌝ }
-    ensures { λ r. ⌜ TrailOf p r ⌝ }
+pub fn trail_of(l: &[u64; 577]) -> Trail
+    requires { ⌜ Orderly (formOf (now l)) ⌝ }
+    ensures { λ r. ⌜ TrailOf (formOf (now (l .entry))) r ⌝ }
 {
-    let types = p.count;
+    let types = order_table::types_in(l);
     let mut s = no_trail();
     let mut t: usize = 0;
     while t < types {
-        s = reach(p, t, s);
+        s = reach(l, t, s);
         t += 1;
     }
     s

@@ -1,9 +1,10 @@
 use mathlib.Core.Path.{sym, _∙_}
+use native.Mathlib.Omega.{arith}
 use borrow.Author.Tests.{not-true, not-false}
 use Rattle.definitions.specs.Answer.{schedule}
 use Rattle.access.specs.EndLaws.{unordered-so, scheduled-so}
 use Rattle.access.specs.TableLaws.{readable, drafts, sketch, none-is, found-is}
-use Rattle.access.specs.ScheduleLaws.{fillable, refused-is, orderly}
+use Rattle.access.specs.ScheduleLaws.{fillable, filled-for, refused-is, orderly}
 use borrow.Author.Needs.{needs}
 use Rattle.access.proofs.end_schedule.Statement.{statement}
 use Rattle.access.proofs.end_schedule.Tie as tie
@@ -38,30 +39,38 @@ fill-requires c κs =
     let o = c .before .before .before .before .before .organize in
     let f = not-false _ (c .before .before .before .if1 .left) in
     let k = c .before .before .known in
-    (w .holds .short, fillable _ _ _ _ _ w _ _ (o .result) (o .ensures) f (k .result) (k .ensures))
+    (omega (arith, w .holds .short), fillable _ _ _ _ _ w _ _ (o .result) (o .ensures) f (k .result) (k .ensures))
 
 is-refused-requires : tie.Need-is-refused-requires
 is-refused-requires c κs = search needs
 
 type-refused-requires : tie.Need-type-refused-requires
 type-refused-requires c κs =
-    let w = c .before .before .before .before .before .before .before .before .before .before .before .before .before .before .before .before .pre .0 in
-    let o = c .before .before .before .before .before .before .before .before .before .before .organize in
-    let f = not-false _ (c .before .before .before .before .before .before .before .before .if1 .left) in
-    (record { s = w .s; holds = w .holds; order = found-is _ _ _ _ _ w _ _ (o .result) (o .ensures) f }, c .before .before .before .before .before .before .before .before .before .before .before .before .before .before .before .before .pre .1)
+    let s = c .before .before .before .before .before .before .before .before .before .before .before .before .before .before .before .before .before in
+    let w = s .pre .0 in
+    let o = c .before .before .before .before .before .before .before .before .before .before .before .organize in
+    let f = not-false _ (c .before .before .before .before .before .before .before .before .before .if1 .left) in
+    let k = c .before .before .before .before .before .before .before .before .known in
+    let g = c .before .before .before .before .before .fill in
+    let x = c .before .before .before .is-refused in
+    ((w .s, filled-for _ _ _ _ _ w _ _ (o .result) (o .ensures) f (k .result) (k .ensures) _ (g .result) (x .result) (g .ensures) (x .ensures)), s .pre .1)
 
 same-length-2 : tie.Need-same-length-2
 same-length-2 c = search needs
 
 returns-2 : tie.Need-returns-2
 returns-2 c =
-    let o = c .before .before .before .before .before .before .before .before .before .before .before .before .before .organize in
-    let f = not-false _ (c .before .before .before .before .before .before .before .before .before .before .before .if1 .left) in
-    let k = c .before .before .before .before .before .before .before .before .before .before .known in
-    let g = c .before .before .before .before .before .before .before .fill in
-    let x = c .before .before .before .before .before .is-refused in
+    let o = c .before .before .before .before .before .before .before .before .before .before .before .before .before .before .organize in
+    let f = not-false _ (c .before .before .before .before .before .before .before .before .before .before .before .before .if1 .left) in
+    let k = c .before .before .before .before .before .before .before .before .before .before .before .known in
+    let g = c .before .before .before .before .before .before .before .before .fill in
+    let x = c .before .before .before .before .before .before .is-refused in
     let y = c .before .before .type-refused in
-    record { due = λ w. y .ensures .due _ (w .holds) (found-is _ _ _ _ _ w _ _ (o .result) (o .ensures) f) (sym (refused-is _ _ _ _ _ w _ _ (o .result) (o .ensures) f (k .result) (k .ensures) _ (g .result) (x .result) (g .ensures) (x .ensures)) ∙ c .before .before .before .before .if2 .taken) _ }
+    record {
+      due = λ w.
+          y .ensures .due _ (filled-for _ _ _ _ _ w _ _ (o .result) (o .ensures) f (k .result) (k .ensures) _ (g .result) (x .result) (g .ensures) (x .ensures))
+          (sym (refused-is _ _ _ _ _ w _ _ (o .result) (o .ensures) f (k .result) (k .ensures) _ (g .result) (x .result) (g .ensures) (x .ensures)) ∙ c .before .before .before .before .before .if2 .taken) _;
+    }
 
 write-schedule-requires : tie.Need-write-schedule-requires
 write-schedule-requires c κs =

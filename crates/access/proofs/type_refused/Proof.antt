@@ -1,21 +1,32 @@
-use Rattle.access.specs.ScheduleLaws.{by-value, synthesizes, rows-due}
+use denote.Ref.{now}
+use mathlib.Core.Path.{_≡_, refl, ap, _∙_}
+use Prim.Native.Nat.{ℕ}
+use native.Mathlib.Omega.{arith}
 use borrow.Author.Needs.{needs}
+use lib.ListN.{length, length-replicate}
+use Rattle.access.specs.ScheduleLaws.{drafts, width-fits, standing, synthesizes, rows-due}
 use Rattle.access.proofs.type_refused.Statement.{statement}
 use Rattle.access.proofs.type_refused.Tie as tie
 
-decode-requires : tie.Need-decode-requires
-decode-requires c κs = search needs
+blank-requires : tie.Need-blank-requires
+blank-requires c κs = tt
 
-parents-of-requires : tie.Need-parents-of-requires
-parents-of-requires c κs =
-    let x = c .before .before .decode in by-value _ (x .result) (x .ensures) _ (c .before .before .before .before .before .pre .0 .holds)
+fill-requires : tie.Need-fill-requires
+fill-requires c κs =
+    let x = c .before .before .before .before .pre .0 in
+    (ap length (c .before .blank .ensures) ∙ length-replicate {A = ℕ} 577 0, drafts _ _ _ _ _ (x .0) (x .1))
+
+fill-requires-2 : tie.Need-fill-requires-2
+fill-requires-2 c κs =
+    let x = c .before .before .before .before .before .before .pre .0 in
+    let w = width-fits _ _ _ _ _ (x .0) (x .1) in
+    ((omega (arith, x .1 .short), refl, w .0, w .1), standing _ _ _ _ _ (x .0) (x .1))
 
 apply-associate-annotations-requires : tie.Need-apply-associate-annotations-requires
 apply-associate-annotations-requires c κs =
-    let s = c .before .before .before .before .before .before .before in
-    let x = c .before .before .before .before .decode in
-    let p = c .before .parents-of in
-    ((s .pre .0 .s, synthesizes _ (x .result) (x .ensures) _ (s .pre .0 .holds) _ (p .ensures) (s .pre .0 .order)), s .pre .1)
+    let s = c .before .before .before .before .before .before .before .before .before .before in
+    let x = s .pre .0 in
+    (omega (arith, x .1 .short), ((x .0, synthesizes _ _ _ _ _ (x .0) (x .1) _ _ (c .before .before .before .before .before .fill .ensures) (c .before .before .before .fill2 .ensures)), s .pre .1))
 
 type-refused-requires : tie.Need-type-refused-requires
 type-refused-requires c κs = search needs
@@ -25,17 +36,16 @@ same-length c = search needs
 
 returns : tie.Need-returns
 returns c =
-    let x = c .before .before .before .before .before .before .before .before .decode in
-    let p = c .before .before .before .before .before .parents-of in
     let y = c .before .before .before .apply-associate-annotations in
-    rows-due _ (x .result) (x .ensures) _ (p .ensures) _ _ (y .result .rows) (y .result .more) (c .type-refused .result) (y .ensures) (c .type-refused .ensures)
+    rows-due _ _ _ _ _ _ _ (c .before .before .before .before .before .before .before .before .before .fill .ensures) (c .before .before .before .before .before .before .before .fill2 .ensures) _ _ (y .result .rows) (y .result .more) (c .type-refused .result) (y .ensures) (c .type-refused .ensures)
 
 pub type-refused-spec : {M : Type 1} → statement M
 type-refused-spec =
     tie.close
     (tie.spec
-    decode-requires
-    parents-of-requires
+    blank-requires
+    fill-requires
+    fill-requires-2
     apply-associate-annotations-requires
     type-refused-requires
     same-length

@@ -12,42 +12,33 @@ use Rattle.duplicates.proofs.put_making.Reads as reads
 use Rattle.duplicates.proofs.put_making.Lts as lts
 use Rattle.store.proofs.put_row.Reads as put-row-reads
 
--- src/lib.rt:24:14
 mul-at : tie.Need-mul-at
 mul-at c = search needs
 
--- src/lib.rt:25:5
 mul-made : tie.Need-mul-made
 mul-made c = search needs
 
--- src/lib.rt:25:5
 element-write-made : tie.Need-element-write-made
 element-write-made c = search needs
 
--- src/lib.rt:26:26
 add-put-row : tie.Need-add-put-row
 add-put-row c = search needs
 
--- src/lib.rt:26:5
 put-row-requires : tie.Need-put-row-requires
 put-row-requires c κs = search needs
 
--- src/lib.rt:27:10
 add-made : tie.Need-add-made
 add-made c = search needs
 
--- src/lib.rt:27:5
 mul-made-2 : tie.Need-mul-made-2
 mul-made-2 c = search needs
 
--- src/lib.rt:27:5
 element-write-made-2 : tie.Need-element-write-made-2
 element-write-made-2 c = search needs
 
 long : (c : tie.After-put-row-arg) → length (set (c .before .args .made .now) (6 * c .before .args .count) (c .before .args .word)) ≡ 2280
 long c = search needs
 
--- src/lib.rt:20:1
 returns : tie.Need-returns
 unfolding putMaking
 returns c =
@@ -56,7 +47,7 @@ returns c =
     let l = long (c .before) in
     subst (λ (z : List ℕ). Keeps (makingsIn (a .made .now) (a .count)) (a .word) (a .doms) (a .parents) (makingsIn (set z (6 * a .count + 5) (a .parents)) (a .count + 1)))
     (sym (c .put-row .ensures))
-    (keeps-more (a .made .now) (a .count) (a .word) (a .doms) (a .parents) (omega (arith, l, length-set (a .made .now) (6 * a .count) (a .word))) (omega arith))
+    (keeps-more (a .made .now) (a .count) (a .word) (a .doms) (a .parents) (omega (arith, l, length-set (a .made .now) (6 * a .count) (a .word))))
 
 pub put-making-spec : {M : Type 1} → statement M
 put-making-spec =

@@ -1,34 +1,29 @@
-use mathlib.Core.Bool.{Bool}
-use mathlib.Core.Path.{_≡_, refl, sym, subst, _∙_}
-use Prim.Native.Nat.{_≤_, _<_, _-_}
+use denote.Ref.{now}
+use mathlib.Core.Path.{_≡_, sym, subst, _∙_}
+use Prim.Native.Nat.{ℕ, _≤_, _<_, _-_}
 use native.Mathlib.Omega.{arith}
-use borrow.Author.Needs.{needs}
-use lib.ListN.{length}
+use lib.ListN.{length, getD}
 use Rattle.lists.specs.Tabulating.{length-mapped}
-use Rattle.handing.specs.Handing.{TakesIf, placeAt}
-use Rattle.handing.specs.Steps.{place-low, Gathering, gathering-none, gathering-more, gathering-all, hands-from}
+use Rattle.rows.specs.Rows.{hasBit}
+use Rattle.definitions.specs.Bits.{bitsOf}
+use Rattle.ordering.specs.Reading.{howMany}
+use Rattle.order_table.specs.Form.{formOf}
+use Rattle.handing.specs.Handing.{HandsFrom, HandsIf, TakesIf, placeAt}
+use Rattle.handing.specs.Steps.{place-low, hands-from, Gathering, gathering-none, gathering-more, gathering-all}
 use Rattle.handing.proofs.gather.Statement.{statement}
 use Rattle.handing.proofs.gather.Tie as tie
-use Rattle.handing.proofs.gather.Reads as reads
-use Rattle.handing.proofs.gather.Lts as lts
-use Rattle.dedup.proofs.nothing.Reads as nothing-reads
-use Rattle.handing.proofs.flagged.Reads as flagged-reads
-use Rattle.handing.proofs.inherit_if.Reads as inherit-if-reads
 
 abbrev Inv-loop : tie.InvT-loop
-Inv-loop store t flags p types count base out₀ i₀ out i = (i ≤ count) × Gathering p types store t flags i out
+Inv-loop s l notes store t flags count base out₀ i₀ out i = (i ≤ count) × Gathering (formOf l) (bitsOf s) notes store t flags i out
 
 abbrev μ-loop : tie.MeasureT-loop
-μ-loop store t flags p types count base out₀ i₀ out i = count - i
+μ-loop s l notes store t flags count base out₀ i₀ out i = count - i
 
-element-copy-out-count : tie.Need-element-copy-out-count Inv-loop μ-loop
-element-copy-out-count c = omega (arith, c .before .pre .low, c .before .pre .held .reads .most)
-
-cast-count : tie.Need-cast-count Inv-loop μ-loop
-cast-count c = search needs
+count-at-requires : tie.Need-count-at-requires Inv-loop μ-loop
+count-at-requires c κs = let r = c .before .before .pre .1 in omega (arith, r .low, r .held .reads .most)
 
 mul-base : tie.Need-mul-base Inv-loop μ-loop
-mul-base c = let r = c .before .before .pre in omega (arith, r .low, r .held .reads .most)
+mul-base c = let r = c .before .before .before .pre .1 in omega (arith, r .low, r .held .reads .most)
 
 nothing-requires : tie.Need-nothing-requires Inv-loop μ-loop
 nothing-requires c κs = tt
@@ -36,66 +31,75 @@ nothing-requires c κs = tt
 loop-holds : tie.Need-loop-holds Inv-loop μ-loop
 loop-holds c =
     let w : length (c .nothing .result .list .items) ≡ 201 = search length-mapped in
-    (omega arith, gathering-none _ _ _ _ _ (c .nothing .result) (c .nothing .ensures) (omega (arith, w, c .nothing .ensures .good .kept .room)))
+    (omega arith, gathering-none _ _ _ _ _ _ (c .nothing .result) (c .nothing .ensures) (omega (arith, w, c .nothing .ensures .good .kept .room)))
 
-add-at : tie.Need-add-at Inv-loop μ-loop
-add-at c = let r = c .before .before .before .before .before .pre in omega (arith, r .low, r .held .reads .most, r .held .reads .types _ (r .low) .most)
+-- in the loop: a listing, which is one of at most eight
+listing : (c : tie.In-loop Inv-loop μ-loop) → (c .before .loop .i < howMany (formOf (c .before .before .before .before .before .before .args .l .now)) (c .before .before .before .before .before .before .args .t)) × (c .before .loop .i < 8)
+listing c =
+    let s = c .before .before .before .before .before .before in
+    let r = s .pre .1 in
+    let e = c .before .before .before .count-at .ensures in
+    (omega (arith, e, c .loop-test .taken), omega (arith, e, c .loop-test .taken, r .held .reads .types (s .args .t) (r .low) .most))
 
-element-copy-out-place : tie.Need-element-copy-out-place Inv-loop μ-loop
-element-copy-out-place c = let r = c .before .before .before .before .before .pre in omega (arith, r .low, r .held .reads .most, r .held .reads .types _ (r .low) .most)
+add-place-at : tie.Need-add-place-at Inv-loop μ-loop
+add-place-at c = let r = c .before .before .before .before .before .before .pre .1 in omega (arith, r .low, r .held .reads .most, listing c)
 
-cast-place : tie.Need-cast-place Inv-loop μ-loop
-cast-place c = search needs
+place-at-requires : tie.Need-place-at-requires Inv-loop μ-loop
+place-at-requires c κs = let r = c .before .before .before .before .before .before .pre .1 in omega (arith, r .low, r .held .reads .most, listing c)
 
 flagged-requires : tie.Need-flagged-requires Inv-loop μ-loop
-flagged-requires c κs = let r = c .before .before .before .before .before .before .pre in omega (arith, r .held .reads .types _ (r .low) .most)
+flagged-requires c κs = omega (arith, listing (c .before) .1)
 
-mul-info : tie.Need-mul-info Inv-loop μ-loop
-mul-info c =
+-- the place that was read
+placed : (c : tie.After-place-at Inv-loop μ-loop) → c .place-at .result < 64
+placed c =
     let s = c .before .before .before .before .before .before .before in
     let a = s .args in
-    let l = c .before .before .before .loop in
-    let q : placeAt (a .t1) (a .t) (l .i) < 64 = place-low (a .t1) (a .t2) (a .store .now) (a .t) (a .flags) (l .i) (s .pre) (c .before .before .loop-test .taken) in
-    omega (arith, q)
+    omega (arith, c .place-at .ensures, place-low (formOf (a .l .now)) (bitsOf (now (a .s))) (a .notes .now) (a .store .now) (a .t) (a .flags) (s .pre .1) (c .before .before .loop .i) (listing (c .before) .0), s .pre .1 .held .reads .most)
 
-element-copy-out-info : tie.Need-element-copy-out-info Inv-loop μ-loop
-element-copy-out-info c =
-    let s = c .before .before .before .before .before .before .before in
-    let a = s .args in
-    let l = c .before .before .before .loop in
-    place-low (a .t1) (a .t2) (a .store .now) (a .t) (a .flags) (l .i) (s .pre) (c .before .before .loop-test .taken)
+mul-inherit-if : tie.Need-mul-inherit-if Inv-loop μ-loop
+mul-inherit-if c = omega (arith, placed (c .before))
+
+element-copy-out-inherit-if : tie.Need-element-copy-out-inherit-if Inv-loop μ-loop
+element-copy-out-inherit-if c = placed (c .before)
 
 inherit-if-requires : tie.Need-inherit-if-requires Inv-loop μ-loop
 inherit-if-requires c κs =
-    let s = c .before .before .before .before .before .before .before .before in
+    let s = c .before .before .before .before .before .before .before .before .before in
     let a = s .args in
     let l = c .before .before .before .before .loop in
-    ((l .inv .1 .good, l .inv .1 .fits), record { from = λ e. record { types = a .t2; same = refl; hands = hands-from (a .t1) (a .t2) (a .store .now) (a .t) (a .flags) (l .i) (s .pre) (c .before .before .before .loop-test .taken) (sym (c .before .flagged .ensures) ∙ e) } })
+    let bs = bitsOf (now (a .s)) in (
+      (s .pre .0, l .inv .1 .good, l .inv .1 .fits),
+      record {
+        from = λ e.
+            subst (λ (p : ℕ). HandsFrom bs (getD (a .notes .now) p 0) (a .store .now) p) (sym (c .before .before .place-at .ensures))
+            (hands-from (formOf (a .l .now)) bs (a .notes .now) (a .store .now) (a .t) (a .flags) (s .pre .1) (l .i) (listing (c .before .before .before) .0) (sym (c .before .flagged .ensures) ∙ e));
+      },
+    )
 
 add-i : tie.Need-add-i Inv-loop μ-loop
-add-i c = let r = c .before .before .before .before .before .before .before .before .before .pre in omega (arith, r .held .reads .types _ (r .low) .most)
+add-i c = omega (arith, listing (c .before .before .before .before) .1)
 
 loop-less : tie.Need-loop-less Inv-loop μ-loop
 loop-less c = omega arith
 
 loop-again : tie.Need-loop-again Inv-loop μ-loop
 loop-again c =
-    let s = c .before .before .before .before .before .before .before .before .before in
+    let s = c .before .before .before .before .before .before .before .before .before .before in
     let a = s .args in
     let l = c .before .before .before .before .before .loop in
-    let h = c .before .before .before .before .loop-test .taken in (
+    let bs = bitsOf (now (a .s)) in
+    let k = rw (c .before .before .before .place-at .ensures, c .before .before .flagged .ensures) at (c .inherit-if .ensures) in (
       omega arith,
-      gathering-more (a .t1) (a .t2) (a .store .now) (a .t) (a .flags) (l .i) (l .out) (c .inherit-if .result) h (s .pre .low) (l .inv .1)
-          (λ b. hands-from (a .t1) (a .t2) (a .store .now) (a .t) (a .flags) (l .i) (s .pre) h b)
-          (subst (λ (b : Bool). TakesIf (l .out) (a .t2) (a .store .now) (placeAt (a .t1) (a .t) (l .i)) b (c .inherit-if .result)) (c .before .before .flagged .ensures) (c .inherit-if .ensures .takes (a .t2) refl)),
+      gathering-more (formOf (a .l .now)) bs (a .notes .now) (a .store .now) (a .t) (a .flags) (l .i) (l .out) (c .inherit-if .result) (listing (c .before .before .before .before) .0) (s .pre .1 .low) (l .inv .1) k,
     )
 
 returns : tie.Need-returns Inv-loop μ-loop
 returns c =
-    let s = c .before .before .before .before .before in
+    let s = c .before .before .before .before .before .before in
     let a = s .args in
     let l = c .before .loop in
-    gathering-all (a .t1) (a .t2) (a .store .now) (a .t) (a .flags) (l .i) (l .out) (s .pre) (omega arith) (l .inv .1)
+    gathering-all (formOf (a .l .now)) (bitsOf (now (a .s))) (a .notes .now) (a .store .now) (a .t) (a .flags) (l .i) (l .out) (s .pre .1 .low) (omega (arith, c .before .before .before .count-at .ensures)) (l .inv .1)
 
 pub gather-spec : {M : Type 1} → statement M
 gather-spec =
@@ -103,17 +107,15 @@ gather-spec =
     (tie.spec
     Inv-loop
     μ-loop
-    element-copy-out-count
-    cast-count
+    count-at-requires
     mul-base
     nothing-requires
     loop-holds
-    add-at
-    element-copy-out-place
-    cast-place
+    add-place-at
+    place-at-requires
     flagged-requires
-    mul-info
-    element-copy-out-info
+    mul-inherit-if
+    element-copy-out-inherit-if
     inherit-if-requires
     add-i
     loop-less

@@ -1,16 +1,14 @@
-use mathlib.Core.Logic.{⊎-elim}
 use mathlib.Core.List.{List}
+use mathlib.Core.Logic.{⊎-elim}
 use mathlib.Core.Path.{_≡_, sym, _∙_, subst}
 use Prim.Native.Nat.{ℕ, _-_, _≤_, _<_, min}
 use native.Mathlib.Omega.{arith}
 use borrow.Author.Needs.{needs}
-use Rattle.lists.specs.Tests.{and-left}
 use Rattle.rows.specs.declared.Row.{Row}
 use Rattle.dedup.specs.declared.Entry.{Entry}
-use Rattle.table.specs.declared.Table.{Table}
 use Rattle.associates.specs.Step.{Reached, reached}
 use Rattle.interpreting.specs.Entry.{interpretEntry}
-use Rattle.interpreting.specs.EntryLaws.{Onward, onward-start, onward-skipped, onward-walk, onward-taken, onward-room, onward-end}
+use Rattle.interpreting.specs.EntryLaws.{Going, going-start, going-skipped, going-walk, going-taken, going-room, going-end}
 use Rattle.interpreting.proofs.interpret_associate.Statement.{statement}
 use Rattle.interpreting.proofs.interpret_associate.Tie as tie
 use Rattle.interpreting.proofs.interpret_associate.Reads as reads
@@ -24,24 +22,21 @@ abbrev entry : Row → ℕ → Entry
 entry words parents = record { kind = 1; words = words; parents = parents }
 
 -- before a word that is below 200
-at-word : (t : Table) (T : ℕ) (e : Entry) (doms : List Row) (limit : ℕ) (s : Reached) (b : List ℕ) (w : ℕ) (p : Reached) (b′ : List ℕ) → w < 200
-    → Onward t T e doms limit s b (min 200 w) p b′ → Onward t T e doms limit s b w p b′
-at-word t T e doms limit s b w p b′ h o = let z : min 200 w ≡ w = omega arith in subst (λ (n : ℕ). Onward t T e doms limit s b n p b′) z o
+at-word : (t : List ℕ) (T : ℕ) (e : Entry) (doms : List Row) (limit : ℕ) (s : Reached) (b : List ℕ) (w : ℕ) (p : Reached) (b′ : List ℕ) → w < 200
+    → Going t T e doms limit s b (min 200 w) p b′ → Going t T e doms limit s b w p b′
+at-word t T e doms limit s b w p b′ h o = let z : min 200 w ≡ w = omega arith in subst (λ (n : ℕ). Going t T e doms limit s b n p b′) z o
 
 abbrev Inv-loop : tie.InvT-loop
-Inv-loop t place made₀ buf₀ limit doms words parents p₀ w₀ made buf p w =
-    (w ≤ 256) × Onward t place (entry words parents) doms limit (reached p₀ made₀) buf₀ (min 200 w) (reached p made) buf
+Inv-loop t made₀ buf₀ doms words parents place limit p₀ w₀ made buf p w = (w ≤ 256) × Going t place (entry words parents) doms limit (reached p₀ made₀) buf₀ (min 200 w) (reached p made) buf
 
 abbrev μ-loop : tie.MeasureT-loop
-μ-loop t place made₀ buf₀ limit doms words parents p₀ w₀ made buf p w = 256 - w
+μ-loop t made₀ buf₀ doms words parents place limit p₀ w₀ made buf p w = 256 - w
 
 next-requires : tie.Need-next-requires Inv-loop μ-loop
 next-requires c κs = search needs
 
 loop-holds : tie.Need-loop-holds Inv-loop μ-loop
-loop-holds c =
-    let n = c .next .ensures in
-    (n .most, onward-walk _ _ _ _ _ _ _ 0 _ _ (onward-start _ _ _ _ _ _ _ (c .before .before .before .pre .holding)) _ (omega arith) n)
+loop-holds c = let n = c .next .ensures in (n .most, going-walk _ _ _ _ _ _ _ 0 _ _ (going-start _ _ _ _ _ _ _) _ (omega arith) n)
 
 is-due-requires : tie.Need-is-due-requires Inv-loop μ-loop
 is-due-requires c κs = search needs
@@ -52,25 +47,11 @@ mul-d c = search needs
 array-copy-out-d : tie.Need-array-copy-out-d Inv-loop μ-loop
 array-copy-out-d c = search needs
 
-cast-interpret-word : tie.Need-cast-interpret-word Inv-loop μ-loop
-cast-interpret-word c = search needs
+cast-t24 : tie.Need-cast-t24 Inv-loop μ-loop
+cast-t24 c = search needs
 
 interpret-word-requires : tie.Need-interpret-word-requires Inv-loop μ-loop
-interpret-word-requires c κs =
-    let s = c .before .before .before .before .before .before .before .before .before .before in
-    let a = s .args in
-    let l = c .before .before .before .before .before .before .loop in
-    let h : l .w < 200 = omega arith in
-    let o = at-word _ _ _ _ _ _ _ (l .w) _ _ h (l .inv .1) in
-    let z = sym (c .before .before .before .before .is-due .ensures) ∙ c .before .before .before .if1 .taken in
-    record {
-      sound = s .pre .sound;
-      fits = s .pre .fits (l .w) h (and-left _ _ z);
-      holding = o .holding;
-      room = onward-room (a .t) (a .place) (entry (a .e .words) (a .e .parents)) (a .t4) (a .limit) _ (a .buf .now) (l .w) (reached (l .p) (l .made)) (l .buf) o h z (s .pre .room);
-      slice = omega (arith, o .same, s .pre .slice);
-      few = s .pre .few;
-    }
+interpret-word-requires c κs = let s = c .before .before .before .before .before .before .before .before .before .before in let a = s .args in let l = c .before .before .before .before .before .before .loop in let h : l .w < 200 = omega arith in let o = at-word _ _ _ _ _ _ _ (l .w) _ _ h (l .inv .1) in let z = sym (c .before .before .before .before .is-due .ensures) ∙ c .before .before .before .if1 .taken in record { place = s .pre .place; word = omega arith; room = going-room (a .t .now) (a .turn .place) (entry (a .e .words) (a .e .parents)) (a .t4) (a .turn .limit) _ (a .buf .now) (l .w) (reached (l .p) (l .made)) (l .buf) o h z (s .pre .room); slice = omega (arith, o .same, s .pre .slice); few = s .pre .few }
 
 add-next : tie.Need-add-next Inv-loop μ-loop
 add-next c = search needs
@@ -82,40 +63,14 @@ loop-less : tie.Need-loop-less Inv-loop μ-loop
 loop-less c = search needs
 
 loop-again : tie.Need-loop-again Inv-loop μ-loop
-loop-again c =
-    let s = c .before .before .before .before .before .before .before .before in
-    let a = s .args in
-    let l = c .before .before .before .before .loop in
-    let h : l .w < 200 = omega arith in
-    let o = at-word _ _ _ _ _ _ _ (l .w) _ _ h (l .inv .1) in
-    let n = c .next2 .ensures in
-    ⊎-elim
-    (λ w.
-    rw (w .7, w .8, w .9) (
-      n .most,
-      onward-walk _ _ _ _ _ _ _ _ _ _
-          (onward-taken (a .t) (a .place) (entry (a .e .words) (a .e .parents)) (a .t4) (a .limit) _ (a .buf .now) (l .w) (reached (l .p) (l .made)) (l .buf) o _ _ h (sym (c .before .before .is-due .ensures) ∙ w .0 .taken) (w .4 .kept .1 .1 .1 .1 .1 .1 .1 .0) (w .4 .ensures))
-          _ (omega arith) n,
-    ))
-    (λ w.
-    rw (w .1, w .2, w .3) (
-      n .most,
-      onward-walk _ _ _ _ _ _ _ _ _ _
-          (onward-skipped (a .t) (a .place) (entry (a .e .words) (a .e .parents)) (a .t4) (a .limit) _ (a .buf .now) (l .w) (reached (l .p) (l .made)) (l .buf) o h (sym (c .before .before .is-due .ensures) ∙ w .0 .left))
-          _ (omega arith) n,
-    ))
-    (c .before .if1 .came)
+loop-again c = let s = c .before .before .before .before .before .before .before .before in let a = s .args in let l = c .before .before .before .before .loop in let h : l .w < 200 = omega arith in let o = at-word _ _ _ _ _ _ _ (l .w) _ _ h (l .inv .1) in let n = c .next2 .ensures in ⊎-elim (λ w. rw (w .7, w .8, w .9) (n .most, going-walk _ _ _ _ _ _ _ _ _ _ (going-taken (a .t .now) (a .turn .place) (entry (a .e .words) (a .e .parents)) (a .t4) (a .turn .limit) _ (a .buf .now) (l .w) (reached (l .p) (l .made)) (l .buf) o _ _ h (sym (c .before .before .is-due .ensures) ∙ w .0 .taken) (w .4 .kept .1 .1 .1 .1 .1 .0) (w .4 .ensures)) _ (omega arith) n)) (λ w. rw (w .1, w .2, w .3) (n .most, going-walk _ _ _ _ _ _ _ _ _ _ (going-skipped (a .t .now) (a .turn .place) (entry (a .e .words) (a .e .parents)) (a .t4) (a .turn .limit) _ (a .buf .now) (l .w) (reached (l .p) (l .made)) (l .buf) o h (sym (c .before .before .is-due .ensures) ∙ w .0 .left)) _ (omega arith) n)) (c .before .if1 .came)
 
 same-length : tie.Need-same-length Inv-loop μ-loop
 same-length c = c .before .loop .inv .1 .same
 
 returns : tie.Need-returns Inv-loop μ-loop
 unfolding interpretEntry
-returns c =
-    let s = c .before .before .before .before .before in
-    let l = c .before .loop in
-    let d = onward-end (s .args .t) (s .args .place) (entry (s .args .e .words) (s .args .e .parents)) (s .args .t4) (s .args .limit) _ (s .args .buf .now) (min 200 (l .w)) (reached (l .p) (l .made)) (l .buf) (l .inv .1) (omega arith) (omega arith) in
-    record { rows = d .rows; items = d .items; failed = d .failed; holding = d .holding; count = d .count }
+returns c = let s = c .before .before .before .before .before in let l = c .before .loop in let d = going-end (s .args .t .now) (s .args .turn .place) (entry (s .args .e .words) (s .args .e .parents)) (s .args .t4) (s .args .turn .limit) _ (s .args .buf .now) (min 200 (l .w)) (reached (l .p) (l .made)) (l .buf) (l .inv .1) (omega arith) (omega arith) in record { count = d .count; right = λ x k h. let q = d .right x k h in record { rows = q .rows; items = q .items; failed = q .failed } }
 
 pub interpret-associate-spec : {M : Type 1} → statement M
 interpret-associate-spec =
@@ -128,7 +83,7 @@ interpret-associate-spec =
     is-due-requires
     mul-d
     array-copy-out-d
-    cast-interpret-word
+    cast-t24
     interpret-word-requires
     add-next
     next-requires-2

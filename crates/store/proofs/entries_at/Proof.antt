@@ -9,7 +9,7 @@ use Rattle.store.proofs.entries_at.Statement.{statement}
 use Rattle.store.proofs.entries_at.Tie as tie
 
 abbrev Inv-loop : tie.InvT-loop
-Inv-loop s at count items₀ i₀ items i = (i ≤ count) × (length items ≡ 201) × ((j : ℕ) → j < i → entryAt s (at + 6 * j) ≡ getD items j zeros)
+Inv-loop s at count items₀ i₀ items i = (i ≤ count) × (length items ≡ 201) × ((j : ℕ) → j < i → entryAt s (at + 4 * j) ≡ getD items j zeros)
 
 abbrev μ-loop : tie.MeasureT-loop
 μ-loop s at count items₀ i₀ items i = count - i
@@ -29,7 +29,7 @@ add-entry-at : tie.Need-add-entry-at Inv-loop μ-loop
 add-entry-at c = omega (arith, c .before .before .before .before .pre)
 
 entry-at-requires : tie.Need-entry-at-requires Inv-loop μ-loop
-entry-at-requires c κs = let p = c .before .before .before .before .pre in (omega (arith, p .0, p .2), p .1, p .3 (c .before .loop .i) (c .loop-test .taken))
+entry-at-requires c κs = let p = c .before .before .before .before .pre in (omega (arith, p .0, p .2), p .1)
 
 mul-items : tie.Need-mul-items Inv-loop μ-loop
 mul-items c = omega (arith, c .before .before .before .before .before .pre)
@@ -49,7 +49,7 @@ loop-again c =
     let i = c .before .before .loop in
     rw (c .entry-at .ensures) (
       omega arith,
-      length-set (i .items) (i .i) (entryAt (s .args .s .now) (s .args .at + 6 * i .i)) ∙ i .inv .1,
+      length-set (i .items) (i .i) (entryAt (s .args .s .now) (s .args .at + 4 * i .i)) ∙ i .inv .1,
       fetched-step (s .args .s .now) (s .args .at) (i .i) (i .items) (omega (arith, s .pre .2, i .inv .1)) (i .inv .2),
     )
 

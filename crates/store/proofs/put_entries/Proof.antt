@@ -20,29 +20,29 @@ mul-e c = omega (arith, c .before .before .before .before .pre)
 array-copy-out-e : tie.Need-array-copy-out-e Inv-loop μ-loop
 array-copy-out-e c = omega (arith, c .before .before .before .before .pre)
 
-mul-put-entry : tie.Need-mul-put-entry Inv-loop μ-loop
-mul-put-entry c = omega (arith, c .before .before .before .before .before .before .pre)
+mul-put-row : tie.Need-mul-put-row Inv-loop μ-loop
+mul-put-row c = omega (arith, c .before .before .before .before .before .before .before .pre)
 
-add-put-entry : tie.Need-add-put-entry Inv-loop μ-loop
-add-put-entry c = omega (arith, c .before .before .before .before .before .before .pre)
+add-put-row : tie.Need-add-put-row Inv-loop μ-loop
+add-put-row c = omega (arith, c .before .before .before .before .before .before .before .pre)
 
-put-entry-requires : tie.Need-put-entry-requires Inv-loop μ-loop
-put-entry-requires c κs =
-    let p = c .before .before .before .before .before .before .pre in
-    let l = c .before .before .before .loop .inv .1 .long in
+put-row-requires : tie.Need-put-row-requires Inv-loop μ-loop
+put-row-requires c κs =
+    let p = c .before .before .before .before .before .before .before .pre in
+    let l = c .before .before .before .before .loop .inv .1 .long in
     (omega (arith, p .0, l, p .2), omega (arith, p .1, l))
 
 add-i : tie.Need-add-i Inv-loop μ-loop
-add-i c = omega (arith, c .before .before .before .before .before .before .before .before .before .pre)
+add-i c = omega (arith, c .before .before .before .before .before .before .before .before .before .before .pre)
 
 loop-less : tie.Need-loop-less Inv-loop μ-loop
-loop-less c = omega (arith, c .before .before .before .before .before .before .before .before .before .pre)
+loop-less c = omega (arith, c .before .before .before .before .before .before .before .before .before .before .pre)
 
 loop-again : tie.Need-loop-again Inv-loop μ-loop
 loop-again c =
-    let s = c .before .before .before .before .before .before .before .before .before in
-    let i = c .before .before .before .before .before .before .loop in
-    rw (c .before .before .put-entry .ensures) (omega arith, put-step (s .args .s .now) (s .args .at) (s .args .l .items) (i .i) (i .s) (omega (arith, s .pre)) (s .pre .0) (i .inv .1))
+    let s = c .before .before .before .before .before .before .before .before .before .before in
+    let i = c .before .before .before .before .before .before .before .loop in
+    rw (c .before .before .put-row .ensures) (omega arith, put-step (s .args .s .now) (s .args .at) (s .args .l .items) (i .i) (i .s) (omega (arith, s .pre .2)) (s .pre .0) (i .inv .1))
 
 same-length : tie.Need-same-length Inv-loop μ-loop
 same-length c = c .before .loop .inv .1 .long
@@ -62,9 +62,9 @@ put-entries-spec =
     loop-holds
     mul-e
     array-copy-out-e
-    mul-put-entry
-    add-put-entry
-    put-entry-requires
+    mul-put-row
+    add-put-row
+    put-row-requires
     add-i
     loop-less
     loop-again

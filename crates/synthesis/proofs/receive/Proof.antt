@@ -1,11 +1,10 @@
-use Rattle.synthesis.specs.PlayLaws.{ready-flags, receives-all, receives-some}
+use denote.Ref.{now}
 use borrow.Author.Needs.{needs}
+use Rattle.definitions.specs.Bits.{bitsOf}
+use Rattle.order_table.specs.Form.{formOf}
+use Rattle.synthesis.specs.PlayLaws.{ready-flags, receives-all, receives-some}
 use Rattle.synthesis.proofs.receive.Statement.{statement}
 use Rattle.synthesis.proofs.receive.Tie as tie
-use Rattle.synthesis.proofs.receive.Reads as reads
-use Rattle.synthesis.proofs.receive.Lts as lts
-use Rattle.handing.proofs.gather.Reads as gather-reads
-use Rattle.handing.proofs.keep_inherited.Reads as keep-inherited-reads
 
 keep-inherited-requires : tie.Need-keep-inherited-requires
 keep-inherited-requires c κs = search needs
@@ -15,12 +14,12 @@ same-length c = search needs
 
 returns : tie.Need-returns
 returns c =
-    let s = c .before .before .before .before .before .before in
+    let s = c .before .before .before .before .before .before .before in
     let a = s .args in
-    receives-all (a .p) (a .types) (a .store .now) (a .t) (a .flags) _ (s .pre .0 .low) _ (s .pre .1) (c .before .before .before .before .if1 .taken) (c .before .before .keep-inherited .ensures)
+    receives-all (formOf (now (a .l))) (bitsOf (now (a .s))) (now (a .notes)) (a .store .now) (a .t) (a .flags) _ (s .pre .1 .0 .low) _ (s .pre .1 .1) (c .before .before .before .before .if1 .taken) (c .before .before .keep-inherited .ensures)
 
 gather-requires : tie.Need-gather-requires
-gather-requires c κs = ready-flags _ _ _ _ _ (c .before .before .before .pre .0)
+gather-requires c κs = let s = c .before .before .before .before in (s .pre .0, ready-flags _ _ _ _ _ _ (s .pre .1 .0))
 
 keep-inherited-requires-2 : tie.Need-keep-inherited-requires-2
 keep-inherited-requires-2 c κs = search needs
@@ -30,9 +29,9 @@ same-length-2 c = search needs
 
 returns-2 : tie.Need-returns-2
 returns-2 c =
-    let s = c .before .before .before .before .before .before .before .before in
+    let s = c .before .before .before .before .before .before .before .before .before in
     let a = s .args in
-    receives-some (a .p) (a .types) (a .store .now) (a .t) (a .flags) _ (s .pre .0 .low) _ _ (c .before .before .before .before .gather .ensures) (c .before .before .keep-inherited2 .ensures)
+    receives-some (formOf (now (a .l))) (bitsOf (now (a .s))) (now (a .notes)) (a .store .now) (a .t) (a .flags) _ (s .pre .1 .0 .low) _ _ (c .before .before .before .before .gather .ensures) (c .before .before .keep-inherited2 .ensures)
 
 pub receive-spec : {M : Type 1} → statement M
 receive-spec =

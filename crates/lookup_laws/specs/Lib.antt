@@ -1,3 +1,0 @@
-pub mod Bare
-pub mod BareLaws
-pub mod BareWords

@@ -1,3 +1,0 @@
-pub mod Compact
-pub mod Parents
-pub mod ParentLaws
