@@ -160,8 +160,8 @@ fn type_refused(
     answers::type_refused(report.rows, report.more)
 }
 
-// Writes the schedule, if there is one: 8, 9, 10 or acceptance. The catalogue of the map tells whether a type is refused; the
-// synthesis runs only to write the rows.
+// Writes the schedule, if there is one: 8, 9, 10 or acceptance. The catalogue of the map tells whether a type is refused, at once
+// where a class was lost while it was filled; the synthesis runs only to write the rows.
 fn end_schedule(
     sheet: &[u8],
     t: &mut [u64; 1544],
@@ -182,6 +182,9 @@ fn end_schedule(
     }
     let k = known(n, o);
     let lost = item_draft::fill(t, sheet, d, entries, &places, k);
+    if lost {
+        return type_refused(sheet, t, d, entries, n, diagnosis);
+    }
     if item_refusal::is_refused(t, lost) {
         return type_refused(sheet, t, d, entries, n, diagnosis);
     }

@@ -53,12 +53,19 @@ pub fn parent_field(key: u64) -> Field
     counted_words(words_field(key))
 }
 
-// The parent P.r, out of the name of P and the word r (FORMAT 4.4, 6.2).
+// The parent P.r, out of the name of P and the word r (FORMAT 4.4, 6.2). Its width is known in each branch, since there is a call for
+// each parent of a making.
 pub fn passing_field(key: u64, word: u64) -> Field
     ensures { λ r. ⌜ Holds r (length (parentBits (dotted (nameOfKey key) word))) (parentBits (dotted (nameOfKey key) word)) × (r .width ≤ 26) ⌝ }
 {
-    let words = words_field(key);
-    counted_words(item_pen::join(words, item_pen::number(8, word)))
+    let first = item_pen::number(8, key >> 8);
+    let last = item_pen::number(8, word);
+    let second = key % 256;
+    if second == 0 {
+        return item_pen::join(item_pen::number(2, 2), item_pen::join(first, last));
+    }
+    let name = item_pen::join(first, item_pen::number(8, second - 1));
+    item_pen::join(item_pen::number(2, 3), item_pen::join(name, last))
 }
 
 // What stands before the parents of a synthesized resource: the bit 0, the type's name, the word, virtual, and the number of parents (FORMAT 6.2).
