@@ -67,9 +67,9 @@ enum gidzelma_kind {
 #define GIDZELMA_ABSENT 255
 
 /*
- * The stack. On the maps that were tried gidzelma_schedule took up to 1.9 MB of it, gidzelma_order
- * half a MB (bench/stack.c measures them). No call can tell that there is less: its thread is then
- * ended by a signal. With glibc a thread has 8 MiB as a rule, one that Rust starts 2 MiB, and
+ * The stack. On the maps that were tried gidzelma_schedule took up to 1.1 MB of it, where it writes
+ * rows of refusal 9, and 0.05 MB elsewhere, as gidzelma_order does (bench/stack.c measures them). No
+ * call can tell that there is less: its thread is then ended by a signal. With glibc a thread has 8 MiB as a rule, one that Rust starts 2 MiB, and
  * elsewhere further threads have as little as 128 KiB. Give a thread that calls this many bytes, by
  * pthread_attr_setstacksize or what there is for it.
  */

@@ -211,17 +211,19 @@ class Linked(Folder):
 
     def test_stack(self):
         """No more stack than the header and the pages say, and half of what they advise."""
-        said = float(re.search(r"took up to ([\d.]+) MB", text_of("include", "gidzelma.h")).group(1))
+        said, other = (float(re.search(what + r" ([\d.]+) MB", text_of("include", "gidzelma.h")).group(1))
+                       for what in ("took up to", "and"))
         for name in ("docs/LINKING.md", "rust/src/lib.rs"):
             self.assertIn(f"up to {said} MB", text_of(name))
+            self.assertIn(f"and {other} MB", text_of(name))
         ring = "\n".join(f"domain t{at:02} : t{(at + 1) % 64:02}" for at in range(64))
         tried = [sheetlib.sheet_of(ring), *(sheetlib.encode(make()) for make in large.MAPS.values())]
-        for call, most in (("schedule", 1e6 * said), ("order", 0.5e6)):
+        for call in ("schedule", "order"):
             stack = self.build("bench/stack.c", f"-DCALL=gidzelma_{call}", "-pthread")
             for sheet in tried:
                 done = subprocess.run([stack], input=sheet, stdout=subprocess.PIPE, check=True)
-                used = int(re.search(rb"(\d+) bytes of stack", done.stdout).group(1))
-                self.assertLessEqual(used, most)
+                number, used = map(int, re.search(rb"number (\d+), (\d+) bytes of stack", done.stdout).groups())
+                self.assertLessEqual(used, 1e6 * (said if number == 9 else other))
                 self.assertLessEqual(2 * used, constants()["STACK_LEN"])
 
 

@@ -40,8 +40,9 @@
 //! # Threads
 //!
 //! The calls keep nothing, so that threads may call at the same time. They need stack, on the maps that
-//! were tried up to 1.9 MB for a schedule and half a MB for an order; a thread that has less is ended by a
-//! signal. A thread of [`std::thread::spawn`] has 2 MiB, which leaves little for its caller:
+//! were tried up to 1.1 MB for a schedule that is refused with 9, and 0.05 MB for any other and for an order;
+//! a thread that has less is ended by a signal. A thread of [`std::thread::spawn`] has 2 MiB; this one has
+//! more:
 //!
 //! ```
 //! let sheet = std::fs::read("../examples/base.sheet").unwrap();
