@@ -20,6 +20,10 @@ pub mod Encoding
 pub mod Ancestry
 pub mod Lines
 pub mod Relisted
+pub mod ScheduleFields
+pub mod Conversion
+pub mod Values
 pub mod Cases
 pub mod DocumentCases
 pub mod CornerCases
+pub mod ConversionCases
