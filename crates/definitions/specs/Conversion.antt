@@ -1,5 +1,5 @@
 -- The two calls that turn a packed schedule into records, and records into a packed schedule: what each answers, and the lent
--- slice at exit, for every input (FORMAT 10).
+-- slice at exit, for every input (FORMAT 12).
 use mathlib.Core.Bool.{Bool, true, false, _||_}
 use mathlib.Core.List.{List}
 use Prim.Native.Nat.{ℕ, _*_}
@@ -17,23 +17,23 @@ pub record Converted : Type 0 where
   pub answer : Answer
   pub output : List ℕ
 
--- The number of a fault in a schedule or in its records (FORMAT 10.3).
+-- The number of a fault in a schedule or in its records (FORMAT 12.3).
 abbrev pub scheduleFault : Fault → ℕ
 scheduleFault past = 11
 scheduleFault notAllowed = 12
 
--- A refusal names no size and writes nothing (FORMAT 10.4).
+-- A refusal names no size and writes nothing (FORMAT 12.4).
 abbrev pub turnedAway : Fault → List ℕ → Converted
 turnedAway f lent = record { answer = record { number = scheduleFault f; size = 0; rows = 0; more = false }; output = lent }
 
--- Acceptance writes the bytes of the bits and names how many they are; what is lent behind them stays (FORMAT 10.4).
+-- Acceptance writes the bytes of the bits and names how many they are; what is lent behind them stays (FORMAT 12.4).
 abbrev pub written : List Bool → List ℕ → Converted
 written bs lent = record {
   answer = record { number = 0; size = length (pack bs); rows = 0; more = false };
   output = overwrite (pack bs) lent;
 }
 
--- What came of the fields; behind the last one no bit is set and no byte follows (FORMAT 10.3).
+-- What came of the fields; behind the last one no bit is set and no byte follows (FORMAT 12.3).
 abbrev pub concluded : (List ℕ → List Bool) → Parsed (List ℕ) → List ℕ → Converted
 concluded bits (refused f) lent = turnedAway f lent
 concluded bits (done vs rest) lent = elim (badFill rest) [ true ↦ turnedAway notAllowed lent | false ↦ written (bits vs) lent ]
@@ -42,7 +42,7 @@ concluded bits (done vs rest) lent = elim (badFill rest) [ true ↦ turnedAway n
 abbrev pub badWidth : ℕ → Bool
 badWidth W = ltb W leastWords || ltb mostWords W
 
--- The bytes of one form into lent bytes of another. W is tested before anything is read (FORMAT 10.3).
+-- The bytes of one form into lent bytes of another. W is tested before anything is read (FORMAT 12.3).
 unfoldable pub convert : Form → Form → ℕ → List ℕ → List ℕ → Converted
 convert from to W source lent =
     let fields = scheduleFields W in
@@ -51,10 +51,10 @@ convert from to W source lent =
       | false ↦ concluded (writeFields to fields) (readFields from to fields (8 * length lent) (bitsOf source)) lent
     ]
 
--- A packed schedule into records (FORMAT 10.1).
+-- A packed schedule into records (FORMAT 12.1).
 abbrev pub readSchedule : ℕ → List ℕ → List ℕ → Converted
 readSchedule W schedule records = convert packed recorded W schedule records
 
--- Records into a packed schedule (FORMAT 10.1).
+-- Records into a packed schedule (FORMAT 12.1).
 abbrev pub writeSchedule : ℕ → List ℕ → List ℕ → Converted
 writeSchedule W records schedule = convert recorded packed W records schedule

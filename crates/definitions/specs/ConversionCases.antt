@@ -1,4 +1,4 @@
--- Schedules read into records, and records written as a schedule, on which the definitions are computed (FORMAT 10). Each case is
+-- Schedules read into records, and records written as a schedule, on which the definitions are computed (FORMAT 12). Each case is
 -- a lemma of its own.
 use mathlib.Core.Bool.{false}
 use mathlib.Core.List.{List, []}
@@ -13,7 +13,7 @@ use Rattle.definitions.specs.ScheduleFields.{itemFields, scheduleFields,
 use Rattle.definitions.specs.Conversion.{Converted, convert, readSchedule, writeSchedule}
 use Rattle.definitions.specs.Cases.{hex, lent, written}
 
--- The two directions (FORMAT 10.1).
+-- The two directions (FORMAT 12.1).
 pub data Direction : Type 0 where
   read write : Direction
 

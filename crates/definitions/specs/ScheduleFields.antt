@@ -1,5 +1,5 @@
 -- The fields of a packed schedule, one after the other: how wide each is, which values it may have, and which fields follow
--- (FORMAT 6.1 to 6.3, 10.2). Reading, writing and walking a schedule are uses of this one grammar.
+-- (FORMAT 6.1 to 6.3, 12.2). Reading, writing and walking a schedule are uses of this one grammar.
 use mathlib.Core.Bool.{Bool}
 use mathlib.Core.List.{List, [], _∷_, _++_}
 use Prim.Native.Nat.{ℕ, zero, suc, _-_}
@@ -78,7 +78,7 @@ Form = ℕ → ℕ
 abbrev pub packed : Form
 packed n = n
 
--- A record is two bytes, whatever the width of its field (FORMAT 10.2).
+-- A record is two bytes, whatever the width of its field (FORMAT 12.2).
 abbrev pub recorded : Form
 recorded n = 16
 
@@ -91,7 +91,7 @@ abbrev pub fits : ℕ → ℕ → Parser (Unit {0})
 fits n room = choose (ltb room n) (refuse past) (pure tt)
 
 -- The values of the fields, read in one form, where `room` bits are lent for another. The first field met decides: both ends
--- before its value (FORMAT 10.3).
+-- before its value (FORMAT 12.3).
 unfoldable pub readFields : Form → Form → Fields → ℕ → Parser (List ℕ)
 readFields from to end room = pure []
 readFields from to (field n least most follow) room = do
@@ -100,7 +100,7 @@ readFields from to (field n least most follow) room = do
   vs ← readFields from to (follow v) (room - to n)
   pure (v ∷ vs)
 
--- The bits of values in a form (FORMAT 10.2).
+-- The bits of values in a form (FORMAT 12.2).
 unfoldable pub writeFields : Form → Fields → List ℕ → List Bool
 writeFields to end vs = []
 writeFields to (field n least most follow) [] = []

@@ -1,4 +1,4 @@
--- The values of a schedule's fields in the order in which they stand; each is one record (FORMAT 10.2).
+-- The values of a schedule's fields in the order in which they stand; each is one record (FORMAT 12.2).
 use mathlib.Core.List.{List, [], _∷_, _++_}
 use Prim.Native.Nat.{ℕ, _/_, _%_}
 use lib.ListN.{length}
@@ -39,10 +39,10 @@ itemValues (extension n v t r) = 1 ∷ nameValues n ++ (bit v ∷ bit t ∷ r �
 unfoldable pub scheduleValues : Schedule → List ℕ
 scheduleValues s = countedValues nameValues (s .order) ++ countedValues itemValues (s .items)
 
--- A record: two bytes, the high one first (FORMAT 10.2).
+-- A record: two bytes, the high one first (FORMAT 12.2).
 abbrev pub recordBytes : ℕ → List ℕ
 recordBytes v = v / 256 ∷ v % 256 ∷ []
 
--- The records of a schedule (FORMAT 10.2).
+-- The records of a schedule (FORMAT 12.2).
 unfoldable pub recordsOf : Schedule → List ℕ
 recordsOf s = each recordBytes (scheduleValues s)
