@@ -1,2 +1,6 @@
+pub mod Statements
 pub mod Walks
 pub mod Grammar
+pub mod Exactly
+pub mod Refused
+pub mod RoundTrips

@@ -1,13 +1,15 @@
 -- Laws of the fields of any grammar: what is read is what is written, in every form.
 use mathlib.Core.Bool.{Bool, true, false}
 use mathlib.Core.List.{List, [], _∷_, _++_, append-assoc}
+use mathlib.Core.Logic.{_⊎_, inl, inr, ⊎-elim}
 use mathlib.Core.Path.{_≡_, refl, sym, ap, _∙_}
 use Prim.Native.Nat.{ℕ, zero, suc, _+_, _*_, _-_, _^_, _≤_, _<_, zero-le}
 use native.Mathlib.Omega.{arith}
 use borrow.Author.Tests.{le-ltb, ltb-true, ltb-false}
 use lib.Dec.{ltb}
-use lib.ListN.{length, length-append}
+use lib.ListN.{length, take, drop, length-append, length-drop, take-append-drop}
 use lib.Pow
+use lib.Seq
 use Rattle.lists.specs.Lists.{each}
 use Rattle.lists.specs.Tests.{by}
 use Rattle.definitions.specs.Bits.{toBits}
@@ -15,7 +17,7 @@ use Rattle.definitions.specs.Parse.{past, Parsed, done, refused, Parser, next, 
 use Rattle.definitions.specs.Legal.{Every}
 use Rattle.definitions.specs.ScheduleFields.{Fields, end, field, Form, packed, recorded, unwritten, fits, readFields, writeFields}
 use Rattle.bits.specs.NumberLaws.{length-toBits}
-use Rattle.reading_laws.specs.Parsers.{Reads, Only, Exact, Codes, Told, reads-pure, only-pure, between-codes, reads-next, reads-last, only-next, only-last, done-only}
+use Rattle.reading_laws.specs.Parsers.{Reads, Only, Exact, Codes, Told, reads-pure, only-pure, between-codes, reads-next, reads-last, only-next, only-last, done-only, cut-short}
 
 -- values that the fields allow, one for each
 unfoldable pub Allowed : Fields → List ℕ → Type 0
@@ -96,6 +98,80 @@ module _ (from to : Form) (wide : Wide from) where
   fields-codes end room s = end-codes room
   fields-codes (field n least most follow) room s =
       field-codes n least most follow room (wide n most (s .1) (s .2)) (λ v h. fields-codes (follow v) (room - to n) (s .3 v h))
+
+-- ---- what ends too soon
+
+module _ (from to : Form) (wide : Wide from) where
+  -- a field passes the end of what is read, or its other form the end of the room
+  abbrev Short : Fields → List ℕ → ℕ → ℕ → Type 0
+  Short F vs k room = (k < length (writeFields from F vs)) ⊎ (room < length (writeFields to F vs))
+
+  -- one field, given those behind it
+  module _ (n least most : ℕ) (follow : ℕ → Fields) (room : ℕ) (most-fits : most < 2 ^ from n) (v : ℕ) (vs : List ℕ) (enough : least ≤ v) (few : v ≤ most) (rest : List Bool)
+      (ih : (j : ℕ) → Short (follow v) vs j (room - to n) → readFields from to (follow v) (room - to n) (take j (writeFields from (follow v) vs ++ rest)) ≡ refused past) where
+    abbrev bits : List Bool
+    bits = toBits (from n) v
+
+    abbrev behind : List Bool
+    behind = writeFields from (follow v) vs
+
+    abbrev onward : ℕ → Parser (List ℕ)
+    onward v = readFields from to (follow v) (room - to n) >>= λ vs. pure (v ∷ vs)
+
+    code : Codes (between (from n) least most) (toBits (from n)) (λ v. (least ≤ v) × (v ≤ most))
+    code = between-codes (from n) least most most-fits
+
+    -- the end stands in this field
+    cut-here : (k : ℕ) → k < from n → next (between (from n) least most (take k ((bits ++ behind) ++ rest))) onward ≡ refused past
+    cut-here k l =
+        let t = length-toBits (from n) v in
+        let a = length-append bits behind in
+        let e : take k ((bits ++ behind) ++ rest) ≡ take k bits =
+        Seq.take-append-le k (bits ++ behind) rest (omega arith) ∙ Seq.take-append-le k bits behind (omega arith) in
+        ap (λ r. next r onward)
+        (ap (between (from n) least most) e
+        ∙ cut-short code v (enough, few) (take k bits) (drop k bits) (sym (take-append-drop k bits)) (omega (arith, length-drop k bits)))
+
+    -- it stands behind
+    cut-behind : (k : ℕ) → from n ≤ k → to n ≤ room → Short (field n least most follow) (v ∷ vs) k room
+        → next (between (from n) least most (take k ((bits ++ behind) ++ rest))) onward ≡ refused past
+    unfolding writeFields
+    cut-behind k l m h =
+        let t = length-toBits (from n) v in
+        let q : k ≡ length bits + (k - from n) = omega arith in
+        let e : take k ((bits ++ behind) ++ rest) ≡ bits ++ take (k - from n) (behind ++ rest) =
+        ap (take k) (append-assoc bits behind rest)
+        ∙ ap (λ j. take j (bits ++ (behind ++ rest))) q
+        ∙ Seq.take-append-add bits (behind ++ rest) (k - from n) in
+        let s : Short (follow v) vs (k - from n) (room - to n) =
+        ⊎-elim
+        (λ (g : k < length (bits ++ behind)). inl (omega (arith, length-cons from n v behind)))
+        (λ (g : room < length (toBits (to n) v ++ writeFields to (follow v) vs)). inr (omega (arith, length-cons to n v (writeFields to (follow v) vs))))
+        h in
+        ap (λ r. next r onward) (ap (between (from n) least most) e ∙ code .back v (enough, few) (take (k - from n) (behind ++ rest)))
+        ∙ ap (λ r. next r (λ vs. pure (v ∷ vs))) (ih (k - from n) s)
+
+    field-short : (k : ℕ) → Short (field n least most follow) (v ∷ vs) k room
+        → readFields from to (field n least most follow) room (take k (writeFields from (field n least most follow) (v ∷ vs) ++ rest)) ≡ refused past
+    unfolding readFields writeFields
+    field-short k h =
+        by (ltb room (to n))
+        (λ e. rw e refl)
+        (λ e.
+        rw e
+        (by (ltb k (from n))
+        (λ l. cut-here k (ltb-true k (from n) l))
+        (λ l. cut-behind k (ltb-false k (from n) l) (ltb-false room (to n) e) h)))
+
+  -- of allowed values, bits that end before the last field does, or too little room, give a field that passes the end
+  pub too-short : (F : Fields) (room : ℕ) (vs : List ℕ) (rest : List Bool) (k : ℕ) → Sound F → Allowed F vs → Short F vs k room
+      → readFields from to F room (take k (writeFields from F vs ++ rest)) ≡ refused past
+  unfolding Allowed Sound writeFields
+  too-short end room vs rest k s a h = ⊎-elim (λ (g : k < 0). absurd (omega arith)) (λ (g : room < 0). absurd (omega arith)) h
+  too-short (field n least most follow) room [] rest k s a h = absurd a
+  too-short (field n least most follow) room (v ∷ vs) rest k s a h =
+      field-short n least most follow room (wide n most (s .1) (s .2)) v vs (a .0) (a .1) rest
+      (λ j g. too-short (follow v) (room - to n) vs rest j (s .3 v (a .1)) (a .2) g) k h
 
 -- ---- the forms
 

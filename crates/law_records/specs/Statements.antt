@@ -1,0 +1,161 @@
+-- What is proved about reading a schedule back. Each statement is a type of its own; its proof stands in the file that is named
+-- beside it, instances in Examples.antt.
+use mathlib.Core.Bool.{false}
+use mathlib.Core.List.{List, [], _∷_, _++_}
+use mathlib.Core.Logic.{_↔_}
+use mathlib.Core.Path.{_≡_}
+use Prim.Native.Nat.{ℕ, _*_, _≤_, _<_}
+use lib.ListN.{length, take}
+use Rattle.lists.specs.Lists.{In}
+use Rattle.definitions.specs.Bits.{pack}
+use Rattle.definitions.specs.Records.{Sheet, Schedule}
+use Rattle.definitions.specs.Map.{typeMapOf}
+use Rattle.definitions.specs.Packing.{scheduleBits}
+use Rattle.definitions.specs.LegalSchedule.{LegalWidth, LegalSchedule}
+use Rattle.definitions.specs.Relisted.{Holds}
+use Rattle.definitions.specs.Answer.{schedule, Input, overwrite, scheduleOf, outcome}
+use Rattle.definitions.specs.ScheduleFields.{Form, packed, unwritten}
+use Rattle.definitions.specs.Conversion.{Converted, convert, readSchedule, writeSchedule}
+use Rattle.definitions.specs.Values.{recordsOf}
+use Rattle.synthesis_laws.specs.Statements.{MakesLines}
+use Rattle.reading_laws.specs.Statements.{Bytes}
+use Rattle.schedule_laws.specs.Statements.{bytesWritten, NamesInOrder}
+
+-- the bytes that a schedule is packed into (FORMAT 6.4)
+abbrev pub scheduleBytes : Schedule → List ℕ
+scheduleBytes s = pack (scheduleBits s)
+
+-- acceptance: these bytes stand at the start of what was lent, and what is behind them stays (FORMAT 12.4)
+abbrev pub gives : List ℕ → List ℕ → Converted
+gives bytes lent = record {
+  answer = record { number = 0; size = length bytes; rows = 0; more = false };
+  output = overwrite bytes lent;
+}
+
+-- ---- what is accepted (Exactly.antt)
+
+-- the bytes are those of the legal schedule s, and what is lent has room for its records
+pub record CanRead (W : ℕ) (bytes lent : List ℕ) (s : Schedule) : Type 0 where
+  pub legal : LegalSchedule W s
+  pub packed : bytes ≡ scheduleBytes s
+  pub room : length (recordsOf s) ≤ length lent
+
+-- the bytes are the records of the legal schedule s, and what is lent has room for its bytes
+pub record CanWrite (W : ℕ) (bytes lent : List ℕ) (s : Schedule) : Type 0 where
+  pub legal : LegalSchedule W s
+  pub recorded : bytes ≡ recordsOf s
+  pub room : length (scheduleBytes s) ≤ length lent
+
+-- Bytes are read exactly if they are those of a legal schedule and its records have room.
+abbrev pub ReadsExactly : Type 0
+ReadsExactly = (W : ℕ) (bytes lent : List ℕ) → Bytes bytes → (readSchedule W bytes lent .answer .number ≡ 0) ↔ ((s : Schedule) × CanRead W bytes lent s)
+
+-- Then the records are written, and the answer says how many bytes they are.
+abbrev pub ReadsRecords : Type 0
+ReadsRecords = (W : ℕ) (bytes lent : List ℕ) (s : Schedule) → CanRead W bytes lent s → readSchedule W bytes lent ≡ gives (recordsOf s) lent
+
+-- They are read to one schedule only.
+abbrev pub ReadsOne : Type 0
+ReadsOne = (W : ℕ) (bytes lent : List ℕ) (s t : Schedule) → CanRead W bytes lent s → CanRead W bytes lent t → s ≡ t
+
+-- Records are written as a schedule exactly if they are those of a legal one and its bytes have room.
+abbrev pub WritesExactly : Type 0
+WritesExactly = (W : ℕ) (bytes lent : List ℕ) → Bytes bytes → (writeSchedule W bytes lent .answer .number ≡ 0) ↔ ((s : Schedule) × CanWrite W bytes lent s)
+
+-- Then its bytes are written, and the answer says how many they are.
+abbrev pub WritesSchedule : Type 0
+WritesSchedule = (W : ℕ) (bytes lent : List ℕ) (s : Schedule) → CanWrite W bytes lent s → writeSchedule W bytes lent ≡ gives (scheduleBytes s) lent
+
+-- They are the records of one schedule only.
+abbrev pub WritesOne : Type 0
+WritesOne = (W : ℕ) (bytes lent : List ℕ) (s t : Schedule) → CanWrite W bytes lent s → CanWrite W bytes lent t → s ≡ t
+
+-- ---- what is refused (Refused.antt)
+
+-- Both calls, and a walk without records, answer 0, 11 or 12.
+abbrev pub ThreeNumbers : Type 0
+ThreeNumbers = (from to : Form) (W : ℕ) (bytes lent : List ℕ) → In (convert from to W bytes lent .answer .number) (0 ∷ 11 ∷ 12 ∷ [])
+
+-- a refusal names nothing but its number, and what was lent is as it was
+pub record Untouched (c : Converted) (lent : List ℕ) : Type 0 where
+  pub size : c .answer .size ≡ 0
+  pub rows : c .answer .rows ≡ 0
+  pub more : c .answer .more ≡ false
+  pub output : c .output ≡ lent
+
+abbrev pub RefusalsTouchNothing : Type 0
+RefusalsTouchNothing =
+    (from to : Form) (W : ℕ) (bytes lent : List ℕ) → (convert from to W bytes lent .answer .number ≡ 0 → ⊥) → Untouched (convert from to W bytes lent) lent
+
+-- A number of words that is not 2 to 200 is 12, whatever the bytes and the room are.
+abbrev pub WidthFirst : Type 0
+WidthFirst = (from to : Form) (W : ℕ) (bytes lent : List ℕ) → (LegalWidth W → ⊥) → convert from to W bytes lent .answer .number ≡ 12
+
+-- Too little room for the records of a legal schedule is 11, and so is too little for its bytes.
+abbrev pub NoRoomForRecords : Type 0
+NoRoomForRecords = (W : ℕ) (lent : List ℕ) (s : Schedule) → LegalSchedule W s → length lent < length (recordsOf s) → readSchedule W (scheduleBytes s) lent .answer .number ≡ 11
+
+abbrev pub NoRoomForSchedule : Type 0
+NoRoomForSchedule = (W : ℕ) (lent : List ℕ) (s : Schedule) → LegalSchedule W s → length lent < length (scheduleBytes s) → writeSchedule W (recordsOf s) lent .answer .number ≡ 11
+
+-- A legal schedule that is cut short is 11, and so are its records.
+abbrev pub CutScheduleIs11 : Type 0
+CutScheduleIs11 =
+    (W : ℕ) (lent : List ℕ) (s : Schedule) (k : ℕ) → LegalSchedule W s → k < length (scheduleBytes s) → readSchedule W (take k (scheduleBytes s)) lent .answer .number ≡ 11
+
+abbrev pub CutRecordsAre11 : Type 0
+CutRecordsAre11 =
+    (W : ℕ) (lent : List ℕ) (s : Schedule) (k : ℕ) → LegalSchedule W s → k < length (recordsOf s) → writeSchedule W (take k (recordsOf s)) lent .answer .number ≡ 11
+
+-- One with more bytes behind it, for which there is room, is 12, and so are its records.
+abbrev pub MoreBytesAre12 : Type 0
+MoreBytesAre12 =
+    (W : ℕ) (lent : List ℕ) (s : Schedule) (b : ℕ) (more : List ℕ) → CanRead W (scheduleBytes s) lent s → readSchedule W (scheduleBytes s ++ b ∷ more) lent .answer .number ≡ 12
+
+abbrev pub MoreRecordsAre12 : Type 0
+MoreRecordsAre12 =
+    (W : ℕ) (lent : List ℕ) (s : Schedule) (b : ℕ) (more : List ℕ) → CanWrite W (recordsOf s) lent s → writeSchedule W (recordsOf s ++ b ∷ more) lent .answer .number ≡ 12
+
+-- Where the lent slice has 16 times as many bytes as the schedule, the room decides nothing: the number is that of a walk without
+-- records.
+abbrev pub RoomAlwaysSuffices : Type 0
+RoomAlwaysSuffices =
+    (W : ℕ) (bytes lent : List ℕ) → 16 * length bytes ≤ length lent → readSchedule W bytes lent .answer .number ≡ convert packed unwritten W bytes [] .answer .number
+
+-- ---- there and back (RoundTrips.antt)
+
+-- of what was lent, as many bytes from the start as the answer's size says
+abbrev pub bytesGiven : Converted → List ℕ
+bytesGiven c = take (c .answer .size) (c .output)
+
+-- What was read is written back to the bytes that it was read from.
+abbrev pub WriteAfterRead : Type 0
+WriteAfterRead =
+    (W : ℕ) (bytes lent back : List ℕ) → Bytes bytes → readSchedule W bytes lent .answer .number ≡ 0 → length bytes ≤ length back →
+    writeSchedule W (bytesGiven (readSchedule W bytes lent)) back ≡ gives bytes back
+
+-- What was written is read back to the records that it was written from.
+abbrev pub ReadAfterWrite : Type 0
+ReadAfterWrite =
+    (W : ℕ) (bytes lent back : List ℕ) → Bytes bytes → writeSchedule W bytes lent .answer .number ≡ 0 → length bytes ≤ length back →
+    readSchedule W (bytesGiven (writeSchedule W bytes lent)) back ≡ gives bytes back
+
+-- ---- what our writer makes (RoundTrips.antt)
+
+-- the schedule of a sheet
+abbrev pub scheduleIn : Sheet → Schedule
+scheduleIn s = scheduleOf schedule (typeMapOf s)
+
+-- What the schedule call has listed is read back, W being the number of the sheet's words: the records are those of the sheet's
+-- schedule, whose names are in order and whose items are the lines of the map, each once; and these records are written back to
+-- the bytes listed.
+pub record ReadBack (i : Input) : Type 0 where
+  pub s : Sheet
+  pub holds : Holds (i .sheet) s
+  pub names : NamesInOrder s (scheduleIn s .order)
+  pub lines : MakesLines s (scheduleIn s .items)
+  pub read : (lent : List ℕ) → length (recordsOf (scheduleIn s)) ≤ length lent → readSchedule (length (s .words)) (bytesWritten i) lent ≡ gives (recordsOf (scheduleIn s)) lent
+  pub written : (lent : List ℕ) → length (bytesWritten i) ≤ length lent → writeSchedule (length (s .words)) (recordsOf (scheduleIn s)) lent ≡ gives (bytesWritten i) lent
+
+abbrev pub OursIsRead : Type 0
+OursIsRead = (i : Input) → i .call ≡ schedule → outcome i .answer .number ≡ 0 → ReadBack i
