@@ -22,7 +22,7 @@ use Rattle.definitions.specs.Values.{recordBytes, recordsOf, scheduleValues}
 use Rattle.bits.specs.NumberLaws.{toBits-split, toBits-low, bitsOf-pack}
 use Rattle.reading_laws.specs.Statements.{Bytes}
 use Rattle.reading_laws.specs.Parsers.{done-only}
-use Rattle.reading_laws.specs.Packed.{length-pack, fill, packed-only}
+use Rattle.reading_laws.specs.Packed.{length-pack, pack-bytes, fill, packed-only}
 use Rattle.reading_laws.specs.Rules.{none-set, fill-exactly}
 use Rattle.reading_laws.specs.RoundTrip.{fill-good}
 use Rattle.law_records.specs.Statements.{scheduleBytes, gives, CanRead, CanWrite, ReadsExactly, ReadsRecords, WritesExactly, WritesSchedule}
@@ -77,6 +77,9 @@ recorded-bytes W s h =
     let a = legal-allowed W (h .width) s h in
     ap pack (recorded-bits (scheduleFields W) (scheduleValues s) a)
     ∙ records-packed (scheduleValues s) (allowed-below (scheduleFields W) (scheduleValues s) (schedule-sound W (h .width)) a)
+
+pub recorded-are-bytes : (W : ℕ) (s : Schedule) → LegalSchedule W s → Bytes (recordsOf s)
+recorded-are-bytes W s h = subst Bytes (recorded-bytes W s h) (pack-bytes (writeFields recorded (scheduleFields W) (scheduleValues s)))
 
 -- the bytes are those of a legal schedule in the one form, and what is lent has room for those in the other
 pub record Converts (from to : Form) (W : ℕ) (source lent : List ℕ) (s : Schedule) : Type 0 where

@@ -4,3 +4,4 @@ pub mod Grammar
 pub mod Exactly
 pub mod Refused
 pub mod RoundTrips
+pub mod Examples
