@@ -1,7 +1,7 @@
 -- Schedules read into records, and records written as a schedule, on which the definitions are computed (FORMAT 12). Each case is
 -- a lemma of its own.
 use mathlib.Core.Bool.{false}
-use mathlib.Core.List.{List, []}
+use mathlib.Core.List.{List, [], _∷_}
 use mathlib.Core.Path.{_≡_, refl}
 use Prim.Native.Nat.{ℕ}
 use lib.ListN.{replicate}
@@ -10,6 +10,8 @@ use Rattle.definitions.specs.Parse.{fieldOnto, allowed}
 use Rattle.definitions.specs.Checks.{badFill}
 use Rattle.definitions.specs.ScheduleFields.{times, nameFields, parentFields, markFields, marksFields, madeFields, lineFields}
 use Rattle.definitions.specs.ScheduleFields.{itemFields, scheduleFields, readFields, writeFields}
+use Rattle.definitions.specs.LegalSchedule.{mostMarks}
+use Rattle.definitions.specs.Values.{nameValues, itemValues, scheduleValues, recordBytes, recordsOf}
 use Rattle.definitions.specs.Conversion.{Converted, convert, readSchedule, writeSchedule}
 use Rattle.definitions.specs.Cases.{hex, lent, written}
 
@@ -158,6 +160,15 @@ names-64 = refl
 last-word : Gives read 2 (hex 4 0x02020000) 8 8 0x0001000100000000
 unfolding converted
 last-word = refl
+
+-- its records, made from the schedule
+last-word-records : recordsOf (record { order = (1 ∷ []) ∷ []; items = [] }) ≡ hex 8 0x0001000100000000
+unfolding nameValues itemValues scheduleValues recordsOf
+last-word-records = refl
+
+-- a value of more than a byte
+wide-record : recordBytes mostMarks ≡ hex 2 0x01c0
+wide-record = refl
 
 word-not-below : Refuses read 2 (hex 4 0x02040000) 8 12
 unfolding converted

@@ -291,10 +291,10 @@ module _ (W : ℕ) (width : LegalWidth W) where
           omega arith,
           omega arith,
           name-means .lets (fromWord k) n (r ∷ bit v ∷ madeRest vs) (h .type)
-          (word-means .lets (fromFlag k) r (bit v ∷ madeRest vs) (h .word)
-          (flag-means .lets (fromParents k) v (madeRest vs) tt
-          (parents-means .lets (marksFields k) ps (countedValues markValues ms ++ vs) (h .parents)
-          (marks-means .lets k ms vs (h .marks) a)))),
+              (word-means .lets (fromFlag k) r (bit v ∷ madeRest vs) (h .word)
+              (flag-means .lets (fromParents k) v (madeRest vs) tt
+              (parents-means .lets (marksFields k) ps (countedValues markValues ms ++ vs) (h .parents)
+              (marks-means .lets k ms vs (h .marks) a)))),
         )
 
     made-packs : (k : Fields) (vs : List ℕ) → LegalItem W (synthesized n r v ps ms)
@@ -350,9 +350,9 @@ module _ (W : ℕ) (width : LegalWidth W) where
           omega arith,
           omega arith,
           name-means .lets (fromVirtual k) n (bit v ∷ bit t ∷ r ∷ vs) (h .type)
-          (flag-means .lets (fromTrait k) v (bit t ∷ r ∷ vs) tt
-          (flag-means .lets (wordFields W k) t (r ∷ vs) tt
-          (word-means .lets k r vs (h .word) a))),
+              (flag-means .lets (fromTrait k) v (bit t ∷ r ∷ vs) tt
+              (flag-means .lets (wordFields W k) t (r ∷ vs) tt
+              (word-means .lets k r vs (h .word) a))),
         )
 
     line-packs : (k : Fields) (vs : List ℕ) → LegalItem W (extension n v t r)
