@@ -1,14 +1,14 @@
 -- Each call accepts a legal schedule in the one form, where the other has room, and nothing else.
-use mathlib.Core.Bool.{Bool, true, false, _||_}
-use mathlib.Core.List.{List, [], _∷_, _++_, append-assoc, append-nil}
+use mathlib.Core.Bool.{Bool, true, false}
+use mathlib.Core.List.{List, [], _∷_, _++_, append-assoc, append-nil, cons≢nil}
 use mathlib.Core.Path.{_≡_, refl, sym, ap, ap₂, _∙_, subst}
 use Prim.Native.Nat.{ℕ, _+_, _*_, _/_, _%_, _≤_, _<_}
 use native.Mathlib.Nat.{mod-lt}
 use native.Mathlib.Omega.{arith}
 use borrow.Author.Tests.{le-ltb, ltb-false}
 use lib.Dec.{ltb}
-use lib.ListN.{length, replicate}
-use Rattle.lists.specs.Lists.{any, each}
+use lib.ListN.{length, getD, drop, replicate}
+use Rattle.lists.specs.Lists.{each}
 use Rattle.lists.specs.Tests.{by, neither, or-false-both}
 use Rattle.definitions.specs.Bits.{toBits, bitsOf, pack}
 use Rattle.definitions.specs.Records.{Schedule}
@@ -17,7 +17,7 @@ use Rattle.definitions.specs.Checks.{badFill}
 use Rattle.definitions.specs.Legal.{Every}
 use Rattle.definitions.specs.LegalSchedule.{leastWords, mostWords, LegalWidth, LegalSchedule}
 use Rattle.definitions.specs.ScheduleFields.{Form, packed, recorded, scheduleFields, readFields, writeFields}
-use Rattle.definitions.specs.Conversion.{Converted, turnedAway, badWidth, concluded, convert, readSchedule, writeSchedule}
+use Rattle.definitions.specs.Conversion.{Converted, turnedAway, badWidth, concluded, convert}
 use Rattle.definitions.specs.Values.{recordBytes, recordsOf, scheduleValues}
 use Rattle.bits.specs.NumberLaws.{toBits-split, toBits-low, bitsOf-pack}
 use Rattle.reading_laws.specs.Statements.{Bytes}
@@ -25,9 +25,13 @@ use Rattle.reading_laws.specs.Parsers.{done-only}
 use Rattle.reading_laws.specs.Packed.{length-pack, pack-bytes, fill, packed-only}
 use Rattle.reading_laws.specs.Rules.{none-set, fill-exactly}
 use Rattle.reading_laws.specs.RoundTrip.{fill-good}
-use Rattle.law_records.specs.Statements.{scheduleBytes, gives, CanRead, CanWrite, ReadsExactly, ReadsRecords, WritesExactly, WritesSchedule}
-use Rattle.law_records.specs.Walks.{Allowed, Wide, fields-codes, packed-wide, recorded-wide, recorded-bits, allowed-below}
+use Rattle.schedule_laws.specs.OneToOne.{schedule-fields, bytes-determine}
+use Rattle.law_records.specs.Statements.{scheduleBytes, gives, bitsIn, CanRead, CanWrite, ReadsExactly, ReadsRecords, ReadsOne, WritesExactly, WritesSchedule, WritesOne}
+use Rattle.law_records.specs.Walks.{Wide, fields-codes, packed-wide, recorded-wide, recorded-bits, allowed-below}
 use Rattle.law_records.specs.Grammar.{schedule-sound, legal-allowed, allowed-legal, legal-packs}
+
+abbrev pub numberOf : Converted → ℕ
+numberOf c = c .answer .number
 
 -- ---- W
 
@@ -62,11 +66,15 @@ records-packed vs h =
     (packed-only (each recordBytes vs) (each (toBits 16) vs) [] (records-bytes vs h)
     (records-bits vs ∙ sym (append-nil (each (toBits 16) vs))) (omega arith) refl)
 
+pub length-records : (vs : List ℕ) → length (each recordBytes vs) ≡ 2 * length vs
+length-records [] = refl
+length-records (v ∷ vs) = omega (arith, length-records vs)
+
 -- ---- in any form
 
 -- the bytes of a schedule in a form
 abbrev pub bytesIn : Form → ℕ → Schedule → List ℕ
-bytesIn form W s = pack (writeFields form (scheduleFields W) (scheduleValues s))
+bytesIn form W s = pack (bitsIn form W s)
 
 pub packed-bytes : (W : ℕ) (s : Schedule) → LegalSchedule W s → bytesIn packed W s ≡ scheduleBytes s
 packed-bytes W s h = ap pack (legal-packs W (h .width) s h)
@@ -142,10 +150,10 @@ module _ (from to : Form) (wide : Wide from) where
   pub convert-only : (W : ℕ) (source lent : List ℕ) → Bytes source → convert from to W source lent .answer .number ≡ 0 → (s : Schedule) × Converts from to W source lent s
   convert-only W source lent b e =
       by (badWidth W)
-      (λ q. absurd (omega (arith, sym e ∙ ap (λ (c : Converted). c .answer .number) (bad-width-away from to W source lent q))))
+      (λ q. absurd (omega (arith, sym e ∙ ap numberOf (bad-width-away from to W source lent q))))
       (λ q.
       go q (readFields from to (scheduleFields W) (8 * length lent) (bitsOf source)) refl
-      (ap (λ (c : Converted). c .answer .number) (sym (good-width-read from to W source lent q)) ∙ e))
+      (ap numberOf (sym (good-width-read from to W source lent q)) ∙ e))
     where
       go : badWidth W ≡ false → (r : Parsed (List ℕ)) → readFields from to (scheduleFields W) (8 * length lent) (bitsOf source) ≡ r
           → concluded (writeFields to (scheduleFields W)) r lent .answer .number ≡ 0 → (s : Schedule) × Converts from to W source lent s
@@ -153,7 +161,7 @@ module _ (from to : Form) (wide : Wide from) where
       go q (refused notAllowed) p n = absurd (omega (arith, n))
       go q (done vs rest) p n =
           by (badFill rest)
-          (λ f. absurd (omega (arith, sym n ∙ ap (λ (c : Converted). c .answer .number) (bad-fill-away (writeFields to (scheduleFields W)) vs rest lent f))))
+          (λ f. absurd (omega (arith, sym n ∙ ap numberOf (bad-fill-away (writeFields to (scheduleFields W)) vs rest lent f))))
           (λ f. convert-done W source lent vs rest b (good-width W q) p f)
 
 -- ---- the two calls
@@ -193,7 +201,7 @@ reads-exactly W bytes lent b = (
           room = subst (λ l. length l ≤ length lent) (recorded-bytes W s (c .legal)) (c .room);
         },
       ),
-  λ h. ap (λ (c : Converted). c .answer .number) (reads-records W bytes lent (h .0) (h .1)),
+  λ h. ap numberOf (reads-records W bytes lent (h .0) (h .1)),
 )
 
 pub writes-exactly : WritesExactly
@@ -209,5 +217,34 @@ writes-exactly W bytes lent b = (
           room = subst (λ l. length l ≤ length lent) (packed-bytes W s (c .legal)) (c .room);
         },
       ),
-  λ h. ap (λ (c : Converted). c .answer .number) (writes-schedule W bytes lent (h .0) (h .1)),
+  λ h. ap numberOf (writes-schedule W bytes lent (h .0) (h .1)),
 )
+
+-- ---- one schedule only
+
+-- two bytes each determine the values
+records-determine : (us vs : List ℕ) → each recordBytes us ≡ each recordBytes vs → us ≡ vs
+records-determine [] [] e = refl
+records-determine [] (v ∷ vs) e = absurd (cons≢nil (sym e))
+records-determine (u ∷ us) [] e = absurd (cons≢nil e)
+records-determine (u ∷ us) (v ∷ vs) e =
+    let h : u / 256 ≡ v / 256 = ap (λ l. getD l 0 0) e in
+    let l : u % 256 ≡ v % 256 = ap (λ l. getD l 1 0) e in
+    let q : u ≡ v = omega arith in
+    ap₂ (λ (x : ℕ) l. x ∷ l) q (records-determine us vs (ap (λ l. drop 2 l) e))
+
+pub reads-one : ReadsOne
+reads-one W W′ bytes lent s t h k = bytes-determine W W′ s t (h .legal) (k .legal) (sym (h .packed) ∙ k .packed)
+
+-- what is legal for W words is legal for as many as any sheet has
+legal-for-all : {W : ℕ} {s : Schedule} → LegalSchedule W s → LegalSchedule mostWords s
+legal-for-all h = let f = schedule-fields h in record { width = record { enough = omega arith; few = omega arith }; names = f .names; items = f .items }
+
+pub writes-one : WritesOne
+unfolding recordsOf
+writes-one W W′ bytes lent s t h k =
+    let e = records-determine (scheduleValues s) (scheduleValues t) (sym (h .recorded) ∙ k .recorded) in
+    let p = legal-for-all (h .legal) in
+    let q = legal-for-all (k .legal) in
+    bytes-determine mostWords mostWords s t p q
+    (sym (packed-bytes mostWords s p) ∙ ap (λ vs. pack (writeFields packed (scheduleFields mostWords) vs)) e ∙ packed-bytes mostWords t q)

@@ -1,17 +1,18 @@
 -- Schedules on which the statements speak of something: every construct, every limit, one that no writer of ours makes, and the
 -- worked example from its sheet.
 use mathlib.Core.Bool.{true, false}
-use mathlib.Core.List.{List, [], _∷_, _++_}
+use mathlib.Core.List.{List, [], _∷_, _++_, List·Memᴰ·head}
+use mathlib.Core.Logic.{inl, inr}
 use mathlib.Core.Path.{_≡_, refl, sym, ap, _∙_, subst}
-use Prim.Native.Nat.{ℕ, _≤_, _<_}
+use Prim.Native.Nat.{ℕ, _*_, _≤_, _<_}
 use native.Mathlib.Omega.{arith}
-use lib.ListN.{length, take, length-replicate}
-use Rattle.definitions.specs.Bits.{odd, toBits, num, packTo, pack}
-use Rattle.definitions.specs.Records.{makelistMark, deriveMark, Item, synthesized, extension, Schedule}
+use lib.ListN.{length, take, replicate}
+use Rattle.definitions.specs.Bits.{odd, toBits, bitsOf, num, packTo, pack}
+use Rattle.definitions.specs.Records.{synthesized, extension, Schedule}
 use Rattle.definitions.specs.Packing.{nameBits, parentBits, markBits, itemBits, orderBits, scheduleBits}
 use Rattle.definitions.specs.LegalSchedule.{LegalWidth, LegalSchedule}
 use Rattle.definitions.specs.Values.{nameValues, parentValues, markValues, itemValues, scheduleValues, recordsOf}
-use Rattle.definitions.specs.ScheduleFields.{packed, recorded, unwritten}
+use Rattle.definitions.specs.ScheduleFields.{times, packed, recorded, unwritten, scheduleFields, writeFields}
 use Rattle.definitions.specs.Conversion.{convert, readSchedule, writeSchedule}
 use Rattle.definitions.specs.Answer.{schedule, Input, standard, outcome}
 use Rattle.definitions.specs.Cases.{hex, lent, run}
@@ -19,10 +20,11 @@ use Rattle.reading_laws.specs.Statements.{Bytes}
 use Rattle.reading_laws.specs.Packed.{pack-bytes}
 use Rattle.reading_laws.specs.Examples.{workedBytes}
 use Rattle.schedule_laws.specs.Examples.{everything, everything-legal, sized, at-limits-legal, workedSchedule}
-use Rattle.law_records.specs.Statements.{scheduleBytes, gives, CanRead, CanWrite, Untouched, bytesGiven, ReadBack}
-use Rattle.law_records.specs.Exactly.{recorded-are-bytes, reads-records, writes-schedule, reads-exactly, writes-exactly}
-use Rattle.law_records.specs.Refused.{refusals-touch-nothing, width-first, no-room-for-records, no-room-for-schedule, cut-schedule-is-11, cut-records-are-11, more-bytes-are-12, more-records-are-12, room-always-suffices}
-use Rattle.law_records.specs.RoundTrips.{reads-one, writes-one, write-after-read, read-after-write, ours-is-read}
+use Rattle.law_records.specs.Statements.{scheduleBytes, gives, CanRead, CanWrite, roomEnds, bitsEnd, badValue, later, BadBehind, Untouched, bytesGiven, ReadBack}
+use Rattle.law_records.specs.Exactly.{recorded-are-bytes, reads-records, writes-schedule, reads-exactly, writes-exactly, reads-one, writes-one}
+use Rattle.law_records.specs.Refused.{refusals-touch-nothing, width-first, no-room-for-records, no-room-for-schedule, cut-schedule-is-11, cut-records-are-11, more-bytes-are-12, more-records-are-12, sixteen-times, room-always-suffices}
+use Rattle.law_records.specs.Faults.{reads-numbers, writes-numbers, walks-numbers}
+use Rattle.law_records.specs.RoundTrips.{write-after-read, read-after-write, ours-is-read}
 
 -- ---- every construct
 
@@ -55,8 +57,8 @@ everything-read : readSchedule 5 everythingBytes (lent 66) ≡ gives everythingR
 everything-read = reads-records 5 everythingBytes (lent 66) everything everything-can-read ∙ ap (λ r. gives r (lent 66)) everything-records
 
 -- to no other schedule
-everything-only : (t : Schedule) → CanRead 5 everythingBytes (lent 66) t → t ≡ everything
-everything-only t h = reads-one 5 everythingBytes (lent 66) t everything h everything-can-read
+everything-only : (W : ℕ) (t : Schedule) → CanRead W everythingBytes (lent 66) t → t ≡ everything
+everything-only W t h = reads-one W 5 everythingBytes (lent 66) t everything h everything-can-read
 
 -- and back
 everything-back : writeSchedule 5 (bytesGiven (readSchedule 5 everythingBytes (lent 66))) (lent 22) ≡ gives everythingBytes (lent 22)
@@ -71,8 +73,8 @@ records-are-bytes = subst Bytes everything-records (recorded-are-bytes 5 everyth
 records-accepted : writeSchedule 5 everythingRecords (lent 22) .answer .number ≡ 0
 records-accepted = writes-exactly 5 everythingRecords (lent 22) records-are-bytes .1 (everything, everything-can-write)
 
-records-only : (t : Schedule) → CanWrite 5 everythingRecords (lent 22) t → t ≡ everything
-records-only t h = writes-one 5 everythingRecords (lent 22) t everything h everything-can-write
+records-only : (W : ℕ) (t : Schedule) → CanWrite W everythingRecords (lent 22) t → t ≡ everything
+records-only W t h = writes-one W 5 everythingRecords (lent 22) t everything h everything-can-write
 
 records-back : readSchedule 5 (bytesGiven (writeSchedule 5 everythingRecords (lent 22))) (lent 66) ≡ gives everythingRecords (lent 66)
 records-back = read-after-write 5 everythingRecords (lent 22) (lent 66) records-are-bytes records-accepted (omega arith)
@@ -188,9 +190,52 @@ more-read = more-bytes-are-12 5 (lent 66) everything 0 [] (record { legal = ever
 more-written : writeSchedule 5 (recordsOf everything ++ 0 ∷ []) (lent 22) .answer .number ≡ 12
 more-written = more-records-are-12 5 (lent 22) everything 0 [] (record { legal = everything-legal; recorded = refl; room = everything-can-write .room })
 
--- the room decides nothing
+-- 16 times the bytes always suffice, and then the room decides nothing
+at-limits-sixteen : length (recordsOf largest) ≤ 16 * length (scheduleBytes largest)
+at-limits-sixteen = sixteen-times 200 largest at-limits-legal
+
 walked : readSchedule 5 everythingBytes (lent 352) .answer .number ≡ convert packed unwritten 5 everythingBytes [] .answer .number
 walked = room-always-suffices 5 everythingBytes (lent 352) (omega arith)
+
+-- ---- the first fault
+
+abbrev two : LegalWidth 2
+two = record { enough = omega arith; few = omega arith }
+
+-- 127 types into nothing: the room ends before the value is looked at
+room-first : readSchedule 2 (hex 1 0xff) [] .answer .number ≡ 11
+unfolding scheduleFields
+room-first = reads-numbers 2 (hex 1 0xff) [] .eleven .1 (two, roomEnds (omega arith))
+
+-- into two bytes
+value-then : readSchedule 2 (hex 1 0xff) (lent 2) .answer .number ≡ 12
+unfolding odd toBits bitsOf scheduleFields
+value-then = reads-numbers 2 (hex 1 0xff) (lent 2) .twelve .1 (inr (inl (two, badValue 127 (true ∷ []) (omega arith) refl (omega arith) (inr (omega arith)))))
+
+-- a record of 128 types, and no schedule to write to
+end-first : writeSchedule 2 (hex 2 0x0080) [] .answer .number ≡ 11
+unfolding scheduleFields
+end-first = writes-numbers 2 (hex 2 0x0080) [] .eleven .1 (two, roomEnds (omega arith))
+
+-- no types; the item count passes the end
+end-later : convert packed unwritten 2 (hex 2 0x0000) [] .answer .number ≡ 11
+unfolding odd toBits bitsOf times scheduleFields
+end-later = walks-numbers 2 (hex 2 0x0000) .eleven .1 (two, later 0 (replicate 9 false) (omega arith) refl (omega arith) (omega arith) (omega arith) (bitsEnd (omega arith)))
+
+set-bit : BadBehind packed recorded 2 (hex 3 0x000001) (lent 4)
+unfolding odd toBits bitsOf times scheduleFields writeFields scheduleValues
+set-bit = record {
+  s = record { order = []; items = [] };
+  rest = true ∷ [];
+  legal = record { width = two; names = record { enough = omega arith; few = omega arith; every = tt }; items = record { enough = omega arith; few = omega arith; every = tt } };
+  begins = refl;
+  room = omega arith;
+  bad = inr (List·Memᴰ·head refl);
+}
+
+-- no types, no items, and a bit behind them that is set
+set-behind : readSchedule 2 (hex 3 0x000001) (lent 4) .answer .number ≡ 12
+set-behind = reads-numbers 2 (hex 3 0x000001) (lent 4) .twelve .1 (inr (inr set-bit))
 
 -- ---- the worked example, from its sheet
 

@@ -2,7 +2,7 @@
 use mathlib.Core.Bool.{Bool, true, false}
 use mathlib.Core.List.{List, [], _∷_, _++_, append-assoc, append-nil}
 use mathlib.Core.Path.{_≡_, refl, sym, ap, ap₂, _∙_, subst}
-use Prim.Native.Nat.{ℕ, zero, suc, _-_, _^_, _≤_, _<_, zero-le}
+use Prim.Native.Nat.{ℕ, zero, suc, _^_, _≤_, _<_, zero-le}
 use native.Mathlib.Omega.{arith}
 use lib.ListN.{length}
 use Rattle.lists.specs.Lists.{each}
@@ -11,7 +11,7 @@ use Rattle.definitions.specs.Bits.{bit, odd, toBits}
 use Rattle.definitions.specs.Records.{Name, Mark, makelistMark, deriveMark, Item, synthesized, extension, Schedule}
 use Rattle.definitions.specs.Packing.{countedBits, nameBits, parentBits, markBits, itemBits, orderBits, itemCountBits, scheduleBits}
 use Rattle.definitions.specs.Legal.{Every, Counted, LegalName, LegalMark}
-use Rattle.definitions.specs.LegalSchedule.{mostWords, mostNames, mostItems, leastParents, mostParents, mostParentWords, mostMarks, LegalWidth, LegalParent, LegalItem, LegalSchedule}
+use Rattle.definitions.specs.LegalSchedule.{mostNames, mostItems, leastParents, mostParents, mostParentWords, mostMarks, LegalWidth, LegalParent, LegalItem, LegalSchedule}
 use Rattle.definitions.specs.ScheduleFields.{Fields, end, field, times, flagFields, wordFields, pick, nameFields, parentFields, markFields, marksFields, madeFields, lineFields, itemFields, scheduleFields, packed, writeFields}
 use Rattle.definitions.specs.Values.{countedValues, nameValues, parentValues, markValues, itemValues, scheduleValues}
 use Rattle.law_records.specs.Walks.{Allowed, Sound}

@@ -1,16 +1,16 @@
 -- What is refused, with which number, and that a refusal leaves what was lent.
-use mathlib.Core.Bool.{Bool, true, false}
+use mathlib.Core.Bool.{Bool, false}
 use mathlib.Core.List.{List, [], _∷_, _++_, append-assoc, List·Memᴰ·head, List·Memᴰ·tail}
 use mathlib.Core.Logic.{_⊎_, inl, inr, ⊎-elim}
 use mathlib.Core.Path.{_≡_, refl, sym, ap, _∙_, subst}
 use Prim.Native.Nat.{ℕ, _*_, _≤_, _<_}
 use native.Mathlib.Omega.{arith}
 use borrow.Author.Tests.{le-leb}
-use lib.ListN.{length, take, drop, replicate, length-append, length-take, take-append-drop}
+use lib.ListN.{length, take, drop, replicate, length-append, take-append-drop}
 use lib.Seq
 use Rattle.lists.specs.Lists.{In, any}
 use Rattle.lists.specs.Tests.{by, or-left}
-use Rattle.definitions.specs.Bits.{bitsOf, pack}
+use Rattle.definitions.specs.Bits.{bitsOf, size, pack}
 use Rattle.definitions.specs.Records.{Schedule}
 use Rattle.definitions.specs.Parse.{Fault, past, notAllowed, Parsed, done, refused}
 use Rattle.definitions.specs.Checks.{badFill}
@@ -20,13 +20,10 @@ use Rattle.definitions.specs.Conversion.{Converted, turnedAway, badWidth, concl
 use Rattle.definitions.specs.Values.{scheduleValues, recordsOf}
 use Rattle.bits.specs.NumberLaws.{length-bitsOf, bitsOf-append, bitsOf-pack}
 use Rattle.reading_laws.specs.Packed.{length-pack, fill}
-use Rattle.law_records.specs.Statements.{scheduleBytes, gives, ThreeNumbers, Untouched, RefusalsTouchNothing, WidthFirst, NoRoomForRecords, NoRoomForSchedule, CutScheduleIs11, CutRecordsAre11, MoreBytesAre12, MoreRecordsAre12, RoomAlwaysSuffices}
-use Rattle.law_records.specs.Walks.{Wide, fields-codes, too-short, packed-wide, recorded-wide, room-enough}
+use Rattle.law_records.specs.Statements.{scheduleBytes, gives, ThreeNumbers, RefusalsTouchNothing, WidthFirst, NoRoomForRecords, NoRoomForSchedule, CutScheduleIs11, CutRecordsAre11, MoreBytesAre12, MoreRecordsAre12, SixteenTimes, RoomAlwaysSuffices}
+use Rattle.law_records.specs.Walks.{Wide, fields-codes, too-short, packed-wide, recorded-wide, values-few, room-enough}
 use Rattle.law_records.specs.Grammar.{schedule-sound, legal-allowed}
-use Rattle.law_records.specs.Exactly.{width-good, good-width, bad-width-away, good-width-read, bad-fill-away, good-fill-gives, bytesIn, packed-bytes, recorded-bytes, Converts, can-read, can-write}
-
-abbrev numberOf : Converted → ℕ
-numberOf c = c .answer .number
+use Rattle.law_records.specs.Exactly.{numberOf, width-good, good-width, bad-width-away, good-width-read, bad-fill-away, good-fill-gives, length-records, bytesIn, packed-bytes, recorded-bytes, can-read, can-write}
 
 -- ---- every outcome
 
@@ -164,6 +161,16 @@ more-records-are-12 W lent s b more h =
     (bytes-behind recorded packed recorded-wide W lent s (h .legal) b more (can-write h .room))
 
 -- ---- a walk without records
+
+pub sixteen-times : SixteenTimes
+unfolding recordsOf
+sixteen-times W s h =
+    let F = scheduleFields W in
+    let vs = scheduleValues s in
+    let n = length-records vs in
+    let m = values-few F vs (schedule-sound W (h .width)) (legal-allowed W (h .width) s h) in
+    let e : length (scheduleBytes s) ≡ size (length (writeFields packed F vs)) = ap length (sym (packed-bytes W s h)) ∙ length-pack (writeFields packed F vs) in
+    omega arith
 
 -- the number does not go by what is written, nor by where
 same-number : (f g : List ℕ → List Bool) (r : Parsed (List ℕ)) (lent other : List ℕ) → concluded f r lent .answer .number ≡ concluded g r other .answer .number

@@ -1,44 +1,15 @@
 -- What was read is written back, what was written is read back, and so is what our writer makes.
-use mathlib.Core.List.{List, [], _∷_, _++_, cons≢nil}
-use mathlib.Core.Path.{_≡_, refl, sym, ap, ap₂, _∙_, subst}
-use Prim.Native.Nat.{ℕ, _/_, _%_, _≤_}
-use native.Mathlib.Omega.{arith}
-use lib.ListN.{length, getD, take, drop}
+use mathlib.Core.List.{List}
+use mathlib.Core.Path.{_≡_, refl, sym, ap, _∙_, subst}
+use Prim.Native.Nat.{ℕ, _≤_}
+use lib.ListN.{length, drop}
 use lib.Seq
-use Rattle.lists.specs.Lists.{each}
-use Rattle.definitions.specs.Bits.{pack}
-use Rattle.definitions.specs.Records.{Schedule}
-use Rattle.definitions.specs.LegalSchedule.{LegalSchedule}
-use Rattle.definitions.specs.ScheduleFields.{packed, scheduleFields, writeFields}
-use Rattle.definitions.specs.Conversion.{Converted, readSchedule, writeSchedule}
-use Rattle.definitions.specs.Values.{recordBytes, recordsOf, scheduleValues}
-use Rattle.schedule_laws.specs.OneToOne.{bytes-determine}
+use Rattle.definitions.specs.ScheduleFields.{packed}
+use Rattle.definitions.specs.Conversion.{readSchedule, writeSchedule}
+use Rattle.definitions.specs.Values.{recordsOf}
 use Rattle.schedule_laws.specs.Listed.{listed-exactly}
-use Rattle.law_records.specs.Statements.{scheduleBytes, gives, CanRead, CanWrite, ReadsOne, WritesOne, bytesGiven, WriteAfterRead, ReadAfterWrite, OursIsRead}
-use Rattle.law_records.specs.Exactly.{packed-bytes, reads-records, writes-schedule, reads-exactly, writes-exactly}
-
--- ---- one schedule only
-
--- two bytes each determine the values
-records-determine : (us vs : List ℕ) → each recordBytes us ≡ each recordBytes vs → us ≡ vs
-records-determine [] [] e = refl
-records-determine [] (v ∷ vs) e = absurd (cons≢nil (sym e))
-records-determine (u ∷ us) [] e = absurd (cons≢nil e)
-records-determine (u ∷ us) (v ∷ vs) e =
-    let h : u / 256 ≡ v / 256 = ap (λ l. getD l 0 0) e in
-    let l : u % 256 ≡ v % 256 = ap (λ l. getD l 1 0) e in
-    let q : u ≡ v = omega arith in
-    ap₂ (λ (x : ℕ) l. x ∷ l) q (records-determine us vs (ap (λ l. drop 2 l) e))
-
-pub reads-one : ReadsOne
-reads-one W bytes lent s t h k = bytes-determine W W s t (h .legal) (k .legal) (sym (h .packed) ∙ k .packed)
-
-pub writes-one : WritesOne
-unfolding recordsOf
-writes-one W bytes lent s t h k =
-    let e = records-determine (scheduleValues s) (scheduleValues t) (sym (h .recorded) ∙ k .recorded) in
-    bytes-determine W W s t (h .legal) (k .legal)
-    (sym (packed-bytes W s (h .legal)) ∙ ap (λ vs. pack (writeFields packed (scheduleFields W) vs)) e ∙ packed-bytes W t (k .legal))
+use Rattle.law_records.specs.Statements.{scheduleBytes, gives, bytesGiven, WriteAfterRead, ReadAfterWrite, OursIsRead}
+use Rattle.law_records.specs.Exactly.{reads-records, writes-schedule, reads-exactly, writes-exactly}
 
 -- ---- there and back
 

@@ -15,9 +15,9 @@ use Rattle.lists.specs.Tests.{by}
 use Rattle.definitions.specs.Bits.{toBits}
 use Rattle.definitions.specs.Parse.{past, Parsed, done, refused, Parser, next, _>>=_, pure, refuse, choose, fieldOnto, allowed, between}
 use Rattle.definitions.specs.Legal.{Every}
-use Rattle.definitions.specs.ScheduleFields.{Fields, end, field, Form, packed, recorded, unwritten, fits, readFields, writeFields}
+use Rattle.definitions.specs.ScheduleFields.{Fields, end, field, Form, packed, recorded, unwritten, readFields, writeFields}
 use Rattle.bits.specs.NumberLaws.{length-toBits}
-use Rattle.reading_laws.specs.Parsers.{Reads, Only, Exact, Codes, Told, reads-pure, only-pure, between-codes, reads-next, reads-last, only-next, only-last, done-only, cut-short}
+use Rattle.reading_laws.specs.Parsers.{Reads, Only, Exact, Codes, reads-pure, only-pure, between-codes, reads-next, reads-last, only-next, only-last, done-only, cut-short}
 
 -- values that the fields allow, one for each
 unfoldable pub Allowed : Fields → List ℕ → Type 0
@@ -204,6 +204,15 @@ allowed-below end (v ∷ vs) s h = absurd h
 allowed-below (field n least most follow) [] s h = absurd h
 allowed-below (field n least most follow) (v ∷ vs) s h =
     (omega (arith, Pow.pow-mono {j = 16} (s .1), s .2, h .1), allowed-below (follow v) vs (s .3 v (h .1)) (h .2))
+
+-- there are no more values than bits
+pub values-few : (F : Fields) (vs : List ℕ) → Sound F → Allowed F vs → length vs ≤ length (writeFields packed F vs)
+unfolding Allowed Sound writeFields
+values-few end [] s h = zero-le
+values-few end (v ∷ vs) s h = absurd h
+values-few (field n least most follow) [] s h = absurd h
+values-few (field n least most follow) (v ∷ vs) s h =
+    omega (arith, s .0, values-few (follow v) vs (s .3 v (h .1)) (h .2), length-cons packed n v (writeFields packed (follow v) vs))
 
 -- ---- the room
 

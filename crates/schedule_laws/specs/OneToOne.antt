@@ -54,7 +54,7 @@ module _ {W X : ℕ} (le : W ≤ X) where
 order-fields : {W : ℕ} {ns : List Name} → LegalOrder W ns → LegalNames mostWords ns
 order-fields {ns = ns} h = names-more (h .width .few) ns (h .names)
 
-schedule-fields : {W : ℕ} {s : Schedule} → LegalSchedule W s → WithinFields mostWords s
+pub schedule-fields : {W : ℕ} {s : Schedule} → LegalSchedule W s → WithinFields mostWords s
 schedule-fields {s = s} h = record {
   names = names-more (h .width .few) (s .order) (h .names);
   items = counted-more (item-more (h .width .few)) (s .items) (h .items);
