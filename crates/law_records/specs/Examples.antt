@@ -22,7 +22,7 @@ use Rattle.reading_laws.specs.Examples.{workedBytes}
 use Rattle.schedule_laws.specs.Examples.{everything, everything-legal, sized, at-limits-legal, workedSchedule}
 use Rattle.law_records.specs.Statements.{scheduleBytes, gives, CanRead, CanWrite, roomEnds, bitsEnd, badValue, later, BadBehind, Untouched, bytesGiven, ReadBack}
 use Rattle.law_records.specs.Exactly.{recorded-are-bytes, reads-records, writes-schedule, reads-exactly, writes-exactly, reads-one, writes-one}
-use Rattle.law_records.specs.Refused.{refusals-touch-nothing, width-first, no-room-for-records, no-room-for-schedule, cut-schedule-is-11, cut-records-are-11, more-bytes-are-12, more-records-are-12, sixteen-times, room-always-suffices}
+use Rattle.law_records.specs.Refused.{refusals-touch-nothing, width-first, no-room-for-records, no-room-for-schedule, cut-schedule-is-11, cut-records-are-11, more-bytes-are-12, more-records-are-12, order-only-is-11, sixteen-times, room-always-suffices}
 use Rattle.law_records.specs.Faults.{reads-numbers, writes-numbers, walks-numbers}
 use Rattle.law_records.specs.RoundTrips.{write-after-read, read-after-write, ours-is-read}
 
@@ -189,6 +189,10 @@ more-read = more-bytes-are-12 5 (lent 66) everything 0 [] (record { legal = ever
 
 more-written : writeSchedule 5 (recordsOf everything ++ 0 ∷ []) (lent 22) .answer .number ≡ 12
 more-written = more-records-are-12 5 (lent 22) everything 0 [] (record { legal = everything-legal; recorded = refl; room = everything-can-write .room })
+
+-- the names alone
+order-read : readSchedule 5 (pack (orderBits (everything .order))) (lent 66) .answer .number ≡ 11
+order-read = order-only-is-11 5 (lent 66) (everything .order) (record { width = everything-legal .width; names = everything-legal .names })
 
 -- 16 times the bytes always suffice, and then the room decides nothing
 at-limits-sixteen : length (recordsOf largest) ≤ 16 * length (scheduleBytes largest)

@@ -1,28 +1,30 @@
 -- What is refused, with which number, and that a refusal leaves what was lent.
 use mathlib.Core.Bool.{Bool, false}
-use mathlib.Core.List.{List, [], _∷_, _++_, append-assoc, List·Memᴰ·head, List·Memᴰ·tail}
+use mathlib.Core.List.{List, [], _∷_, _++_, append-assoc, append-nil, List·Memᴰ·head, List·Memᴰ·tail}
 use mathlib.Core.Logic.{_⊎_, inl, inr, ⊎-elim}
 use mathlib.Core.Path.{_≡_, refl, sym, ap, _∙_, subst}
-use Prim.Native.Nat.{ℕ, _*_, _≤_, _<_}
+use Prim.Native.Nat.{ℕ, zero, suc, _+_, _*_, _^_, _≤_, _<_, zero-le}
+use native.Mathlib.Nat.{zero-div}
 use native.Mathlib.Omega.{arith}
 use borrow.Author.Tests.{le-leb}
 use lib.ListN.{length, take, drop, replicate, length-append, take-append-drop}
 use lib.Seq
 use Rattle.lists.specs.Lists.{In, any}
 use Rattle.lists.specs.Tests.{by, or-left}
-use Rattle.definitions.specs.Bits.{bitsOf, size, pack}
-use Rattle.definitions.specs.Records.{Schedule}
+use Rattle.definitions.specs.Bits.{odd, toBits, bitsOf, size, pack}
+use Rattle.definitions.specs.Records.{Name, Schedule}
 use Rattle.definitions.specs.Parse.{Fault, past, notAllowed, Parsed, done, refused}
+use Rattle.definitions.specs.Packing.{orderBits, itemCountBits, scheduleBits}
 use Rattle.definitions.specs.Checks.{badFill}
-use Rattle.definitions.specs.LegalSchedule.{LegalSchedule}
+use Rattle.definitions.specs.LegalSchedule.{LegalOrder, LegalSchedule}
 use Rattle.definitions.specs.ScheduleFields.{Form, packed, recorded, unwritten, scheduleFields, readFields, writeFields}
 use Rattle.definitions.specs.Conversion.{Converted, turnedAway, badWidth, concluded, convert, readSchedule, writeSchedule}
 use Rattle.definitions.specs.Values.{scheduleValues, recordsOf}
-use Rattle.bits.specs.NumberLaws.{length-bitsOf, bitsOf-append, bitsOf-pack}
+use Rattle.bits.specs.NumberLaws.{length-toBits, length-bitsOf, bitsOf-append, bitsOf-pack}
 use Rattle.reading_laws.specs.Packed.{length-pack, fill}
-use Rattle.law_records.specs.Statements.{scheduleBytes, gives, ThreeNumbers, RefusalsTouchNothing, WidthFirst, NoRoomForRecords, NoRoomForSchedule, CutScheduleIs11, CutRecordsAre11, MoreBytesAre12, MoreRecordsAre12, SixteenTimes, RoomAlwaysSuffices}
+use Rattle.law_records.specs.Statements.{scheduleBytes, gives, bitsIn, ThreeNumbers, RefusalsTouchNothing, WidthFirst, NoRoomForRecords, NoRoomForSchedule, CutScheduleIs11, CutRecordsAre11, MoreBytesAre12, MoreRecordsAre12, OrderOnlyIs11, SixteenTimes, RoomAlwaysSuffices}
 use Rattle.law_records.specs.Walks.{Wide, fields-codes, too-short, packed-wide, recorded-wide, values-few, room-enough}
-use Rattle.law_records.specs.Grammar.{schedule-sound, legal-allowed}
+use Rattle.law_records.specs.Grammar.{schedule-sound, legal-allowed, legal-packs}
 use Rattle.law_records.specs.Exactly.{numberOf, width-good, good-width, bad-width-away, good-width-read, bad-fill-away, good-fill-gives, length-records, bytesIn, packed-bytes, recorded-bytes, can-read, can-write}
 
 -- ---- every outcome
@@ -159,6 +161,51 @@ pub more-records-are-12 : MoreRecordsAre12
 more-records-are-12 W lent s b more h =
     subst (λ l. writeSchedule W (l ++ b ∷ more) lent .answer .number ≡ 12) (recorded-bytes W s (h .legal))
     (bytes-behind recorded packed recorded-wide W lent s (h .legal) b more (can-write h .room))
+
+-- ---- an order-only listing
+
+-- the bits of 0 are zeros, and so are the first of them
+zero-bits : (n : ℕ) → toBits n 0 ≡ replicate n false
+unfolding odd toBits
+zero-bits zero = refl
+zero-bits (suc n) = rw (zero-div (2 ^ n), zero-bits n) refl
+
+take-zeros : (m n : ℕ) → m ≤ n → take m (replicate n false) ≡ replicate m false
+take-zeros zero n h = refl
+take-zeros (suc m) zero h = absurd (omega arith)
+take-zeros (suc m) (suc n) h = ap (λ (l : List Bool). false ∷ l) (take-zeros m n (omega arith))
+
+-- its bytes are those of the names without items, cut within the item count
+module _ (W : ℕ) (ns : List Name) (h : LegalOrder W ns) where
+  abbrev named : Schedule
+  named = record { order = ns; items = [] }
+
+  named-legal : LegalSchedule W named
+  named-legal = record { width = h .width; names = h .names; items = record { enough = zero-le; few = zero-le; every = tt } }
+
+  named-bits : bitsIn packed W named ≡ orderBits ns ++ toBits itemCountBits 0
+  unfolding scheduleBits
+  named-bits = legal-packs W (h .width) named named-legal ∙ ap (λ l. orderBits ns ++ l) (append-nil (toBits itemCountBits 0))
+
+  order-bits : bitsOf (pack (orderBits ns)) ≡ take (length (orderBits ns) + fill (orderBits ns)) (bitsIn packed W named ++ [])
+  order-bits =
+      let bs = orderBits ns in
+      bitsOf-pack bs
+      ∙ ap (λ l. bs ++ l) (sym (take-zeros (fill bs) itemCountBits (omega arith)) ∙ ap (take (fill bs)) (sym (zero-bits itemCountBits)))
+      ∙ sym (Seq.take-append-add bs (toBits itemCountBits 0) (fill bs))
+      ∙ ap (take (length bs + fill bs)) (sym named-bits ∙ sym (append-nil (bitsIn packed W named)))
+
+pub order-only-is-11 : OrderOnlyIs11
+order-only-is-11 W lent ns h =
+    let F = scheduleFields W in
+    let bs = orderBits ns in
+    let n : length (bitsIn packed W (named W ns h)) ≡ length bs + itemCountBits =
+    ap length (named-bits W ns h) ∙ length-append bs (toBits itemCountBits 0) ∙ ap (λ k. length bs + k) (length-toBits itemCountBits 0) in
+    let e : readFields packed recorded F (8 * length lent) (bitsOf (pack bs)) ≡ refused past =
+    ap (readFields packed recorded F (8 * length lent)) (order-bits W ns h)
+    ∙ too-short packed recorded packed-wide F (8 * length lent) (scheduleValues (named W ns h)) [] (length bs + fill bs) (schedule-sound W (h .width))
+    (legal-allowed W (h .width) (named W ns h) (named-legal W ns h)) (inl (omega arith)) in
+    ap numberOf (good-width-read packed recorded W (pack bs) lent (width-good (h .width)) ∙ ap (λ r. concluded (writeFields recorded F) r lent) e)
 
 -- ---- a walk without records
 

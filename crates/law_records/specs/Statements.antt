@@ -9,10 +9,10 @@ use lib.ListN.{length, take}
 use Rattle.lists.specs.Lists.{In}
 use Rattle.definitions.specs.Bits.{toBits, bitsOf, pack}
 use Rattle.definitions.specs.Parse.{Fault, past, notAllowed}
-use Rattle.definitions.specs.Records.{Sheet, Schedule}
+use Rattle.definitions.specs.Records.{Name, Sheet, Schedule}
 use Rattle.definitions.specs.Map.{typeMapOf}
-use Rattle.definitions.specs.Packing.{scheduleBits}
-use Rattle.definitions.specs.LegalSchedule.{LegalWidth, LegalSchedule}
+use Rattle.definitions.specs.Packing.{orderBits, scheduleBits}
+use Rattle.definitions.specs.LegalSchedule.{LegalWidth, LegalOrder, LegalSchedule}
 use Rattle.definitions.specs.Relisted.{Holds}
 use Rattle.definitions.specs.Answer.{schedule, Input, overwrite, scheduleOf, outcome}
 use Rattle.definitions.specs.ScheduleFields.{Fields, field, Form, packed, recorded, unwritten, scheduleFields, writeFields}
@@ -185,6 +185,12 @@ abbrev pub MoreRecordsAre12 : Type 0
 MoreRecordsAre12 =
     (W : ℕ) (lent : List ℕ) (s : Schedule) (b : ℕ) (more : List ℕ) → CanWrite W (recordsOf s) lent s →
     writeSchedule W (recordsOf s ++ b ∷ more) lent .answer .number ≡ 12
+
+-- What an order-only call lists has no item count: as a schedule it is 11, whatever the room is (FORMAT 6.5).
+abbrev pub OrderOnlyIs11 : Type 0
+OrderOnlyIs11 =
+    (W : ℕ) (lent : List ℕ) (ns : List Name) → LegalOrder W ns →
+    readSchedule W (pack (orderBits ns)) lent .answer .number ≡ 11
 
 -- The records of a legal schedule are at most 16 times its bytes.
 abbrev pub SixteenTimes : Type 0
