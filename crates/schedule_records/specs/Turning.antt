@@ -1,0 +1,96 @@
+-- What the functions that turn one form of a schedule into the other owe.
+use mathlib.Core.Bool.{Bool, true, false, not, cond}
+use mathlib.Core.List.{List, [], _++_}
+use mathlib.Core.Path.{_≡_}
+use Prim.Native.Nat.{ℕ, _+_, _*_, _-_, _^_, _≤_, _<_}
+use lib.ListN.{length, drop}
+use Rattle.definitions.specs.Bits.{bitsOf}
+use Rattle.definitions.specs.Parse.{Fault, past, notAllowed, Parsed, done, refused, Parser, refuse, choose, between}
+use Rattle.definitions.specs.Checks.{badFill}
+use Rattle.definitions.specs.ScheduleFields.{Fields, Form, packed, recorded, readFields, writeFields, scheduleFields}
+use Rattle.definitions.specs.Conversion.{Converted, scheduleFault, turnedAway, written}
+use Rattle.bits.specs.Writing.{put}
+use Rattle.answers.specs.declared.Answer.{Answer}
+use Rattle.answers.specs.Answers.{answerOf, caseOf}
+use Rattle.schedule_fields.specs.declared.Place.{Place}
+use Rattle.schedule_fields.specs.declared.Rule.{Rule}
+use Rattle.schedule_fields.specs.Places.{fieldsAt, fieldsLeft}
+use Rattle.schedule_records.specs.declared.Met.{Met}
+use Rattle.schedule_records.specs.declared.Passed.{Passed}
+
+-- ---- one field
+
+-- The two forms (FORMAT 10.2).
+abbrev pub formOf : Bool → Form
+formOf true = packed
+formOf false = recorded
+
+-- A field where `short` tells that the other form has no room for it: both ends before its value (FORMAT 10.3).
+abbrev pub head : Bool → ℕ → ℕ → ℕ → Parser ℕ
+head short n least most = choose short (refuse past) (between n least most)
+
+-- The field of n bits at p came to r.
+pub record Meets (short : Bool) (n : ℕ) (rule : Rule) (source : List ℕ) (p : ℕ) (r : Met) : Type 0 where
+  pub refused : 0 < r .number
+      → (f : Fault) × (r .number ≡ scheduleFault f) × (head short n (rule .least) (rule .most) (drop p (bitsOf source)) ≡ Parsed.refused f)
+  pub value : r .number ≤ 0
+      → (head short n (rule .least) (rule .most) (drop p (bitsOf source)) ≡ done (r .value) (drop (p + n) (bitsOf source)))
+      × (r .value ≤ rule .most) × (p + n ≤ 8 * length source) × (short ≡ false)
+
+-- ---- all fields
+
+-- What was read, as the bits that it has in the other form.
+abbrev pub mapped : (List ℕ → List Bool) → Parsed (List ℕ) → Parsed (List Bool)
+mapped f (done vs rest) = done (f vs) rest
+mapped f (refused e) = refused e
+
+-- What fields come to, with the bits xs made of those before them.
+unfoldable pub left : Form → Form → Fields → List Bool → ℕ → Parser (List Bool)
+left from to f xs room bs = mapped (λ vs. xs ++ writeFields to f vs) (readFields from to f room bs)
+
+-- What all fields of a source come to where `bytes` bytes are lent.
+abbrev pub whole : ℕ → Bool → List ℕ → ℕ → Parsed (List Bool)
+whole W reading source bytes = left (formOf reading) (formOf (not reading)) (scheduleFields W) [] (8 * bytes) (bitsOf source)
+
+-- Behind the last field no bit is set and no byte follows (FORMAT 10.3).
+abbrev pub filled : Parsed (List Bool) → Parsed (List Bool)
+filled (done xs rest) = cond (badFill rest) (refused notAllowed) (done xs rest)
+filled (refused f) = refused f
+
+-- What is told of them.
+abbrev pub told : Parsed (List Bool) → List ℕ → Converted
+told (done xs rest) lent = written xs lent
+told (refused f) lent = turnedAway f lent
+
+-- The most bits that a schedule has in either form: no field has more than a record.
+abbrev pub mostBits : ℕ
+mostBits = 16 * fieldsLeft Place.Names
+
+-- Before the field at a place, with p bits of the source read and q bits of the target made. With the pen down they were written.
+pub record Going (W : ℕ) (reading down : Bool) (source lent now : List ℕ) (place : Place) (p q : ℕ) : Type 0 where
+  pub bits : List Bool
+  pub same : whole W reading source (length lent)
+      ≡ left (formOf reading) (formOf (not reading)) (fieldsAt W place) bits (8 * length lent - q) (drop p (bitsOf source))
+  pub long : q ≡ length bits
+  pub wrote : now ≡ cond down (put lent 0 bits) lent
+  pub read : p ≤ 8 * length source
+  pub fits : q ≤ 8 * length lent
+  pub fewRead : p + 16 * fieldsLeft place ≤ mostBits
+  pub fewWritten : q + 16 * fieldsLeft place ≤ mostBits
+
+-- All fields were gone through, and came to r; `bits` are those of the other form.
+pub record Passes (W : ℕ) (reading down : Bool) (source before after : List ℕ) (r : Passed) : Type 0 where
+  pub untouched : down ≡ false → after ≡ before
+  pub refused : 0 < r .number → (f : Fault) × (r .number ≡ scheduleFault f) × (filled (whole W reading source (length before)) ≡ Parsed.refused f)
+  pub accepted : r .number ≤ 0
+      → (xs : List Bool) × (rest : List Bool) × (filled (whole W reading source (length before)) ≡ done xs rest)
+      × (r .bits ≡ length xs) × (after ≡ cond down (put before 0 xs) before) × (r .bits ≤ 8 * length before) × (r .bits ≤ mostBits)
+
+-- ---- a call
+
+-- What a call promises where o is due: the parts and the lent slice at exit are those of o, r is the case of its number, and the
+-- size is a number of 32 bits.
+pub record Converts (r : Answer) (output : List ℕ) (o : Converted) : Type 0 where
+  pub outcome : record { answer = answerOf r; output = output } ≡ o
+  pub case : r ≡ caseOf (answerOf r)
+  pub small : answerOf r .size < 2 ^ 32

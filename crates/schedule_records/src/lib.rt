@@ -1,0 +1,176 @@
+// The two calls that turn a packed schedule into records, and records into a packed schedule (FORMAT 10). Both are one loop over
+// the fields: first it looks, and where nothing is to be refused it goes again and writes.
+use answers::Answer;
+use schedule_fields::Place;
+use schedule_fields::Rule;
+ghost use mathlib.Core.Bool.{true, false, not};
+ghost use mathlib.Core.Path.{_≡_};
+ghost use Prim.Native.Nat.{_+_, _*_, _^_, _≤_, _<_};
+ghost use lib.Dec.{ltb};
+ghost use lib.ListN.{length, drop};
+ghost use Rattle.definitions.specs.Bits.{bitsOf};
+ghost use Rattle.definitions.specs.Checks.{badFill};
+ghost use Rattle.definitions.specs.LegalSchedule.{LegalWidth};
+ghost use Rattle.definitions.specs.Conversion.{badWidth, convert, readSchedule, writeSchedule};
+ghost use Rattle.schedule_records.specs.Turning.{formOf, Meets, Passes, Converts};
+
+// W, the number of words of the sheet that a schedule belongs to, is 2 to 200 (FORMAT 1.2).
+const LEAST_WORDS: usize = 2;
+const MOST_WORDS: usize = 200;
+
+// The refusals: a field or a record passes an end; W, a value or the fill is not allowed (FORMAT 10.3).
+const PAST: usize = 11;
+const NOT_ALLOWED: usize = 12;
+
+// The bits of a record (FORMAT 10.2).
+const RECORD: usize = 16;
+
+// What a field comes to: its value, or the number of a refusal.
+pub struct Met {
+    pub number: usize,
+    pub value: usize,
+}
+
+// What all fields come to: how many bits they have in the other form, or the number of a refusal.
+pub struct Passed {
+    pub number: usize,
+    pub bits: usize,
+}
+
+// How wide a field of n bits is in a form, packed or a record (FORMAT 10.2).
+fn in_form(packed: bool, n: usize) -> usize
+    ensures { λ r. ⌜ r ≡ formOf packed n ⌝ }
+{
+    if packed { n } else { RECORD }
+}
+
+// Whether n bits at a place pass the end of so many bytes. Bytes are compared: their bits may be more than a number counts.
+fn passes_end(bytes: usize, at: usize, n: usize) -> bool
+    requires { ⌜ at + n + 7 < 2 ^ 64 ⌝ }
+    ensures { λ r. ⌜ r ≡ ltb (8 * bytes) (at + n) ⌝ }
+{
+    bytes < (at + n + 7) / 8
+}
+
+// The n bits at a place as the value of a field, where `short` tells that the other form has no room for it: both ends before the
+// value (FORMAT 10.3).
+fn meet(source: &[u8], at: usize, n: usize, short: bool, rule: Rule) -> Met
+    requires { ⌜ (0 < n) × (n ≤ 16) × (at + n + 7 < 2 ^ 64) ⌝ }
+    ensures { λ r. ⌜ Meets short n rule (now (source .entry)) at r ⌝ }
+{
+    if short {
+        return Met {
+            number: PAST,
+            value: 0,
+        };
+    }
+    if passes_end(source.len(), at, n) {
+        return Met {
+            number: PAST,
+            value: 0,
+        };
+    }
+    let value = sheet_window::wide(source, at, n) as usize;
+    if value < rule.least {
+        return Met {
+            number: NOT_ALLOWED,
+            value: 0,
+        };
+    }
+    if rule.most < value {
+        return Met {
+            number: NOT_ALLOWED,
+            value: 0,
+        };
+    }
+    Met {
+        number: 0,
+        value: value,
+    }
+}
+
+// Whether a byte or a set bit stands behind the last field (FORMAT 10.3).
+fn is_bad_fill(source: &[u8], at: usize) -> bool
+    requires { ⌜ (at ≤ 8 * length (now source)) × (at + 7 < 2 ^ 64) ⌝ }
+    ensures { λ r. ⌜ r ≡ badFill (drop at (bitsOf (now (source .entry)))) ⌝ }
+{
+    let bytes = (at + 7) / 8;
+    if bytes < source.len() {
+        return true;
+    }
+    let left = bytes * 8 - at;
+    if left == 0 {
+        return false;
+    }
+    0 < sheet_window::wide(source, at, left)
+}
+
+// All fields of a source in one form, into a target in the other: packed into records where `reading`, else records into packed.
+// With the pen up the target is not touched.
+fn pass(w: usize, source: &[u8], target: &mut [u8], reading: bool, down: bool) -> Passed
+    requires { ⌜ LegalWidth w ⌝ }
+    ensures { λ r. ⌜ Passes w reading down (now (source .entry)) (now (target .entry)) (now (target .exit)) r ⌝ }
+{
+    let room = target.len();
+    let mut place = Place::Names;
+    let mut at = 0;
+    let mut to = 0;
+    let mut rule = schedule_fields::rule_at(place, w);
+    while rule.width != 0 {
+        let n = in_form(reading, rule.width);
+        let m = in_form(!reading, rule.width);
+        let met = meet(source, at, n, passes_end(room, to, m), rule);
+        if met.number != 0 {
+            return Passed {
+                number: met.number,
+                bits: 0,
+            };
+        }
+        at += n;
+        to = item_pen::put(target, to, down, m, met.value as u64);
+        place = schedule_fields::next(place, met.value);
+        rule = schedule_fields::rule_at(place, w);
+    }
+    if is_bad_fill(source, at) {
+        return Passed {
+            number: NOT_ALLOWED,
+            bits: 0,
+        };
+    }
+    Passed {
+        number: 0,
+        bits: to,
+    }
+}
+
+// W first; then all fields are looked at, and only where none is refused they are written (FORMAT 10.3, 10.4).
+fn turn(w: usize, source: &[u8], target: &mut [u8], reading: bool) -> Answer
+    ensures { λ r. ⌜ Converts r (now (target .exit)) (convert (formOf reading) (formOf (not reading)) w (now (source .entry)) (now (target .entry))) ⌝ }
+{
+    if w < LEAST_WORDS {
+        return answers::refused(NOT_ALLOWED);
+    }
+    if MOST_WORDS < w {
+        return answers::refused(NOT_ALLOWED);
+    }
+    let looked = pass(w, source, target, reading, false);
+    if looked.number != 0 {
+        return answers::refused(looked.number);
+    }
+    pass(w, source, target, reading, true);
+    answers::listed(false, (looked.bits + 7) / 8)
+}
+
+// A packed schedule into records (FORMAT 10.1).
+pub fn read_schedule(w: usize, schedule: &[u8], records: &mut [u8]) -> Answer
+    ensures { λ r. ⌜ Converts r (now (records .exit)) (readSchedule w (now (schedule .entry)) (now (records .entry))) ⌝ }
+{
+    turn(w, schedule, records, true)
+}
+
+// Records into a packed schedule (FORMAT 10.1).
+pub fn write_schedule(w: usize, records: &[u8], schedule: &mut [u8]) -> Answer
+    ensures { λ r. ⌜ Converts r (now (schedule .exit)) (writeSchedule w (now (records .entry)) (now (schedule .entry))) ⌝ }
+{
+    turn(w, records, schedule, false)
+}
