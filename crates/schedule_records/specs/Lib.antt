@@ -1,2 +1,3 @@
 pub mod Turning
 pub mod TurningLaws
+pub mod CallLaws

@@ -16,10 +16,12 @@ ghost use Rattle.schedule_records.specs.Turning.{formOf, Meets, Passes, 
 
 // W, the number of words of the sheet that a schedule belongs to, is 2 to 200 (FORMAT 1.2).
 const LEAST_WORDS: usize = 2;
+
 const MOST_WORDS: usize = 200;
 
 // The refusals: a field or a record passes an end; W, a value or the fill is not allowed (FORMAT 10.3).
 const PAST: usize = 11;
+
 const NOT_ALLOWED: usize = 12;
 
 // The bits of a record (FORMAT 10.2).

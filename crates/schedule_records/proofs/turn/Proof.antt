@@ -1,63 +1,70 @@
+use mathlib.Core.Bool.{Bool, false}
+use mathlib.Core.Path.{sym, ap, _∙_}
+use Prim.Native.Nat.{ℕ, _≤_}
+use native.Mathlib.Omega.{arith}
+use denote.Ref.{now}
+use Rattle.definitions.specs.LegalSchedule.{LegalWidth}
+use Rattle.answers.specs.Telling.{hasParts}
+use Rattle.schedule_records.specs.CallLaws.{alone, narrow, broad, by-a-field, accepting}
 use borrow.Author.Needs.{needs}
 use Rattle.schedule_records.proofs.turn.Statement.{statement}
 use Rattle.schedule_records.proofs.turn.Tie as tie
-use Rattle.schedule_records.proofs.turn.Reads as reads
-use Rattle.schedule_records.proofs.turn.Lts as lts
-use Rattle.answers.proofs.listed.Reads as listed-reads
-use Rattle.answers.proofs.refused.Reads as refused-reads
-use Rattle.schedule_records.proofs.pass.Reads as pass-reads
 
--- src/lib.rt:151:9
 refused-requires : tie.Need-refused-requires
 refused-requires c κs = search needs
 
--- src/lib.rt:151:9
 returns : tie.Need-returns
-returns c = ?
+returns c =
+    let a = c .before .before .before .before .args in
+    narrow (a .w) (a .reading) (now (a .source)) (now (a .target)) _ (c .before .if1 .taken) (c .refused .ensures)
 
--- src/lib.rt:154:9
 refused-requires-2 : tie.Need-refused-requires-2
 refused-requires-2 c κs = search needs
 
--- src/lib.rt:154:9
 returns-2 : tie.Need-returns-2
-returns-2 c = ?
+returns-2 c =
+    let a = c .before .before .before .before .before .args in
+    broad (a .w) (a .reading) (now (a .source)) (now (a .target)) _ (c .before .if2 .taken) (c .refused2 .ensures)
 
--- src/lib.rt:156:9
 pass-requires : tie.Need-pass-requires
 pass-requires c κs = search needs
 
--- src/lib.rt:158:9
 refused-requires-3 : tie.Need-refused-requires-3
-refused-requires-3 c κs = ?
+refused-requires-3 c κs =
+    let f = c .before .before .before .before .pass .ensures .refused (omega (arith, c .if3 .taken)) in
+    ap hasParts (f .1) ∙ alone (f .0)
 
--- src/lib.rt:158:9
 same-length : tie.Need-same-length
 same-length c = search needs
 
--- src/lib.rt:158:9
 returns-3 : tie.Need-returns-3
-returns-3 c = ?
+returns-3 c =
+    let a = c .before .before .before .before .before .before .before .before .before .before .before .args in
+    let w : LegalWidth (a .w) = record { enough = omega (arith, c .before .before .before .before .before .before .before .before .if1 .left); few = omega (arith, c .before .before .before .before .before .before .before .if2 .left) } in
+    let x = c .before .before .before .before .before .pass in
+    by-a-field (a .w) (a .reading) (now (a .source)) (now (a .target)) w (x .result) _ (x .ensures) _ (omega (arith, c .before .if3 .taken)) (c .refused3 .ensures)
 
--- src/lib.rt:160:5
 pass-requires-2 : tie.Need-pass-requires-2
 pass-requires-2 c κs = search needs
 
--- src/lib.rt:161:29
 add-listed : tie.Need-add-listed
-add-listed c = ?
+add-listed c =
+    let x = c .before .before .before .before .before .before .before .before .before .pass in
+    omega (arith, x .ensures .accepted (omega arith) .6)
 
--- src/lib.rt:161:5
 listed-requires : tie.Need-listed-requires
 listed-requires c κs = search needs
 
--- src/lib.rt:147:1
 same-length-2 : tie.Need-same-length-2
 same-length-2 c = search needs
 
--- src/lib.rt:147:1
 returns-4 : tie.Need-returns-4
-returns-4 c = ?
+returns-4 c =
+    let a = c .before .before .before .before .before .before .before .before .before .before .before .before .before .before .before .before .args in
+    let w : LegalWidth (a .w) = record { enough = omega (arith, c .before .before .before .before .before .before .before .before .before .before .before .before .before .if1 .left); few = omega (arith, c .before .before .before .before .before .before .before .before .before .before .before .before .if2 .left) } in
+    let x = c .before .before .before .before .before .before .before .before .before .before .pass in
+    let y = c .before .before .before .before .pass2 in
+    accepting (a .w) (a .reading) (now (a .source)) (now (a .target)) w (x .result) _ (x .ensures) _ (y .result) _ (omega (arith, c .before .before .before .before .before .before .if3 .left)) (y .ensures) (c .listed .ensures)
 
 pub turn-spec : {M : Type 1} → statement M
 turn-spec =
