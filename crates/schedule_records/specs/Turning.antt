@@ -2,7 +2,7 @@
 use mathlib.Core.Bool.{Bool, true, false, not, cond}
 use mathlib.Core.List.{List, [], _++_}
 use mathlib.Core.Path.{_≡_}
-use Prim.Native.Nat.{ℕ, _+_, _*_, _-_, _^_, _≤_, _<_}
+use Prim.Native.Nat.{ℕ, _+_, _*_, _-_, _%_, _^_, _≤_, _<_}
 use lib.ListN.{length, drop}
 use Rattle.definitions.specs.Bits.{bitsOf}
 use Rattle.definitions.specs.Parse.{Fault, past, notAllowed, Parsed, done, refused, Parser, refuse, choose, between}
@@ -37,6 +37,11 @@ pub record Meets (short : Bool) (n : ℕ) (rule : Rule) (source : List ℕ) (p :
       → (head short n (rule .least) (rule .most) (drop p (bitsOf source)) ≡ done (r .value) (drop (p + n) (bitsOf source)))
       × (r .value ≤ rule .most) × (p + n ≤ 8 * length source) × (short ≡ false)
 
+-- A record is two whole bytes (FORMAT 10.2).
+pub record Aligned (packed : Bool) (n p : ℕ) : Type 0 where
+  pub wide : packed ≡ false → n ≡ 16
+  pub even : packed ≡ false → p % 8 ≡ 0
+
 -- ---- all fields
 
 -- What was read, as the bits that it has in the other form.
@@ -66,13 +71,15 @@ told (refused f) lent = turnedAway f lent
 abbrev pub mostBits : ℕ
 mostBits = 16 * fieldsLeft Place.Names
 
--- Before the field at a place, with p bits of the source read and q bits of the target made. With the pen down they were written.
+-- Before the field at a place, with p bits of the source read and q bits of the target made. With the pen down they were written;
+-- records are whole bytes.
 pub record Going (W : ℕ) (reading down : Bool) (source lent now : List ℕ) (place : Place) (p q : ℕ) : Type 0 where
   pub bits : List Bool
   pub same : whole W reading source (length lent)
       ≡ left (formOf reading) (formOf (not reading)) (fieldsAt W place) bits (8 * length lent - q) (drop p (bitsOf source))
   pub long : q ≡ length bits
   pub wrote : now ≡ cond down (put lent 0 bits) lent
+  pub even : reading ≡ true → q % 8 ≡ 0
   pub read : p ≤ 8 * length source
   pub fits : q ≤ 8 * length lent
   pub fewRead : p + 16 * fieldsLeft place ≤ mostBits

@@ -25,7 +25,7 @@ use Rattle.schedule_fields.specs.declared.Place.{Place}
 use Rattle.schedule_fields.specs.Places.{widthOf, leastOf, mostOf, followOf, fieldsAt, fieldsLeft, RuleOf, Follows}
 use Rattle.schedule_fields.specs.PlaceLaws.{Sound, sound}
 use Rattle.schedule_records.specs.declared.Met.{Met}
-use Rattle.schedule_records.specs.Turning.{formOf, head, Meets, mapped, left, whole, filled, mostBits, Going, Passes}
+use Rattle.schedule_records.specs.Turning.{formOf, head, Meets, Aligned, mapped, left, whole, filled, mostBits, Going, Passes}
 
 -- ---- the fields that are left
 
@@ -111,6 +111,17 @@ module _ (short : Bool) (n : ℕ) (rule : Rule) (source : List ℕ) (p : ℕ) wh
     value = λ _. (tested v e h l q ∙ rw (le-leb (rule .least) v a, le-leb v (rule .most) b) refl, b, l, e);
   }
 
+-- a record that is not written, and one that is
+module _ (down packed : Bool) (buf : List ℕ) (p n v : ℕ) (a : Aligned packed n p) (e : packed ≡ false) where
+  pub laid-up : down ≡ false → Penned down buf buf p (p + 16) (toBits n v)
+  laid-up d = record { next = omega (arith, length-toBits n v, a .wide e); holds = rw d refl }
+
+  pub laid-down : (after : List ℕ) → down ≡ true → after ≡ put buf (8 * (p / 8)) (toBits 16 v) → Penned down buf after p (p + 16) (toBits n v)
+  laid-down after d w = record {
+    next = omega (arith, length-toBits n v, a .wide e);
+    holds = rw d (w ∙ ap₂ (λ (i k : ℕ). put buf i (toBits k v)) (omega (arith, a .even e)) (sym (a .wide e)));
+  }
+
 -- ---- from field to field
 
 -- a field by its rule, and those that follow its value
@@ -157,6 +168,7 @@ module _ (W : ℕ) (reading down : Bool) (source lent : List ℕ) where
     same = ap (λ (i : ℕ). left (formOf reading) (formOf (not reading)) (scheduleFields W) [] i (bitsOf source)) (sym (sub-zero (8 * length lent)));
     long = refl;
     wrote = none-put down lent;
+    even = λ _. refl;
     read = omega arith;
     fits = omega arith;
     fewRead = omega arith;
@@ -202,6 +214,10 @@ module _ (W : ℕ) (reading down : Bool) (source lent : List ℕ) where
           ∙ ap (λ (b : Bool). next (head b n (rule .least) (rule .most) (drop p (bitsOf source)))
           (λ v. left (formOf reading) (formOf (not reading)) (followOf (fieldsAt W place) v) (g .bits ++ toBits k v) (8 * length lent - q - k)))
           (room-left (8 * length lent) q k positive)
+
+      -- a record
+      pub record-wide : reading ≡ true → k ≡ 16
+      record-wide y = ek ∙ ap (λ (b : Bool). formOf (not b) (rule .width)) y
 
       -- a field that is refused
       pub passes-refused : 0 < met .number → Passes W reading down source lent now (record { number = met .number; bits = 0 })
@@ -250,6 +266,7 @@ module _ (W : ℕ) (reading down : Bool) (source lent : List ℕ) where
                   d .holds
                   ∙ ap₂ (λ (x : List ℕ) (i : ℕ). cond down (put x i (toBits k (met .value))) x) (g .wrote) (g .long)
                   ∙ more-put down lent (g .bits) (toBits k (met .value));
+              even = λ y. omega (arith, g .even y, t, record-wide y);
               read = v .2;
               fits = omega (arith, t, fits-in);
               fewRead = omega (arith, g .fewRead, l, a .1, en);

@@ -1,6 +1,7 @@
 // The two calls that turn a packed schedule into records, and records into a packed schedule (FORMAT 10). Both are one loop over
 // the fields: first it looks, and where nothing is to be refused it goes again and writes.
 use answers::Answer;
+use item_pen::Field;
 use schedule_fields::Place;
 use schedule_fields::Rule;
 ghost use mathlib.Core.Bool.{true, false, not};
@@ -8,11 +9,13 @@ ghost use mathlib.Core.Path.{_≡_};
 ghost use Prim.Native.Nat.{_+_, _*_, _^_, _≤_, _<_};
 ghost use lib.Dec.{ltb};
 ghost use lib.ListN.{length, drop};
-ghost use Rattle.definitions.specs.Bits.{bitsOf};
+ghost use Rattle.definitions.specs.Bits.{toBits, bitsOf, num};
 ghost use Rattle.definitions.specs.Checks.{badFill};
 ghost use Rattle.definitions.specs.LegalSchedule.{LegalWidth};
 ghost use Rattle.definitions.specs.Conversion.{badWidth, convert, readSchedule, writeSchedule};
-ghost use Rattle.schedule_records.specs.Turning.{formOf, Meets, Passes, Converts};
+ghost use Rattle.bits.specs.Writing.{put};
+ghost use Rattle.item_pen.specs.Pen.{Room, Penned};
+ghost use Rattle.schedule_records.specs.Turning.{formOf, Meets, Aligned, Passes, Converts};
 
 // W, the number of words of the sheet that a schedule belongs to, is 2 to 200 (FORMAT 1.2).
 const LEAST_WORDS: usize = 2;
@@ -46,12 +49,27 @@ fn in_form(packed: bool, n: usize) -> usize
     if packed { n } else { RECORD }
 }
 
-// Whether n bits at a place pass the end of so many bytes. Bytes are compared: their bits may be more than a number counts.
+// Whether n bits at a place pass the end of so many bytes; well before it they do not. Bytes are compared: their bits may be more
+// than a number counts.
 fn passes_end(bytes: usize, at: usize, n: usize) -> bool
-    requires { ⌜ at + n + 7 < 2 ^ 64 ⌝ }
+    requires { ⌜ (n ≤ 16) × (at + n + 7 < 2 ^ 64) ⌝ }
     ensures { λ r. ⌜ r ≡ ltb (8 * bytes) (at + n) ⌝ }
 {
+    if at / 8 + 8 <= bytes {
+        return false;
+    }
     bytes < (at + n + 7) / 8
+}
+
+// The n bits at a place, which are there.
+fn value_at(source: &[u8], at: usize, n: usize) -> usize
+    requires { ⌜ (0 < n) × (n ≤ 16) ⌝ }
+    ensures { λ r. ⌜ r ≡ num n (drop at (bitsOf (now (source .entry)))) ⌝ }
+{
+    if at / 8 + 8 <= source.len() {
+        return sheet_window::wide_in(source, at, n) as usize;
+    }
+    sheet_window::wide(source, at, n) as usize
 }
 
 // The n bits at a place as the value of a field, where `short` tells that the other form has no room for it: both ends before the
@@ -72,7 +90,7 @@ fn meet(source: &[u8], at: usize, n: usize, short: bool, rule: Rule) -> Met
             value: 0,
         };
     }
-    let value = sheet_window::wide(source, at, n) as usize;
+    let value = value_at(source, at, n);
     if value < rule.least {
         return Met {
             number: NOT_ALLOWED,
@@ -89,6 +107,32 @@ fn meet(source: &[u8], at: usize, n: usize, short: bool, rule: Rule) -> Met
         number: 0,
         value: value,
     }
+}
+
+// A record into the two bytes from i on, the high one first (FORMAT 10.2).
+fn put_record(target: &mut [u8], i: usize, v: u64)
+    requires { ⌜ i + 2 ≤ length (now target) ⌝ }
+    ensures { λ _. ⌜ now (target .exit) ≡ put (now (target .entry)) (8 * i) (toBits 16 v) ⌝ }
+{
+    target[i] = ((v >> 8) % 256) as u8;
+    target[i + 1] = (v % 256) as u8;
+}
+
+// With the pen down a field goes to bit `at`, packed or as a record; with the pen up nothing is touched. The answer is the bit behind
+// it.
+fn lay(target: &mut [u8], at: usize, down: bool, packed: bool, f: Field) -> usize
+    requires { ⌜ Room down (now target) at (f .width) (f .value) ⌝ }
+    requires { ⌜ Aligned packed (f .width) at ⌝ }
+    ensures { λ r. ⌜ Penned down (now (target .entry)) (now (target .exit)) at r (toBits (f .width) (f .value)) ⌝ }
+{
+    if packed {
+        return item_pen::put(target, at, down, f.width, f.value);
+    }
+    if !down {
+        return at + RECORD;
+    }
+    put_record(target, at / 8, f.value);
+    at + RECORD
 }
 
 // Whether a byte or a set bit stands behind the last field (FORMAT 10.3).
@@ -129,7 +173,11 @@ fn pass(w: usize, source: &[u8], target: &mut [u8], reading: bool, down: bool) -
             };
         }
         at += n;
-        to = item_pen::put(target, to, down, m, met.value as u64);
+        let field = Field {
+            width: m,
+            value: met.value as u64,
+        };
+        to = lay(target, to, down, !reading, field);
         place = schedule_fields::next(place, met.value);
         rule = schedule_fields::rule_at(place, w);
     }

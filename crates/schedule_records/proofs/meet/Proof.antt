@@ -21,8 +21,8 @@ returns-2 c =
     let e = c .before .passes-end .ensures in
     meets-past (a .short) (a .n) (a .rule) (now (a .source)) (a .at) (c .before .before .if1 .left) (omega arith) (ltb-true _ _ (sym e ∙ c .if2 .taken))
 
-wide-requires : tie.Need-wide-requires
-wide-requires c κs = search needs
+value-at-requires : tie.Need-value-at-requires
+value-at-requires c κs = search needs
 
 returns-3 : tie.Need-returns-3
 returns-3 c =
@@ -30,7 +30,7 @@ returns-3 c =
     let x = c .before in
     let e = x .before .before .before .passes-end .ensures in
     meets-below (a .short) (a .n) (a .rule) (now (a .source)) (a .at) _ (x .before .before .before .before .if1 .left) (omega arith)
-    (ltb-false _ _ (sym e ∙ x .before .before .if2 .left)) (x .before .wide .ensures) (c .if3 .taken)
+    (ltb-false _ _ (sym e ∙ x .before .before .if2 .left)) (x .before .value-at .ensures) (c .if3 .taken)
 
 returns-4 : tie.Need-returns-4
 returns-4 c =
@@ -38,7 +38,7 @@ returns-4 c =
     let x = c .before .before .before in
     let e = x .before .before .before .passes-end .ensures in
     meets-above (a .short) (a .n) (a .rule) (now (a .source)) (a .at) _ (x .before .before .before .before .if1 .left) (omega arith)
-    (ltb-false _ _ (sym e ∙ x .before .before .if2 .left)) (x .before .wide .ensures) (c .if4 .taken)
+    (ltb-false _ _ (sym e ∙ x .before .before .if2 .left)) (x .before .value-at .ensures) (c .if4 .taken)
 
 returns-5 : tie.Need-returns-5
 returns-5 c =
@@ -46,9 +46,9 @@ returns-5 c =
     let x = c .before .before .before in
     let e = x .before .before .before .passes-end .ensures in
     meets-value (a .short) (a .n) (a .rule) (now (a .source)) (a .at) _ (x .before .before .before .before .if1 .left) (omega arith)
-    (ltb-false _ _ (sym e ∙ x .before .before .if2 .left)) (x .before .wide .ensures) (c .before .before .if3 .left) (c .if4 .left)
+    (ltb-false _ _ (sym e ∙ x .before .before .if2 .left)) (x .before .value-at .ensures) (c .before .before .if3 .left) (c .if4 .left)
 
 pub meet-spec : {M : Type 1} → statement M
 meet-spec =
     tie.close
-    (tie.spec returns passes-end-requires returns-2 wide-requires returns-3 returns-4 returns-5)
+    (tie.spec returns passes-end-requires returns-2 value-at-requires returns-3 returns-4 returns-5)

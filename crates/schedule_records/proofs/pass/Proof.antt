@@ -3,9 +3,10 @@ use mathlib.Core.Path.{sym, subst, _∙_}
 use Prim.Native.Nat.{_≤_, _<_}
 use native.Mathlib.Omega.{arith}
 use denote.Ref.{now}
+use borrow.Author.Tests.{not-false}
 use Rattle.schedule_fields.specs.Places.{fieldsAt, fieldsLeft, RuleOf}
 use Rattle.schedule_records.specs.Turning.{Meets, Going}
-use Rattle.schedule_records.specs.TurningLaws.{in-form, going-start, kept-long, ready, passes-refused, fits-in, value-lt, going-on, passes-filled, passes-all}
+use Rattle.schedule_records.specs.TurningLaws.{in-form, going-start, kept-long, ready, record-wide, passes-refused, fits-in, value-lt, going-on, passes-filled, passes-all}
 use borrow.Author.Needs.{needs}
 use Rattle.schedule_records.proofs.pass.Statement.{statement}
 use Rattle.schedule_records.proofs.pass.Tie as tie
@@ -38,7 +39,8 @@ passes-end-requires c κs =
     let n = c .before .in-form in
     let m = c .in-form2 in
     let d = ready (a .w) (a .reading) (a .down) (now (a .source)) (now (a .target)) (l .target) (l .place) (l .at) (l .to) (l .inv .0) (l .rule) (l .inv .1) w h in
-    omega (arith, d .2, in-form (not (a .reading)) (l .rule .width) (d .0), m .ensures)
+    let i = in-form (not (a .reading)) (l .rule .width) (d .0) in
+    (omega (arith, i .1, m .ensures), omega (arith, d .2, i .1, m .ensures))
 
 meet-requires : tie.Need-meet-requires Inv-loop μ-loop
 meet-requires c κs =
@@ -82,8 +84,8 @@ add-at c =
     let d = ready (a .w) (a .reading) (a .down) (now (a .source)) (now (a .target)) (l .target) (l .place) (l .at) (l .to) (l .inv .0) (l .rule) (l .inv .1) w h in
     omega (arith, d .1, in-form (a .reading) (l .rule .width) (d .0), n .ensures)
 
-put-requires : tie.Need-put-requires Inv-loop μ-loop
-put-requires c κs =
+lay-requires : tie.Need-lay-requires Inv-loop μ-loop
+lay-requires c κs =
     let a = c .before .before .before .before .before .before .before .before .before .before .before .before .before .args in
     let w = c .before .before .before .before .before .before .before .before .before .before .before .before .before .pre in
     let l = c .before .before .before .before .before .before .before .before .before .loop in
@@ -94,13 +96,18 @@ put-requires c κs =
     let r = subst (λ (b : Bool). Meets b (n .result) (l .rule) (now (a .source)) (l .at) (x .result)) (c .before .before .before .before .passes-end .ensures) (x .ensures) in
     let d = ready (a .w) (a .reading) (a .down) (now (a .source)) (now (a .target)) (l .target) (l .place) (l .at) (l .to) (l .inv .0) (l .rule) (l .inv .1) w h in
     let z : x .result .number ≤ 0 = omega (arith, c .before .if2 .left) in
-    let i = in-form (not (a .reading)) (l .rule .width) (d .0) in
-    record {
-      few = omega (arith, i .1, m .ensures);
-      most = value-lt (a .w) (a .reading) (a .down) (now (a .source)) (now (a .target)) (l .target) (l .place) (l .at) (l .to) (l .inv .0) (l .rule) (l .inv .1) w h (n .result) (m .result) (n .ensures) (m .ensures) (x .result) r z;
-      fits = λ _. omega (arith, fits-in (a .w) (a .reading) (a .down) (now (a .source)) (now (a .target)) (l .target) (l .place) (l .at) (l .to) (l .inv .0) (l .rule) (l .inv .1) w h (n .result) (m .result) (n .ensures) (m .ensures) (x .result) r z, d .4);
-      small = omega (arith, d .2, i .1, m .ensures);
-    }
+    let i = in-form (not (a .reading)) (l .rule .width) (d .0) in (
+      record {
+        few = omega (arith, i .1, m .ensures);
+        most = value-lt (a .w) (a .reading) (a .down) (now (a .source)) (now (a .target)) (l .target) (l .place) (l .at) (l .to) (l .inv .0) (l .rule) (l .inv .1) w h (n .result) (m .result) (n .ensures) (m .ensures) (x .result) r z;
+        fits = λ _. omega (arith, fits-in (a .w) (a .reading) (a .down) (now (a .source)) (now (a .target)) (l .target) (l .place) (l .at) (l .to) (l .inv .0) (l .rule) (l .inv .1) w h (n .result) (m .result) (n .ensures) (m .ensures) (x .result) r z, d .4);
+        small = omega (arith, d .2, i .1, m .ensures);
+      },
+      record {
+        wide = λ e. record-wide (a .w) (a .reading) (a .down) (now (a .source)) (now (a .target)) (l .target) (l .place) (l .at) (l .to) (l .inv .0) (l .rule) (l .inv .1) w h (n .result) (m .result) (n .ensures) (m .ensures) (x .result) r (not-false (a .reading) e);
+        even = λ e. l .inv .0 .even (not-false (a .reading) e);
+      },
+    )
 
 next-requires : tie.Need-next-requires Inv-loop μ-loop
 next-requires c κs = search needs
@@ -133,7 +140,7 @@ loop-again c =
     let x = c .before .before .before .before .before .before .before .before .meet in
     let r = subst (λ (b : Bool). Meets b (n .result) (l .rule) (now (a .source)) (l .at) (x .result)) (c .before .before .before .before .before .before .before .before .before .passes-end .ensures) (x .ensures) in
     let z : x .result .number ≤ 0 = omega (arith, c .before .before .before .before .before .before .if2 .left) in
-    (going-on (a .w) (a .reading) (a .down) (now (a .source)) (now (a .target)) (l .target) (l .place) (l .at) (l .to) (l .inv .0) (l .rule) (l .inv .1) w h (n .result) (m .result) (n .ensures) (m .ensures) (x .result) r z _ _ _ (c .before .before .before .before .put .ensures) (c .before .next .ensures), c .rule-at2 .ensures)
+    (going-on (a .w) (a .reading) (a .down) (now (a .source)) (now (a .target)) (l .target) (l .place) (l .at) (l .to) (l .inv .0) (l .rule) (l .inv .1) w h (n .result) (m .result) (n .ensures) (m .ensures) (x .result) r z _ _ _ (c .before .before .before .before .lay .ensures) (c .before .next .ensures), c .rule-at2 .ensures)
 
 is-bad-fill-requires : tie.Need-is-bad-fill-requires Inv-loop μ-loop
 is-bad-fill-requires c κs =
@@ -185,7 +192,7 @@ pass-spec =
     same-length
     returns
     add-at
-    put-requires
+    lay-requires
     next-requires
     rule-at-requires-2
     loop-less
