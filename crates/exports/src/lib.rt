@@ -7,7 +7,9 @@ ghost use lib.ListN.{length};
 ghost use Rattle.definitions.specs.Answer.{overwrite};
 ghost use Rattle.answers.specs.Answers.{answerOf, orderInput, scheduleInput};
 ghost use Rattle.access.specs.Lines.{LinesListed};
+ghost use Rattle.definitions.specs.Conversion.{readSchedule, writeSchedule};
 ghost use Rattle.exports.specs.Exports.{exported};
+ghost use Rattle.exports.specs.Conversions.{exportedConversion};
 ghost use Rattle.exports.specs.Parts.{partsOf, Small};
 
 // What is answered where fewer than three numbers are lent for the parts.
@@ -104,5 +106,39 @@ pub extern "C" fn gidzelma_schedule(
         return TOO_FEW_PARTS; // and nothing is touched
     }
     let answer = access::schedule(sheet, listing, diagnosis);
+    tell(answer, parts)
+}
+
+// A packed schedule into records, for a sheet of w words (FORMAT 10.1). Where fewer than three numbers are lent nothing is touched.
+#[no_mangle]
+pub extern "C" fn gidzelma_read_schedule(
+    w: usize,
+    schedule: &[u8],
+    records: &mut [u8],
+    parts: &mut [u32],
+) -> u32
+    ensures { λ r. ⌜ record { number = r; parts = now (parts .exit); output = now (records .exit) } ≡ exportedConversion (readSchedule w (now (schedule .entry)) (now (records .entry))) (now (records .entry)) (now (parts .entry)) ⌝ }
+{
+    if parts.len() < 3 {
+        return TOO_FEW_PARTS;
+    }
+    let answer = schedule_records::read_schedule(w, schedule, records);
+    tell(answer, parts)
+}
+
+// Records into a packed schedule, likewise.
+#[no_mangle]
+pub extern "C" fn gidzelma_write_schedule(
+    w: usize,
+    records: &[u8],
+    schedule: &mut [u8],
+    parts: &mut [u32],
+) -> u32
+    ensures { λ r. ⌜ record { number = r; parts = now (parts .exit); output = now (schedule .exit) } ≡ exportedConversion (writeSchedule w (now (records .entry)) (now (schedule .entry))) (now (schedule .entry)) (now (parts .entry)) ⌝ }
+{
+    if parts.len() < 3 {
+        return TOO_FEW_PARTS;
+    }
+    let answer = schedule_records::write_schedule(w, records, schedule);
     tell(answer, parts)
 }

@@ -15,7 +15,7 @@ use Rattle.definitions.specs.Checks.{badFill}
 use Rattle.definitions.specs.LegalSchedule.{leastWords, mostWords, LegalWidth}
 use Rattle.definitions.specs.Answer as rules
 use Rattle.definitions.specs.Answer.{overwrite}
-use Rattle.definitions.specs.ScheduleFields.{readFields, writeFields, scheduleFields}
+use Rattle.definitions.specs.ScheduleFields.{Form, readFields, writeFields, scheduleFields}
 use Rattle.definitions.specs.Conversion.{Converted, scheduleFault, turnedAway, written, concluded, badWidth, convert}
 use Rattle.bits.specs.NumberLaws.{length-packTo}
 use Rattle.bits.specs.ReadLaws.{isDone}
@@ -40,6 +40,37 @@ madeOf (refused f) = []
 length-pack : (xs : List Bool) → length (pack xs) ≡ size (length xs)
 unfolding pack
 length-pack xs = length-packTo (size (length xs)) xs
+
+-- ---- every answer has a number of three, and no rows
+
+numbers-of : (f : Fault) → scheduleFault f ≤ 12
+numbers-of past = omega arith
+numbers-of notAllowed = omega arith
+
+-- of what is answered
+abbrev Plain : Converted → Type 0
+Plain o = (o .answer .number ≤ 12) × (o .answer .rows ≤ 0)
+
+pub plain : (from to : Form) (W : ℕ) (source lent : List ℕ) → Plain (convert from to W source lent)
+unfolding convert
+plain from to W source lent = wide (badWidth W)
+  where
+    filling : (xs : List Bool) (t : Bool) → Plain (elim t [ true ↦ turnedAway notAllowed lent | false ↦ written xs lent ])
+    filling xs true = (omega arith, omega arith)
+    filling xs false = (omega arith, omega arith)
+
+    go : (bits : List ℕ → List Bool) (x : Parsed (List ℕ)) → Plain (concluded bits x lent)
+    go bits (done vs rest) = filling (bits vs) (badFill rest)
+    go bits (refused f) = (numbers-of f, omega arith)
+
+    wide : (t : Bool) → Plain (elim t [
+      | true ↦ turnedAway notAllowed lent
+      | false ↦ concluded (writeFields to (scheduleFields W)) (readFields from to (scheduleFields W) (8 * length lent) (bitsOf source)) lent
+    ])
+    wide true = (omega arith, omega arith)
+    wide false = go (writeFields to (scheduleFields W)) (readFields from to (scheduleFields W) (8 * length lent) (bitsOf source))
+
+-- ---- the calls
 
 module _ (W : ℕ) (reading : Bool) (source lent : List ℕ) where
   -- what is due
