@@ -109,7 +109,7 @@ pub extern "C" fn gidzelma_schedule(
     tell(answer, parts)
 }
 
-// A packed schedule into records, for a sheet of w words (FORMAT 10.1). Where fewer than three numbers are lent nothing is touched.
+// A packed schedule into records, for a sheet of w words (FORMAT 12.1). Where fewer than three numbers are lent nothing is touched.
 #[no_mangle]
 pub extern "C" fn gidzelma_read_schedule(
     w: usize,

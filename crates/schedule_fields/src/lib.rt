@@ -1,5 +1,5 @@
 // A place in the grammar of a schedule's fields, by value: what the field there is, and the place behind its value
-// (FORMAT 6.1 to 6.3, 10.2). Whoever reads, writes or walks a schedule goes from place to place.
+// (FORMAT 6.1 to 6.3, 12.2). Whoever reads, writes or walks a schedule goes from place to place.
 ghost use mathlib.Core.Path.{_≡_};
 ghost use Prim.Native.Nat.{_+_, _-_, _<_};
 ghost use Rattle.schedule_fields.specs.Places.{fieldsAt, RuleOf, Comes, namesAt, itemsAt, parentsAt, wordsAt, marksAt};

@@ -20,12 +20,12 @@ use Rattle.schedule_records.specs.declared.Passed.{Passed}
 
 -- ---- one field
 
--- The two forms (FORMAT 10.2).
+-- The two forms (FORMAT 12.2).
 abbrev pub formOf : Bool → Form
 formOf true = packed
 formOf false = recorded
 
--- A field where `short` tells that the other form has no room for it: both ends before its value (FORMAT 10.3).
+-- A field where `short` tells that the other form has no room for it: both ends before its value (FORMAT 12.3).
 abbrev pub head : Bool → ℕ → ℕ → ℕ → Parser ℕ
 head short n least most = choose short (refuse past) (between n least most)
 
@@ -37,7 +37,7 @@ pub record Meets (short : Bool) (n : ℕ) (rule : Rule) (source : List ℕ) (p :
       → (head short n (rule .least) (rule .most) (drop p (bitsOf source)) ≡ done (r .value) (drop (p + n) (bitsOf source)))
       × (r .value ≤ rule .most) × (p + n ≤ 8 * length source) × (short ≡ false)
 
--- A record is two whole bytes (FORMAT 10.2).
+-- A record is two whole bytes (FORMAT 12.2).
 pub record Aligned (packed : Bool) (n p : ℕ) : Type 0 where
   pub wide : packed ≡ false → n ≡ 16
   pub even : packed ≡ false → p % 8 ≡ 0
@@ -57,7 +57,7 @@ left from to f xs room bs = mapped (λ vs. xs ++ writeFields to f vs) (readField
 abbrev pub whole : ℕ → Bool → List ℕ → ℕ → Parsed (List Bool)
 whole W reading source bytes = left (formOf reading) (formOf (not reading)) (scheduleFields W) [] (8 * bytes) (bitsOf source)
 
--- Behind the last field no bit is set and no byte follows (FORMAT 10.3).
+-- Behind the last field no bit is set and no byte follows (FORMAT 12.3).
 abbrev pub filled : Parsed (List Bool) → Parsed (List Bool)
 filled (done xs rest) = cond (badFill rest) (refused notAllowed) (done xs rest)
 filled (refused f) = refused f

@@ -1,4 +1,4 @@
-// The two calls that turn a packed schedule into records, and records into a packed schedule (FORMAT 10). Both are one loop over
+// The two calls that turn a packed schedule into records, and records into a packed schedule (FORMAT 12). Both are one loop over
 // the fields: first it looks, and where nothing is to be refused it goes again and writes.
 use answers::Answer;
 use item_pen::Field;
@@ -22,12 +22,12 @@ const LEAST_WORDS: usize = 2;
 
 const MOST_WORDS: usize = 200;
 
-// The refusals: a field or a record passes an end; W, a value or the fill is not allowed (FORMAT 10.3).
+// The refusals: a field or a record passes an end; W, a value or the fill is not allowed (FORMAT 12.3).
 const PAST: usize = 11;
 
 const NOT_ALLOWED: usize = 12;
 
-// The bits of a record (FORMAT 10.2).
+// The bits of a record (FORMAT 12.2).
 const RECORD: usize = 16;
 
 // What a field comes to: its value, or the number of a refusal.
@@ -42,7 +42,7 @@ pub struct Passed {
     pub bits: usize,
 }
 
-// How wide a field of n bits is in a form, packed or a record (FORMAT 10.2).
+// How wide a field of n bits is in a form, packed or a record (FORMAT 12.2).
 fn in_form(packed: bool, n: usize) -> usize
     ensures { λ r. ⌜ r ≡ formOf packed n ⌝ }
 {
@@ -73,7 +73,7 @@ fn value_at(source: &[u8], at: usize, n: usize) -> usize
 }
 
 // The n bits at a place as the value of a field, where `short` tells that the other form has no room for it: both ends before the
-// value (FORMAT 10.3).
+// value (FORMAT 12.3).
 fn meet(source: &[u8], at: usize, n: usize, short: bool, rule: Rule) -> Met
     requires { ⌜ (0 < n) × (n ≤ 16) × (at + n + 7 < 2 ^ 64) ⌝ }
     ensures { λ r. ⌜ Meets short n rule (now (source .entry)) at r ⌝ }
@@ -109,7 +109,7 @@ fn meet(source: &[u8], at: usize, n: usize, short: bool, rule: Rule) -> Met
     }
 }
 
-// A record into the two bytes from i on, the high one first (FORMAT 10.2).
+// A record into the two bytes from i on, the high one first (FORMAT 12.2).
 fn put_record(target: &mut [u8], i: usize, v: u64)
     requires { ⌜ i + 2 ≤ length (now target) ⌝ }
     ensures { λ _. ⌜ now (target .exit) ≡ put (now (target .entry)) (8 * i) (toBits 16 v) ⌝ }
@@ -135,7 +135,7 @@ fn lay(target: &mut [u8], at: usize, down: bool, packed: bool, f: Field) -> usiz
     at + RECORD
 }
 
-// Whether a byte or a set bit stands behind the last field (FORMAT 10.3).
+// Whether a byte or a set bit stands behind the last field (FORMAT 12.3).
 fn is_bad_fill(source: &[u8], at: usize) -> bool
     requires { ⌜ (at ≤ 8 * length (now source)) × (at + 7 < 2 ^ 64) ⌝ }
     ensures { λ r. ⌜ r ≡ badFill (drop at (bitsOf (now (source .entry)))) ⌝ }
@@ -193,7 +193,7 @@ fn pass(w: usize, source: &[u8], target: &mut [u8], reading: bool, down: bool) -
     }
 }
 
-// W first; then all fields are looked at, and only where none is refused they are written (FORMAT 10.3, 10.4).
+// W first; then all fields are looked at, and only where none is refused they are written (FORMAT 12.3, 12.4).
 fn turn(w: usize, source: &[u8], target: &mut [u8], reading: bool) -> Answer
     ensures { λ r. ⌜ Converts r (now (target .exit)) (convert (formOf reading) (formOf (not reading)) w (now (source .entry)) (now (target .entry))) ⌝ }
 {
@@ -211,14 +211,14 @@ fn turn(w: usize, source: &[u8], target: &mut [u8], reading: bool) -> Answer
     answers::listed(false, (looked.bits + 7) / 8)
 }
 
-// A packed schedule into records (FORMAT 10.1).
+// A packed schedule into records (FORMAT 12.1).
 pub fn read_schedule(w: usize, schedule: &[u8], records: &mut [u8]) -> Answer
     ensures { λ r. ⌜ Converts r (now (records .exit)) (readSchedule w (now (schedule .entry)) (now (records .entry))) ⌝ }
 {
     turn(w, schedule, records, true)
 }
 
-// Records into a packed schedule (FORMAT 10.1).
+// Records into a packed schedule (FORMAT 12.1).
 pub fn write_schedule(w: usize, records: &[u8], schedule: &mut [u8]) -> Answer
     ensures { λ r. ⌜ Converts r (now (schedule .exit)) (writeSchedule w (now (records .entry)) (now (schedule .entry))) ⌝ }
 {
