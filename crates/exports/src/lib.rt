@@ -119,7 +119,7 @@ pub extern "C" fn gidzelma_read_schedule(
 ) -> u32
     ensures { λ r. ⌜ record { number = r; parts = now (parts .exit); output = now (records .exit) } ≡ exportedConversion (readSchedule w (now (schedule .entry)) (now (records .entry))) (now (records .entry)) (now (parts .entry)) ⌝ }
 {
-    if parts.len() < 3 {
+    if parts.len() < 3 { // no room for the size
         return TOO_FEW_PARTS;
     }
     let answer = schedule_records::read_schedule(w, schedule, records);

@@ -61,7 +61,7 @@ fn passes_end(bytes: usize, at: usize, n: usize) -> bool
     bytes < (at + n + 7) / 8
 }
 
-// The n bits at a place, which are there.
+// The n bits at a place, 0 for those past the end.
 fn value_at(source: &[u8], at: usize, n: usize) -> usize
     requires { ⌜ (0 < n) × (n ≤ 16) ⌝ }
     ensures { λ r. ⌜ r ≡ num n (drop at (bitsOf (now (source .entry)))) ⌝ }
@@ -78,28 +78,28 @@ fn meet(source: &[u8], at: usize, n: usize, short: bool, rule: Rule) -> Met
     requires { ⌜ (0 < n) × (n ≤ 16) × (at + n + 7 < 2 ^ 64) ⌝ }
     ensures { λ r. ⌜ Meets short n rule (now (source .entry)) at r ⌝ }
 {
+    let value = value_at(source, at, n);
     if short {
         return Met {
-            number: PAST,
+            number: PAST, // no room for it
             value: 0,
         };
     }
     if passes_end(source.len(), at, n) {
         return Met {
-            number: PAST,
+            number: PAST, // it is cut
             value: 0,
         };
     }
-    let value = value_at(source, at, n);
     if value < rule.least {
         return Met {
-            number: NOT_ALLOWED,
+            number: NOT_ALLOWED, // too small
             value: 0,
         };
     }
     if rule.most < value {
         return Met {
-            number: NOT_ALLOWED,
+            number: NOT_ALLOWED, // too great
             value: 0,
         };
     }

@@ -7,9 +7,12 @@ use borrow.Author.Needs.{needs}
 use Rattle.schedule_records.proofs.meet.Statement.{statement}
 use Rattle.schedule_records.proofs.meet.Tie as tie
 
+value-at-requires : tie.Need-value-at-requires
+value-at-requires c κs = search needs
+
 returns : tie.Need-returns
 returns c =
-    let a = c .before .before .args in
+    let a = c .before .before .before .args in
     meets-short (a .short) (a .n) (a .rule) (now (a .source)) (a .at) (c .if1 .taken)
 
 passes-end-requires : tie.Need-passes-end-requires
@@ -17,38 +20,28 @@ passes-end-requires c κs = search needs
 
 returns-2 : tie.Need-returns-2
 returns-2 c =
-    let a = c .before .before .before .before .args in
-    let e = c .before .passes-end .ensures in
-    meets-past (a .short) (a .n) (a .rule) (now (a .source)) (a .at) (c .before .before .if1 .left) (omega arith) (ltb-true _ _ (sym e ∙ c .if2 .taken))
-
-value-at-requires : tie.Need-value-at-requires
-value-at-requires c κs = search needs
+    let a = c .before .before .before .before .before .args in
+    meets-past (a .short) (a .n) (a .rule) (now (a .source)) (a .at) (c .before .before .if1 .left) (omega arith) (ltb-true _ _ (sym (c .before .passes-end .ensures) ∙ c .if2 .taken))
 
 returns-3 : tie.Need-returns-3
 returns-3 c =
     let a = c .before .before .before .before .before .before .before .args in
-    let x = c .before in
-    let e = x .before .before .before .passes-end .ensures in
-    meets-below (a .short) (a .n) (a .rule) (now (a .source)) (a .at) _ (x .before .before .before .before .if1 .left) (omega arith)
-    (ltb-false _ _ (sym e ∙ x .before .before .if2 .left)) (x .before .value-at .ensures) (c .if3 .taken)
+    meets-below (a .short) (a .n) (a .rule) (now (a .source)) (a .at) _ (c .before .before .before .before .if1 .left) (omega arith)
+    (ltb-false _ _ (sym (c .before .before .before .passes-end .ensures) ∙ c .before .before .if2 .left)) (c .before .before .before .before .before .value-at .ensures) (c .if3 .taken)
 
 returns-4 : tie.Need-returns-4
 returns-4 c =
     let a = c .before .before .before .before .before .before .before .before .before .args in
-    let x = c .before .before .before in
-    let e = x .before .before .before .passes-end .ensures in
-    meets-above (a .short) (a .n) (a .rule) (now (a .source)) (a .at) _ (x .before .before .before .before .if1 .left) (omega arith)
-    (ltb-false _ _ (sym e ∙ x .before .before .if2 .left)) (x .before .value-at .ensures) (c .if4 .taken)
+    meets-above (a .short) (a .n) (a .rule) (now (a .source)) (a .at) _ (c .before .before .before .before .before .before .if1 .left) (omega arith)
+    (ltb-false _ _ (sym (c .before .before .before .before .before .passes-end .ensures) ∙ c .before .before .before .before .if2 .left)) (c .before .before .before .before .before .before .before .value-at .ensures) (c .if4 .taken)
 
 returns-5 : tie.Need-returns-5
 returns-5 c =
     let a = c .before .before .before .before .before .before .before .before .before .args in
-    let x = c .before .before .before in
-    let e = x .before .before .before .passes-end .ensures in
-    meets-value (a .short) (a .n) (a .rule) (now (a .source)) (a .at) _ (x .before .before .before .before .if1 .left) (omega arith)
-    (ltb-false _ _ (sym e ∙ x .before .before .if2 .left)) (x .before .value-at .ensures) (c .before .before .if3 .left) (c .if4 .left)
+    meets-value (a .short) (a .n) (a .rule) (now (a .source)) (a .at) _ (c .before .before .before .before .before .before .if1 .left) (omega arith)
+    (ltb-false _ _ (sym (c .before .before .before .before .before .passes-end .ensures) ∙ c .before .before .before .before .if2 .left)) (c .before .before .before .before .before .before .before .value-at .ensures) (c .before .before .if3 .left) (c .if4 .left)
 
 pub meet-spec : {M : Type 1} → statement M
 meet-spec =
     tie.close
-    (tie.spec returns passes-end-requires returns-2 value-at-requires returns-3 returns-4 returns-5)
+    (tie.spec value-at-requires returns passes-end-requires returns-2 returns-3 returns-4 returns-5)
