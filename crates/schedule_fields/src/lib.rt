@@ -198,9 +198,9 @@ fn behind_lead(n: usize, v: usize) -> Place
     ensures { λ r. ⌜ Comes r (λ w. behindLead w n v) (6 + madeLeft n) ⌝ }
 {
     if v == 0 {
-        Place::MadeWord(n)
+        Place::MadeWord(n) // a synthesized resource
     } else {
-        Place::LineWord(n)
+        Place::LineWord(n) // an extension line
     }
 }
 

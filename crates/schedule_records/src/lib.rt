@@ -78,6 +78,8 @@ fn meet(source: &[u8], at: usize, n: usize, short: bool, rule: Rule) -> Met
     requires { ⌜ (0 < n) × (n ≤ 16) × (at + n + 7 < 2 ^ 64) ⌝ }
     ensures { λ r. ⌜ Meets short n rule (now (source .entry)) at r ⌝ }
 {
+    let least = rule.least;
+    let most = rule.most;
     let value = value_at(source, at, n);
     if short {
         return Met {
@@ -91,13 +93,13 @@ fn meet(source: &[u8], at: usize, n: usize, short: bool, rule: Rule) -> Met
             value: 0,
         };
     }
-    if value < rule.least {
+    if value < least {
         return Met {
             number: NOT_ALLOWED, // too small
             value: 0,
         };
     }
-    if rule.most < value {
+    if most < value {
         return Met {
             number: NOT_ALLOWED, // too great
             value: 0,

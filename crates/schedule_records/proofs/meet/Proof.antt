@@ -25,21 +25,21 @@ returns-2 c =
 
 returns-3 : tie.Need-returns-3
 returns-3 c =
-    let a = c .before .before .before .before .before .before .before .args in
-    meets-below (a .short) (a .n) (a .rule) (now (a .source)) (a .at) _ (c .before .before .before .before .if1 .left) (omega arith)
-    (ltb-false _ _ (sym (c .before .before .before .passes-end .ensures) ∙ c .before .before .if2 .left)) (c .before .before .before .before .before .value-at .ensures) (c .if3 .taken)
+    let a = c .before .before .before .before .before .before .args in
+    meets-below (a .short) (a .n) (a .rule) (now (a .source)) (a .at) _ (c .before .before .before .if1 .left) (omega arith)
+    (ltb-false _ _ (sym (c .before .before .passes-end .ensures) ∙ c .before .if2 .left)) (c .before .before .before .before .value-at .ensures) (c .if3 .taken)
 
 returns-4 : tie.Need-returns-4
 returns-4 c =
-    let a = c .before .before .before .before .before .before .before .before .before .args in
-    meets-above (a .short) (a .n) (a .rule) (now (a .source)) (a .at) _ (c .before .before .before .before .before .before .if1 .left) (omega arith)
-    (ltb-false _ _ (sym (c .before .before .before .before .before .passes-end .ensures) ∙ c .before .before .before .before .if2 .left)) (c .before .before .before .before .before .before .before .value-at .ensures) (c .if4 .taken)
+    let a = c .before .before .before .before .before .before .before .args in
+    meets-above (a .short) (a .n) (a .rule) (now (a .source)) (a .at) _ (c .before .before .before .before .if1 .left) (omega arith)
+    (ltb-false _ _ (sym (c .before .before .before .passes-end .ensures) ∙ c .before .before .if2 .left)) (c .before .before .before .before .before .value-at .ensures) (c .if4 .taken)
 
 returns-5 : tie.Need-returns-5
 returns-5 c =
-    let a = c .before .before .before .before .before .before .before .before .before .args in
-    meets-value (a .short) (a .n) (a .rule) (now (a .source)) (a .at) _ (c .before .before .before .before .before .before .if1 .left) (omega arith)
-    (ltb-false _ _ (sym (c .before .before .before .before .before .passes-end .ensures) ∙ c .before .before .before .before .if2 .left)) (c .before .before .before .before .before .before .before .value-at .ensures) (c .before .before .if3 .left) (c .if4 .left)
+    let a = c .before .before .before .before .before .before .before .args in
+    meets-value (a .short) (a .n) (a .rule) (now (a .source)) (a .at) _ (c .before .before .before .before .if1 .left) (omega arith)
+    (ltb-false _ _ (sym (c .before .before .before .passes-end .ensures) ∙ c .before .before .if2 .left)) (c .before .before .before .before .before .value-at .ensures) (c .before .if3 .left) (c .if4 .left)
 
 pub meet-spec : {M : Type 1} → statement M
 meet-spec =
