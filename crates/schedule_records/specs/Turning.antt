@@ -2,7 +2,7 @@
 use mathlib.Core.Bool.{Bool, true, false, not, cond}
 use mathlib.Core.List.{List, [], _++_}
 use mathlib.Core.Path.{_≡_}
-use Prim.Native.Nat.{ℕ, _+_, _*_, _-_, _%_, _^_, _≤_, _<_}
+use Prim.Native.Nat.{ℕ, _+_, _*_, _-_, _%_, _^_, _≤_, _<_, min}
 use lib.ListN.{length, drop}
 use Rattle.definitions.specs.Bits.{bitsOf}
 use Rattle.definitions.specs.Parse.{Fault, past, notAllowed, Parsed, done, refused, Parser, refuse, choose, between}
@@ -17,6 +17,16 @@ use Rattle.schedule_fields.specs.declared.Rule.{Rule}
 use Rattle.schedule_fields.specs.Places.{fieldsAt, fieldsLeft}
 use Rattle.schedule_records.specs.declared.Met.{Met}
 use Rattle.schedule_records.specs.declared.Passed.{Passed}
+
+-- ---- bits
+
+-- The most bits that a schedule has in either form: no field has more than a record.
+abbrev pub mostBits : ℕ
+mostBits = 16 * fieldsLeft Place.Names
+
+-- The bits of so many bytes, or more than that.
+abbrev pub bitsWithin : ℕ → ℕ
+bitsWithin bytes = 8 * min bytes (2 ^ 28)
 
 -- ---- one field
 
@@ -66,10 +76,6 @@ filled (refused f) = refused f
 abbrev pub told : Parsed (List Bool) → List ℕ → Converted
 told (done xs rest) lent = written xs lent
 told (refused f) lent = turnedAway f lent
-
--- The most bits that a schedule has in either form: no field has more than a record.
-abbrev pub mostBits : ℕ
-mostBits = 16 * fieldsLeft Place.Names
 
 -- Before the field at a place, with p bits of the source read and q bits of the target made. With the pen down they were written;
 -- records are whole bytes.

@@ -25,7 +25,7 @@ use Rattle.schedule_fields.specs.declared.Place.{Place}
 use Rattle.schedule_fields.specs.Places.{widthOf, leastOf, mostOf, followOf, fieldsAt, fieldsLeft, RuleOf, Follows}
 use Rattle.schedule_fields.specs.PlaceLaws.{Sound, sound}
 use Rattle.schedule_records.specs.declared.Met.{Met}
-use Rattle.schedule_records.specs.Turning.{formOf, head, Meets, Aligned, mapped, left, whole, filled, mostBits, Going, Passes}
+use Rattle.schedule_records.specs.Turning.{formOf, head, Meets, Aligned, mapped, left, whole, filled, bitsWithin, mostBits, Going, Passes}
 
 -- ---- the fields that are left
 
@@ -66,11 +66,11 @@ left-field from to (field n least most follow) xs room bs h = go (ltb room (to n
 
 -- ---- one field
 
--- bits pass the end of bytes
-pub past-end : (bytes p n : ℕ) → ltb bytes ((p + n + 7) / 8) ≡ ltb (8 * bytes) (p + n)
-past-end bytes p n = by (ltb (8 * bytes) (p + n))
-    (λ e. lt-ltb bytes ((p + n + 7) / 8) (omega (arith, ltb-true (8 * bytes) (p + n) e)) ∙ sym e)
-    (λ e. le-ltb bytes ((p + n + 7) / 8) (omega (arith, ltb-false (8 * bytes) (p + n) e)) ∙ sym e)
+-- so few bits pass the end of bytes where they pass the bits that are counted
+pub past-within : (bytes p : ℕ) → p ≤ mostBits → ltb (bitsWithin bytes) p ≡ ltb (8 * bytes) p
+past-within bytes p h = by (ltb (8 * bytes) p)
+    (λ e. lt-ltb (bitsWithin bytes) p (omega (arith, ltb-true (8 * bytes) p e)) ∙ sym e)
+    (λ e. le-ltb (bitsWithin bytes) p (omega (arith, ltb-false (8 * bytes) p e)) ∙ sym e)
 
 module _ (short : Bool) (n : ℕ) (rule : Rule) (source : List ℕ) (p : ℕ) where
   pub meets-short : short ≡ true → Meets short n rule source p (record { number = 11; value = 0 })

@@ -7,7 +7,6 @@ use schedule_fields::Rule;
 ghost use mathlib.Core.Bool.{true, false, not};
 ghost use mathlib.Core.Path.{_≡_};
 ghost use Prim.Native.Nat.{_+_, _*_, _^_, _≤_, _<_};
-ghost use lib.Dec.{ltb};
 ghost use lib.ListN.{length, drop};
 ghost use Rattle.definitions.specs.Bits.{toBits, bitsOf, num};
 ghost use Rattle.definitions.specs.Checks.{badFill};
@@ -15,7 +14,7 @@ ghost use Rattle.definitions.specs.LegalSchedule.{LegalWidth};
 ghost use Rattle.definitions.specs.Conversion.{badWidth, convert, readSchedule, writeSchedule};
 ghost use Rattle.bits.specs.Writing.{put};
 ghost use Rattle.item_pen.specs.Pen.{Room, Penned};
-ghost use Rattle.schedule_records.specs.Turning.{formOf, Meets, Aligned, Passes, Converts};
+ghost use Rattle.schedule_records.specs.Turning.{formOf, Meets, bitsWithin, mostBits, Aligned, Passes, Converts};
 
 // W, the number of words of the sheet that a schedule belongs to, is 2 to 200 (FORMAT 1.2).
 const LEAST_WORDS: usize = 2;
@@ -27,7 +26,10 @@ const PAST: usize = 11;
 
 const NOT_ALLOWED: usize = 12;
 
-// The bits of a record (FORMAT 12.2).
+// No schedule has so many bytes in either form.
+const MOST_BYTES: usize = 268435456;
+
+// The bits of a record (FORMAT 10.2).
 const RECORD: usize = 16;
 
 // What a field comes to: its value, or the number of a refusal.
@@ -49,16 +51,15 @@ fn in_form(packed: bool, n: usize) -> usize
     if packed { n } else { RECORD }
 }
 
-// Whether n bits at a place pass the end of so many bytes; well before it they do not. Bytes are compared: their bits may be more
-// than a number counts.
-fn passes_end(bytes: usize, at: usize, n: usize) -> bool
-    requires { ⌜ (n ≤ 16) × (at + n + 7 < 2 ^ 64) ⌝ }
-    ensures { λ r. ⌜ r ≡ ltb (8 * bytes) (at + n) ⌝ }
+// The bits of so many bytes, or as many as no schedule has in either form: those of longer slices may be more than a number counts.
+fn bits_within(bytes: usize) -> usize
+    ensures { λ r. ⌜ r ≡ bitsWithin bytes ⌝ }
 {
-    if at / 8 + 8 <= bytes {
-        return false;
+    if bytes < MOST_BYTES {
+        bytes * 8
+    } else {
+        MOST_BYTES * 8
     }
-    bytes < (at + n + 7) / 8
 }
 
 // The n bits at a place, 0 for those past the end.
@@ -72,10 +73,10 @@ fn value_at(source: &[u8], at: usize, n: usize) -> usize
     sheet_window::wide(source, at, n) as usize
 }
 
-// The n bits at a place as the value of a field, where `short` tells that the other form has no room for it: both ends before the
-// value (FORMAT 12.3).
-fn meet(source: &[u8], at: usize, n: usize, short: bool, rule: Rule) -> Met
-    requires { ⌜ (0 < n) × (n ≤ 16) × (at + n + 7 < 2 ^ 64) ⌝ }
+// The n bits at a place as the value of a field, where the source has `end` bits, and `short` tells that the other form has no room
+// for it: both ends before the value (FORMAT 10.3).
+fn meet(source: &[u8], end: usize, at: usize, n: usize, short: bool, rule: Rule) -> Met
+    requires { ⌜ (end ≡ bitsWithin (length (now source))) × (0 < n) × (n ≤ 16) × (at + n ≤ mostBits) ⌝ }
     ensures { λ r. ⌜ Meets short n rule (now (source .entry)) at r ⌝ }
 {
     let least = rule.least;
@@ -87,7 +88,7 @@ fn meet(source: &[u8], at: usize, n: usize, short: bool, rule: Rule) -> Met
             value: 0,
         };
     }
-    if passes_end(source.len(), at, n) {
+    if end < at + n {
         return Met {
             number: PAST, // it is cut
             value: 0,
@@ -159,7 +160,8 @@ fn pass(w: usize, source: &[u8], target: &mut [u8], reading: bool, down: bool) -
     requires { ⌜ LegalWidth w ⌝ }
     ensures { λ r. ⌜ Passes w reading down (now (source .entry)) (now (target .entry)) (now (target .exit)) r ⌝ }
 {
-    let room = target.len();
+    let end = bits_within(source.len());
+    let room = bits_within(target.len());
     let mut place = Place::Names;
     let mut at = 0;
     let mut to = 0;
@@ -167,7 +169,7 @@ fn pass(w: usize, source: &[u8], target: &mut [u8], reading: bool, down: bool) -
     while rule.width != 0 {
         let n = in_form(reading, rule.width);
         let m = in_form(!reading, rule.width);
-        let met = meet(source, at, n, passes_end(room, to, m), rule);
+        let met = meet(source, end, at, n, room < to + m, rule);
         if met.number != 0 {
             return Passed {
                 number: met.number,

@@ -1,7 +1,5 @@
-use mathlib.Core.Path.{sym, _∙_}
 use native.Mathlib.Omega.{arith}
 use denote.Ref.{now}
-use borrow.Author.Tests.{ltb-true, ltb-false}
 use Rattle.schedule_records.specs.TurningLaws.{meets-short, meets-past, meets-below, meets-above, meets-value}
 use borrow.Author.Needs.{needs}
 use Rattle.schedule_records.proofs.meet.Statement.{statement}
@@ -15,33 +13,31 @@ returns c =
     let a = c .before .before .before .args in
     meets-short (a .short) (a .n) (a .rule) (now (a .source)) (a .at) (c .if1 .taken)
 
-passes-end-requires : tie.Need-passes-end-requires
-passes-end-requires c κs = search needs
+add-if2 : tie.Need-add-if2
+add-if2 c = search needs
 
 returns-2 : tie.Need-returns-2
 returns-2 c =
-    let a = c .before .before .before .before .before .args in
-    meets-past (a .short) (a .n) (a .rule) (now (a .source)) (a .at) (c .before .before .if1 .left) (omega arith) (ltb-true _ _ (sym (c .before .passes-end .ensures) ∙ c .if2 .taken))
+    let a = c .before .before .before .before .args in
+    meets-past (a .short) (a .n) (a .rule) (now (a .source)) (a .at) (c .before .if1 .left) (omega arith) (omega (arith, c .before .before .before .before .pre .0, c .before .before .before .before .pre .3, c .if2 .taken))
 
 returns-3 : tie.Need-returns-3
 returns-3 c =
-    let a = c .before .before .before .before .before .before .args in
-    meets-below (a .short) (a .n) (a .rule) (now (a .source)) (a .at) _ (c .before .before .before .if1 .left) (omega arith)
-    (ltb-false _ _ (sym (c .before .before .passes-end .ensures) ∙ c .before .if2 .left)) (c .before .before .before .before .value-at .ensures) (c .if3 .taken)
+    let a = c .before .before .before .before .before .args in
+    meets-below (a .short) (a .n) (a .rule) (now (a .source)) (a .at) _ (c .before .before .if1 .left) (omega arith)
+    (omega (arith, c .before .before .before .before .before .pre .0, c .before .if2 .left)) (c .before .before .before .value-at .ensures) (c .if3 .taken)
 
 returns-4 : tie.Need-returns-4
 returns-4 c =
-    let a = c .before .before .before .before .before .before .before .args in
-    meets-above (a .short) (a .n) (a .rule) (now (a .source)) (a .at) _ (c .before .before .before .before .if1 .left) (omega arith)
-    (ltb-false _ _ (sym (c .before .before .before .passes-end .ensures) ∙ c .before .before .if2 .left)) (c .before .before .before .before .before .value-at .ensures) (c .if4 .taken)
+    let a = c .before .before .before .before .before .before .args in
+    meets-above (a .short) (a .n) (a .rule) (now (a .source)) (a .at) _ (c .before .before .before .if1 .left) (omega arith)
+    (omega (arith, c .before .before .before .before .before .before .pre .0, c .before .before .if2 .left)) (c .before .before .before .before .value-at .ensures) (c .if4 .taken)
 
 returns-5 : tie.Need-returns-5
 returns-5 c =
-    let a = c .before .before .before .before .before .before .before .args in
-    meets-value (a .short) (a .n) (a .rule) (now (a .source)) (a .at) _ (c .before .before .before .before .if1 .left) (omega arith)
-    (ltb-false _ _ (sym (c .before .before .before .passes-end .ensures) ∙ c .before .before .if2 .left)) (c .before .before .before .before .before .value-at .ensures) (c .before .if3 .left) (c .if4 .left)
+    let a = c .before .before .before .before .before .before .args in
+    meets-value (a .short) (a .n) (a .rule) (now (a .source)) (a .at) _ (c .before .before .before .if1 .left) (omega arith)
+    (omega (arith, c .before .before .before .before .before .before .pre .0, c .before .before .if2 .left)) (c .before .before .before .before .value-at .ensures) (c .before .if3 .left) (c .if4 .left)
 
 pub meet-spec : {M : Type 1} → statement M
-meet-spec =
-    tie.close
-    (tie.spec value-at-requires returns passes-end-requires returns-2 returns-3 returns-4 returns-5)
+meet-spec = tie.close (tie.spec value-at-requires returns add-if2 returns-2 returns-3 returns-4 returns-5)
