@@ -29,7 +29,7 @@ const NOT_ALLOWED: usize = 12;
 // No schedule has so many bytes in either form.
 const MOST_BYTES: usize = 268435456;
 
-// The bits of a record (FORMAT 10.2).
+// The bits of a record (FORMAT 12.2).
 const RECORD: usize = 16;
 
 // What a field comes to: its value, or the number of a refusal.
@@ -74,7 +74,7 @@ fn value_at(source: &[u8], at: usize, n: usize) -> usize
 }
 
 // The n bits at a place as the value of a field, where the source has `end` bits, and `short` tells that the other form has no room
-// for it: both ends before the value (FORMAT 10.3).
+// for it: both ends before the value (FORMAT 12.3).
 fn meet(source: &[u8], end: usize, at: usize, n: usize, short: bool, rule: Rule) -> Met
     requires { ⌜ (end ≡ bitsWithin (length (now source))) × (0 < n) × (n ≤ 16) × (at + n ≤ mostBits) ⌝ }
     ensures { λ r. ⌜ Meets short n rule (now (source .entry)) at r ⌝ }
