@@ -1,17 +1,17 @@
-// What the programs print, from the lent bytes and the sheet's words only. No contract can say what a call of C's writes, so
-// these functions are proved safe and ending. Each takes the bytes that are to be written in `out`, of which the first so
-// many are set, and hands that number back.
+// What the programs print, from a schedule's records or the rows of a diagnosis, and the sheet's words. No contract can say
+// what a call of C's writes, so these functions are proved safe and ending. Each takes the bytes that are to be written in
+// `out`, of which the first so many are set, and hands that number back.
 use bits::Cursor;
 use bits::Read;
 ghost use Prim.Native.Nat.{_≤_, _<_};
 
-// A field's value and the bit behind it.
+// A field's value, and the bit or the byte behind it.
 struct Got {
     value: usize,
     at: usize,
 }
 
-// The bit that is to be read next, and how many bytes of `out` are set.
+// The bit of a diagnosis or the byte of records that is to be read next, and how many bytes of `out` are set.
 struct Place {
     at: usize,
     to: usize,
@@ -35,6 +35,27 @@ fn get(s: &[u8], at: usize, n: usize) -> Got
     match c.read(s, n) {
         Read::Value(value, next) => Got { value, at: next.at },
         Read::Past => Got { value: 0, at },
+    }
+}
+
+fn wide(b: u8) -> usize
+    ensures { λ r. ⌜ r < 256 ⌝ }
+{
+    b as usize
+}
+
+// The record at `at`: two bytes, the high one first (FORMAT 10.2); 0 where it passes the end.
+fn next(records: &[u8], at: usize) -> Got {
+    if records.len() <= at {
+        return Got { value: 0, at };
+    }
+    let low = at + 1;
+    if records.len() <= low {
+        return Got { value: 0, at };
+    }
+    Got {
+        value: wide(records[at]) * 256 + wide(records[low]),
+        at: low + 1,
     }
 }
 
@@ -103,8 +124,13 @@ fn start_of(i: usize, count: usize, at: usize) -> usize {
     if i < count { at } else { NOWHERE }
 }
 
-// The bit at which each word of the sheet begins. The word list, led by its count of 8 bits, stands behind the version of 4
-// (FORMAT 2.2).
+// W, the count of the words: 8 bits behind the version of 4 (FORMAT 2.2).
+pub fn width(sheet: &[u8]) -> usize {
+    let count = get(sheet, 4, 8);
+    count.value
+}
+
+// The bit at which each word of the sheet begins.
 fn index_words(sheet: &[u8], starts: &mut [usize]) {
     let count = get(sheet, 4, 8);
     let mut at = count.at;
@@ -131,12 +157,12 @@ fn put_word_at(out: &mut [u8], to: usize, sheet: &[u8], at: usize) -> usize {
     k
 }
 
-// Word w; nothing where the sheet has no such word.
+// Word w; its number where no words are known.
 fn put_word(out: &mut [u8], to: usize, sheet: &[u8], starts: &[usize], w: usize) -> usize {
     if w < starts.len() {
         put_word_at(out, to, sheet, starts[w])
     } else {
-        to
+        put_decimal(out, to, w)
     }
 }
 
@@ -147,25 +173,25 @@ fn put_word_field(
     out: &mut [u8],
     sheet: &[u8],
     starts: &[usize],
-    listing: &[u8],
+    records: &[u8],
     p: Place,
 ) -> Place {
-    let w = get(listing, p.at, 8);
+    let w = next(records, p.at);
     let to = put_word(out, p.to, sheet, starts, w.value);
     Place { at: w.at, to }
 }
 
 // A flag, as a digit.
-fn put_flag(out: &mut [u8], listing: &[u8], p: Place) -> Place {
-    let v = get(listing, p.at, 1);
+fn put_flag(out: &mut [u8], records: &[u8], p: Place) -> Place {
+    let v = next(records, p.at);
     let to = put_decimal(out, p.to, v.value);
     Place { at: v.at, to }
 }
 
 // A name, with a dot between two words (FORMAT 1.3, 2.5).
-fn put_name(out: &mut [u8], sheet: &[u8], starts: &[usize], listing: &[u8], p: Place) -> Place {
-    let q = put_word_field(out, sheet, starts, listing, p);
-    let flag = get(listing, q.at, 1);
+fn put_name(out: &mut [u8], sheet: &[u8], starts: &[usize], records: &[u8], p: Place) -> Place {
+    let q = put_word_field(out, sheet, starts, records, p);
+    let flag = next(records, q.at);
     if flag.value == 0 {
         return Place {
             at: flag.at,
@@ -173,27 +199,27 @@ fn put_name(out: &mut [u8], sheet: &[u8], starts: &[usize], listing: &[u8], p: P
         };
     }
     let to = put(out, q.to, b'.');
-    put_word_field(out, sheet, starts, listing, Place { at: flag.at, to })
+    put_word_field(out, sheet, starts, records, Place { at: flag.at, to })
 }
 
 // A `T` line (FORMAT 9.1).
-fn put_type(out: &mut [u8], sheet: &[u8], starts: &[usize], listing: &[u8], p: Place) -> Place {
+fn put_type(out: &mut [u8], sheet: &[u8], starts: &[usize], records: &[u8], p: Place) -> Place {
     let a = put_text(out, p.to, b"T ");
-    let q = put_name(out, sheet, starts, listing, Place { at: p.at, to: a });
+    let q = put_name(out, sheet, starts, records, Place { at: p.at, to: a });
     let to = put(out, q.to, b'\n');
     Place { at: q.at, to }
 }
 
-// A `T` line for each name; their number has 7 bits (FORMAT 6.1).
-fn put_types(out: &mut [u8], sheet: &[u8], starts: &[usize], listing: &[u8]) -> Place {
-    let count = get(listing, 0, 7);
+// A `T` line for each name, behind their number (FORMAT 6.1).
+fn put_types(out: &mut [u8], sheet: &[u8], starts: &[usize], records: &[u8]) -> Place {
+    let count = next(records, 0);
     let mut p = Place {
         at: count.at,
         to: 0,
     };
     let mut left = count.value;
     while 0 < left {
-        p = put_type(out, sheet, starts, listing, p);
+        p = put_type(out, sheet, starts, records, p);
         left -= 1;
     }
     p
@@ -204,29 +230,29 @@ fn put_part(
     out: &mut [u8],
     sheet: &[u8],
     starts: &[usize],
-    listing: &[u8],
+    records: &[u8],
     p: Place,
     left: usize,
 ) -> Place {
-    let q = put_word_field(out, sheet, starts, listing, p);
+    let q = put_word_field(out, sheet, starts, records, p);
     let to = put_between(out, q.to, left, b'.');
     Place { at: q.at, to }
 }
 
-// A parent: its count of words in 2 bits, and so many words (FORMAT 6.2).
+// A parent: its count of words, and so many words (FORMAT 6.2).
 fn put_parent(
     out: &mut [u8],
     sheet: &[u8],
     starts: &[usize],
-    listing: &[u8],
+    records: &[u8],
     at: usize,
     to: usize,
 ) -> Place {
-    let count = get(listing, at, 2);
+    let count = next(records, at);
     let mut p = Place { at: count.at, to };
     let mut left = count.value;
     while 0 < left {
-        p = put_part(out, sheet, starts, listing, p, left);
+        p = put_part(out, sheet, starts, records, p, left);
         left -= 1;
     }
     p
@@ -236,25 +262,25 @@ fn put_one_parent(
     out: &mut [u8],
     sheet: &[u8],
     starts: &[usize],
-    listing: &[u8],
+    records: &[u8],
     p: Place,
     left: usize,
 ) -> Place {
-    let q = put_parent(out, sheet, starts, listing, p.at, p.to);
+    let q = put_parent(out, sheet, starts, records, p.at, p.to);
     let to = put_between(out, q.to, left, b',');
     Place { at: q.at, to }
 }
 
-// The parents with commas between them; their count has 5 bits (FORMAT 6.2, 9.2).
+// The parents with commas between them, behind their count (FORMAT 6.2, 9.2).
 fn put_parents(
     out: &mut [u8],
     sheet: &[u8],
     starts: &[usize],
-    listing: &[u8],
+    records: &[u8],
     at: usize,
     to: usize,
 ) -> Place {
-    let count = get(listing, at, 5);
+    let count = next(records, at);
     let start = put_if_none(out, to, count.value);
     let mut p = Place {
         at: count.at,
@@ -262,34 +288,34 @@ fn put_parents(
     };
     let mut left = count.value;
     while 0 < left {
-        p = put_one_parent(out, sheet, starts, listing, p, left);
+        p = put_one_parent(out, sheet, starts, records, p, left);
         left -= 1;
     }
     p
 }
 
 // `makelist`, or `derive:` and the tag (FORMAT 9.2).
-fn put_mark(out: &mut [u8], listing: &[u8], p: Place) -> Place {
-    let derive = get(listing, p.at, 1);
+fn put_mark(out: &mut [u8], records: &[u8], p: Place) -> Place {
+    let derive = next(records, p.at);
     if derive.value == 0 {
         let to = put_text(out, p.to, b"makelist");
         return Place { at: derive.at, to };
     }
-    let tag = get(listing, derive.at, 8);
+    let tag = next(records, derive.at);
     let a = put_text(out, p.to, b"derive:");
     let to = put_decimal(out, a, tag.value);
     Place { at: tag.at, to }
 }
 
-fn put_one_mark(out: &mut [u8], listing: &[u8], p: Place, left: usize) -> Place {
-    let q = put_mark(out, listing, p);
+fn put_one_mark(out: &mut [u8], records: &[u8], p: Place, left: usize) -> Place {
+    let q = put_mark(out, records, p);
     let to = put_between(out, q.to, left, b',');
     Place { at: q.at, to }
 }
 
-// The marks with commas between them; their count has 9 bits (FORMAT 6.2, 9.2).
-fn put_marks(out: &mut [u8], listing: &[u8], at: usize, to: usize) -> Place {
-    let count = get(listing, at, 9);
+// The marks with commas between them, behind their count (FORMAT 6.2, 9.2).
+fn put_marks(out: &mut [u8], records: &[u8], at: usize, to: usize) -> Place {
+    let count = next(records, at);
     let start = put_if_none(out, to, count.value);
     let mut p = Place {
         at: count.at,
@@ -297,7 +323,7 @@ fn put_marks(out: &mut [u8], listing: &[u8], at: usize, to: usize) -> Place {
     };
     let mut left = count.value;
     while 0 < left {
-        p = put_one_mark(out, listing, p, left);
+        p = put_one_mark(out, records, p, left);
         left -= 1;
     }
     p
@@ -308,36 +334,36 @@ fn put_resource_name(
     out: &mut [u8],
     sheet: &[u8],
     starts: &[usize],
-    listing: &[u8],
+    records: &[u8],
     p: Place,
 ) -> Place {
     let a = put_text(out, p.to, b"R ");
-    let q = put_name(out, sheet, starts, listing, Place { at: p.at, to: a });
+    let q = put_name(out, sheet, starts, records, Place { at: p.at, to: a });
     let b = put(out, q.to, b'.');
-    put_word_field(out, sheet, starts, listing, Place { at: q.at, to: b })
+    put_word_field(out, sheet, starts, records, Place { at: q.at, to: b })
 }
 
 // A space and the virtual flag.
-fn put_virtual(out: &mut [u8], listing: &[u8], p: Place) -> Place {
+fn put_virtual(out: &mut [u8], records: &[u8], p: Place) -> Place {
     let to = put(out, p.to, b' ');
-    put_flag(out, listing, Place { at: p.at, to })
+    put_flag(out, records, Place { at: p.at, to })
 }
 
 // The parents and the marks, to the line's end.
-fn put_lists(out: &mut [u8], sheet: &[u8], starts: &[usize], listing: &[u8], p: Place) -> Place {
+fn put_lists(out: &mut [u8], sheet: &[u8], starts: &[usize], records: &[u8], p: Place) -> Place {
     let a = put(out, p.to, b' ');
-    let q = put_parents(out, sheet, starts, listing, p.at, a);
+    let q = put_parents(out, sheet, starts, records, p.at, a);
     let b = put(out, q.to, b' ');
-    let r = put_marks(out, listing, q.at, b);
+    let r = put_marks(out, records, q.at, b);
     let to = put(out, r.to, b'\n');
     Place { at: r.at, to }
 }
 
 // An `R` line (FORMAT 9.2).
-fn put_resource(out: &mut [u8], sheet: &[u8], starts: &[usize], listing: &[u8], p: Place) -> Place {
-    let q = put_resource_name(out, sheet, starts, listing, p);
-    let r = put_virtual(out, listing, q);
-    put_lists(out, sheet, starts, listing, r)
+fn put_resource(out: &mut [u8], sheet: &[u8], starts: &[usize], records: &[u8], p: Place) -> Place {
+    let q = put_resource_name(out, sheet, starts, records, p);
+    let r = put_virtual(out, records, q);
+    put_lists(out, sheet, starts, records, r)
 }
 
 // The trait flag and the word, to the line's end.
@@ -345,12 +371,12 @@ fn put_trait_and_word(
     out: &mut [u8],
     sheet: &[u8],
     starts: &[usize],
-    listing: &[u8],
+    records: &[u8],
     p: Place,
 ) -> Place {
-    let q = put_flag(out, listing, p);
+    let q = put_flag(out, records, p);
     let a = put(out, q.to, b' ');
-    let r = put_word_field(out, sheet, starts, listing, Place { at: q.at, to: a });
+    let r = put_word_field(out, sheet, starts, records, Place { at: q.at, to: a });
     let to = put(out, r.to, b'\n');
     Place { at: r.at, to }
 }
@@ -360,43 +386,43 @@ fn put_extension(
     out: &mut [u8],
     sheet: &[u8],
     starts: &[usize],
-    listing: &[u8],
+    records: &[u8],
     p: Place,
 ) -> Place {
     let a = put_text(out, p.to, b"E ");
-    let q = put_name(out, sheet, starts, listing, Place { at: p.at, to: a });
-    let r = put_virtual(out, listing, q);
-    put_trait_and_word(out, sheet, starts, listing, r)
+    let q = put_name(out, sheet, starts, records, Place { at: p.at, to: a });
+    let r = put_virtual(out, records, q);
+    put_trait_and_word(out, sheet, starts, records, r)
 }
 
-// An item; its first bit says which of the two it is (FORMAT 6.2, 6.3).
-fn put_item(out: &mut [u8], sheet: &[u8], starts: &[usize], listing: &[u8], p: Place) -> Place {
-    let lead = get(listing, p.at, 1);
+// An item; its lead bit says which of the two it is (FORMAT 6.2, 6.3).
+fn put_item(out: &mut [u8], sheet: &[u8], starts: &[usize], records: &[u8], p: Place) -> Place {
+    let lead = next(records, p.at);
     let q = Place {
         at: lead.at,
         to: p.to,
     };
     if lead.value == 0 {
-        put_resource(out, sheet, starts, listing, q)
+        put_resource(out, sheet, starts, records, q)
     } else {
-        put_extension(out, sheet, starts, listing, q)
+        put_extension(out, sheet, starts, records, q)
     }
 }
 
-// A line for each item; their count has 16 bits (FORMAT 6.1).
+// A line for each item, behind their count (FORMAT 6.1).
 fn put_items(
     out: &mut [u8],
     sheet: &[u8],
     starts: &[usize],
-    listing: &[u8],
+    records: &[u8],
     at: usize,
     to: usize,
 ) -> usize {
-    let count = get(listing, at, 16);
+    let count = next(records, at);
     let mut p = Place { at: count.at, to };
     let mut left = count.value;
     while 0 < left {
-        p = put_item(out, sheet, starts, listing, p);
+        p = put_item(out, sheet, starts, records, p);
         left -= 1;
     }
     p.to
@@ -493,23 +519,24 @@ fn put_more(out: &mut [u8], to: usize, more: bool) -> usize {
 
 // ---- whole answers
 
-// The `T` lines of a listing.
-pub fn print_order(sheet: &[u8], listing: &[u8]) {
-    let mut starts = [0usize; 256];
-    index_words(sheet, &mut starts);
+fn print_lines(sheet: &[u8], starts: &[usize], records: &[u8]) {
     let mut out = io::buffer();
-    let p = put_types(&mut out, sheet, &starts, listing);
-    flush(&out, p.to);
+    let p = put_types(&mut out, sheet, starts, records);
+    let to = put_items(&mut out, sheet, starts, records, p.at, p.to);
+    flush(&out, to);
 }
 
-// The `T`, `R` and `E` lines of a listing.
-pub fn print_schedule(sheet: &[u8], listing: &[u8]) {
+// The `T`, `R` and `E` lines of a schedule's records, in the words of a sheet.
+pub fn print_schedule(sheet: &[u8], records: &[u8]) {
     let mut starts = [0usize; 256];
     index_words(sheet, &mut starts);
-    let mut out = io::buffer();
-    let p = put_types(&mut out, sheet, &starts, listing);
-    let to = put_items(&mut out, sheet, &starts, listing, p.at, p.to);
-    flush(&out, to);
+    print_lines(sheet, &starts, records);
+}
+
+// The same with the numbers of the words.
+pub fn print_numbers(records: &[u8]) {
+    let starts = [0usize; 0];
+    print_lines(b"", &starts, records);
 }
 
 // A refusal, its `D` rows and `more`.

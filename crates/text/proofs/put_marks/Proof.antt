@@ -5,13 +5,13 @@ use Rattle.text.proofs.put_marks.Statement.{statement}
 use Rattle.text.proofs.put_marks.Tie as tie
 
 abbrev Inv-loop : tie.InvT-loop
-Inv-loop out₀ listing at to start p₀ left₀ out p left = length out ≡ length out₀
+Inv-loop out₀ records at to start p₀ left₀ out p left = length out ≡ length out₀
 
 abbrev μ-loop : tie.MeasureT-loop
-μ-loop out₀ listing at to start p₀ left₀ out p left = left
+μ-loop out₀ records at to start p₀ left₀ out p left = left
 
-get-requires : tie.Need-get-requires Inv-loop μ-loop
-get-requires c κs = search needs
+next-requires : tie.Need-next-requires Inv-loop μ-loop
+next-requires c κs = search needs
 
 put-if-none-requires : tie.Need-put-if-none-requires Inv-loop μ-loop
 put-if-none-requires c κs = search needs
@@ -43,7 +43,7 @@ put-marks-spec =
     (tie.spec
     Inv-loop
     μ-loop
-    get-requires
+    next-requires
     put-if-none-requires
     loop-holds
     put-one-mark-requires
