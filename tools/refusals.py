@@ -22,6 +22,14 @@ REFUSALS = {
     10: ("the schedule is longer than the listing", "the program lends 65,536 bytes"),
 }
 
+# The numbers of a schedule that is read, which has no sheet.
+SCHEDULES = {
+    11: ("a field passes the end of the schedule", "what the order-only call lists has no item count, and ends there"),
+    12: ("a value that is not allowed in a schedule",
+         "2 to 200 words, each below their number; up to 64 types; resources with 2 to 17 parents of 1 to 3 words "
+         "and up to 448 marks; fewer than 8 bits behind the last field, all of them zero"),
+}
+
 # The kinds of the rows after 8 and 9: the name of the kind, and what a row says.
 KINDS = {
     1: ("inherits self", "`{subject}` inherits `{other}`, which no type may"),
@@ -41,12 +49,12 @@ UNKNOWN = ("a number that the table of refusals does not have", "")
 
 def said_of(number):
     """A refusal in words."""
-    return REFUSALS.get(number, UNKNOWN)[0]
+    return {**REFUSALS, **SCHEDULES}.get(number, UNKNOWN)[0]
 
 
 def meaning_of(number):
     """A refusal in words, with its limits."""
-    said, limits = REFUSALS.get(number, UNKNOWN)
+    said, limits = {**REFUSALS, **SCHEDULES}.get(number, UNKNOWN)
     return f"{said} ({limits})" if limits else said
 
 

@@ -42,6 +42,17 @@ def number(token):
     return int(token) if token.isdecimal() and len(token) <= 12 else None
 
 
+def tokens_in(text, place):
+    """The tokens of a line before its comment, each with its place."""
+    out, plain = [], text.isascii()
+    for found in TOKEN.finditer(text):
+        if found[0].startswith("#"):
+            break
+        width = found.start() if plain else characters(text[:found.start()])
+        out.append(word_at(found[0], place._replace(column=width + 1)))
+    return out
+
+
 class TextReader:
     """Reads a text; what is wrong in it goes to `problems`, and the rest is read all the same."""
 
@@ -52,20 +63,10 @@ class TextReader:
     def read(self, text):
         """The type map of the text."""
         for line, text_line in enumerate(text.split("\n"), 1):
-            tokens = self.tokens(line, text_line)
+            tokens = tokens_in(text_line, Place(self.file, line, 1))
             if tokens:
                 self.read_line(tokens[0], tokens[1:])
         return self.map
-
-    def tokens(self, line, text_line):
-        """The tokens of a line before its comment, each with its place."""
-        out, plain = [], text_line.isascii()
-        for found in TOKEN.finditer(text_line):
-            if found[0].startswith("#"):
-                break
-            width = found.start() if plain else characters(text_line[:found.start()])
-            out.append(word_at(found[0], Place(self.file, line, width + 1)))
-        return out
 
     def error(self, token, text):
         """Notes what is wrong at a token."""

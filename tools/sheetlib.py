@@ -162,6 +162,14 @@ class Reader:
             raise SheetError(f"bit {first}: {what} is {value}, {allowed}", number=4)
         return value
 
+    def end(self, what):
+        """Nothing follows the last field but zero bits that fill the last byte."""
+        rest = self.size - self.at
+        if rest >= 8:
+            raise SheetError(f"{counted(rest // 8, 'more byte')} after the {what}", number=7)
+        if self.take(rest):
+            raise SheetError("the fill of the last byte is not zero", number=7)
+
 
 class Decoding:
     """The type map of a sheet, word numbers turned to words where they can be."""
@@ -179,7 +187,7 @@ class Decoding:
             what = f"extension {at + 1}"
             self.map.extensions.append(Extension(self.name(what), self.word(what),
                                                  self.names(what + ": parents", 1, PARENTS)))
-        self.end()
+        self.source.end("extensions")
 
     def listed(self):
         """A word of the list by its bytes."""
@@ -236,14 +244,6 @@ class Decoding:
         for _ in range(self.take(3, what + ": marks: count")):
             out.marks.append(self.take(8, what + ": mark") if self.take(1, what + ": mark") else None)
         return out
-
-    def end(self):
-        """Nothing follows the records but zero bits that fill the last byte."""
-        rest = self.source.size - self.source.at
-        if rest >= 8:
-            raise SheetError(f"{counted(rest // 8, 'more byte')} after the extensions", number=7)
-        if self.take(rest):
-            raise SheetError("the fill of the last byte is not zero", number=7)
 
 
 def decode(data, strict=False):
