@@ -11,8 +11,8 @@ import printed
 import proved
 import refusals
 from building import write_error
-from program import (ACCEPTED, REFUSED, STDIN, TROUBLE, NoOutput, Once, Parser, Trouble, about, each, put_out,
-                     read_all, run, shown, write_file)
+from program import (ACCEPTED, REFUSED, STDIN, TROUBLE, NoOutput, Once, Parser, Trouble, about, at_terminal, each, put_json,
+                     put_out, read_all, run, shown, write_file)
 
 USAGE = """\
 Usage: {call} [OPTION...] [FILE...]
@@ -68,11 +68,6 @@ def usage(call):
     numbers += ["Kinds of rows:"] + [f"  {kind:2}  {name}" for kind, (name, _) in refusals.KINDS.items()]
     return USAGE.format(call=call, what=WHAT[call], lines=LINES[call],
                         numbers="\n".join(numbers) + "\n")
-
-
-def at_terminal():
-    """Whether a person reads both the answer and the messages."""
-    return os.isatty(1) and os.isatty(2)
 
 
 # -------------------------------------------------------- what is asked
@@ -182,9 +177,8 @@ class Asked:
         return status
 
     def put_json(self, name, value):
-        """An object on a line of its own, led by the file and the call."""
-        import json  # pylint: disable=import-outside-toplevel
-        put_out(json.dumps({"file": name, "call": self.call, **value}).encode() + b"\n")
+        """An object, led by the file and the call."""
+        put_json({"file": name, "call": self.call, **value})
 
     def answer_told(self, name):
         """Answers one file; with --json trouble too is an object."""

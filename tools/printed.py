@@ -57,7 +57,7 @@ def parsed(call, text):
     if refused(text):
         return {"refusal": refusal_of(lines)}
     out = {"names": [line[2:] for line in lines if line.startswith("T ")]}
-    if call == "schedule":
+    if call != "order":
         out["items"] = [item_of(line) for line in lines if line[:2] in ("R ", "E ")]
     return out
 
@@ -67,8 +67,11 @@ def is_text(sheet):
     return sheet != b"" and all((b >= 32 and b != 127) or b in b"\t\n\r" for b in sheet[:512])
 
 
-def explained(text, sheet):
-    """A line in words for each line of a refusal."""
+TEXT_AS_SHEET = "the file is a text and no sheet; tools/sheet makes a sheet from the text of a map"
+
+
+def explained(text, data, is_a_text=TEXT_AS_SHEET):
+    """A line in words for each line of a refusal; one more where the bytes look like a text."""
     out = []
     for line in text.decode("ascii").splitlines():
         if line.startswith("refused "):
@@ -78,6 +81,6 @@ def explained(text, sheet):
         else:
             words = refusals.MORE
         out.append(f"{line}: {words}\n")
-    if is_text(sheet):
-        out.append("the file is a text and no sheet; tools/sheet makes a sheet from the text of a map\n")
+    if is_text(data):
+        out.append(is_a_text + "\n")
     return "".join(out).encode()

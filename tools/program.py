@@ -1,4 +1,4 @@
-"""What the programs in bin/ and tools/sheet share: statuses, messages, options, files.
+"""What the programs in bin/, tools/sheet and tools/schedule share: statuses, messages, options, files.
 
 A program ends with 0 where all was accepted, 1 where something was refused or has errors, and 2 on
 trouble: what was asked could not be done. Trouble is one line on standard error. Standard output and
@@ -74,6 +74,11 @@ def sayer(name):
     return say
 
 
+def at_terminal():
+    """Whether a person reads both the answer and the messages."""
+    return os.isatty(1) and os.isatty(2)
+
+
 # ---------------------------------------------------------------- files
 
 def hold_standard_files():
@@ -123,6 +128,12 @@ def put_out(data):
         end_by(signal.SIGPIPE)
     except OSError as error:
         raise NoOutput(reason(error), STDOUT) from None
+
+
+def put_json(value):
+    """An object on a line of its own, to standard output."""
+    import json  # pylint: disable=import-outside-toplevel
+    put_out(json.dumps(value).encode() + b"\n")
 
 
 def write_file(name, data):

@@ -44,7 +44,13 @@ fn counted(c: Counts, agrees: bool, untouched: bool) -> Counts {
     }
 }
 
-fn run_all(name: &mut [u8], sheet: &mut [u8], written: &mut [u8], listing: &mut [u8]) -> Counts {
+fn run_all(
+    name: &mut [u8],
+    sheet: &mut [u8],
+    written: &mut [u8],
+    listing: &mut [u8],
+    records: &mut [u8],
+) -> Counts {
     let mut held = 0;
     let mut counts = Counts {
         cases: 0,
@@ -53,7 +59,7 @@ fn run_all(name: &mut [u8], sheet: &mut [u8], written: &mut [u8], listing: &mut 
     };
     let mut left = MANY;
     while 0 < left {
-        let r = replaying::next_case(held, name, sheet, written, listing);
+        let r = replaying::next_case(held, name, sheet, written, listing, records);
         if !r.found {
             break;
         }
@@ -69,6 +75,13 @@ fn main() {
     let mut sheet = io::large_buffer();
     let mut written = io::large_buffer();
     let mut listing = io::large_buffer();
-    let counts = run_all(&mut name, &mut sheet, &mut written, &mut listing);
+    let mut records = buffers::for_records();
+    let counts = run_all(
+        &mut name,
+        &mut sheet,
+        &mut written,
+        &mut listing,
+        &mut records,
+    );
     print_counts(counts);
 }

@@ -1,14 +1,5 @@
 // Runs the calls on the sheets of document 01's (p) cases and of its corners, and compares every byte. Prints a line for
 // each: its name, and `ok` or `differs`.
-ghost use mathlib.Core.Path.{_≡_};
-ghost use lib.ListN.{length};
-
-// The largest schedule that was found has 239,675 bytes (FORMAT 6.4).
-fn space() -> [u8; 262144]
-    ensures { λ r. ⌜ 262144 ≡ length r ⌝ }
-{
-    [0; 262144]
-}
 
 fn print_name(name: &[u8], n: usize) {
     if n <= name.len() {
@@ -25,11 +16,17 @@ fn print_line(name: &[u8], n: usize, agrees: bool) {
     }
 }
 
-fn run_all(name: &mut [u8], sheet: &mut [u8], written: &mut [u8], listing: &mut [u8]) {
+fn run_all(
+    name: &mut [u8],
+    sheet: &mut [u8],
+    written: &mut [u8],
+    listing: &mut [u8],
+    records: &mut [u8],
+) {
     let mut held = 0;
     let mut left: u64 = 100000;
     while 0 < left {
-        let r = replaying::next_case(held, name, sheet, written, listing);
+        let r = replaying::next_case(held, name, sheet, written, listing, records);
         if !r.found {
             break;
         }
@@ -42,7 +39,14 @@ fn run_all(name: &mut [u8], sheet: &mut [u8], written: &mut [u8], listing: &mut 
 fn main() {
     let mut name = io::buffer();
     let mut sheet = io::large_buffer();
-    let mut written = space();
-    let mut listing = space();
-    run_all(&mut name, &mut sheet, &mut written, &mut listing);
+    let mut written = buffers::for_schedule();
+    let mut listing = buffers::for_schedule();
+    let mut records = buffers::for_records();
+    run_all(
+        &mut name,
+        &mut sheet,
+        &mut written,
+        &mut listing,
+        &mut records,
+    );
 }

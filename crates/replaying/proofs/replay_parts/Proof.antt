@@ -6,49 +6,41 @@ use Rattle.replaying.proofs.replay_parts.Statement.{statement}
 use Rattle.replaying.proofs.replay_parts.Tie as tie
 use Rattle.replaying.proofs.replay_parts.Reads as reads
 use Rattle.replaying.proofs.replay_parts.Lts as lts
-use Rattle.replaying.proofs.replay.Reads as replay-reads
+use Rattle.replaying.proofs.replay_both_ways.Reads as both-reads
 
--- src/lib.rt:332:9
 returns : tie.Need-returns
 returns c = search needs
 
--- src/lib.rt:335:9
 returns-2 : tie.Need-returns-2
 returns-2 c = search needs
 
--- src/lib.rt:338:9
 returns-3 : tie.Need-returns-3
 returns-3 c = search needs
 
--- src/lib.rt:340:15
-slice-aggregate-replay : tie.Need-slice-aggregate-replay
-slice-aggregate-replay c = sym (length-take-le _ _ (omega arith))
+slice-aggregate-replay-both-ways : tie.Need-slice-aggregate-replay-both-ways
+slice-aggregate-replay-both-ways c = sym (length-take-le _ _ (omega arith))
 
--- src/lib.rt:340:28
-slice-aggregate-replay-2 : tie.Need-slice-aggregate-replay-2
-slice-aggregate-replay-2 c = sym (length-take-le _ _ (omega arith))
+slice-aggregate-replay-both-ways-2 : tie.Need-slice-aggregate-replay-both-ways-2
+slice-aggregate-replay-both-ways-2 c = sym (length-take-le _ _ (omega arith))
 
--- src/lib.rt:340:52
-slice-relend-prefix-replay : tie.Need-slice-relend-prefix-replay
-slice-relend-prefix-replay c = search needs
+slice-relend-prefix-replay-both-ways : tie.Need-slice-relend-prefix-replay-both-ways
+slice-relend-prefix-replay-both-ways c = search needs
 
--- src/lib.rt:340:52
-slice-aggregate-replay-3 : tie.Need-slice-aggregate-replay-3
-slice-aggregate-replay-3 c = sym (length-take-le _ _ (omega arith))
+slice-aggregate-replay-both-ways-3 : tie.Need-slice-aggregate-replay-both-ways-3
+slice-aggregate-replay-both-ways-3 c = sym (length-take-le _ _ (omega arith))
 
--- src/lib.rt:340:5
-replay-requires : tie.Need-replay-requires
-replay-requires c κs = search needs
+replay-both-ways-requires : tie.Need-replay-both-ways-requires
+replay-both-ways-requires c κs = search needs
 
--- src/lib.rt:320:1
 same-length : tie.Need-same-length
 same-length c = search needs
 
--- src/lib.rt:320:1
 same-length-2 : tie.Need-same-length-2
 same-length-2 c = search needs
 
--- src/lib.rt:320:1
+same-length-3 : tie.Need-same-length-3
+same-length-3 c = search needs
+
 returns-4 : tie.Need-returns-4
 returns-4 c = search needs
 
@@ -59,11 +51,12 @@ replay-parts-spec =
     returns
     returns-2
     returns-3
-    slice-aggregate-replay
-    slice-aggregate-replay-2
-    slice-relend-prefix-replay
-    slice-aggregate-replay-3
-    replay-requires
+    slice-aggregate-replay-both-ways
+    slice-aggregate-replay-both-ways-2
+    slice-relend-prefix-replay-both-ways
+    slice-aggregate-replay-both-ways-3
+    replay-both-ways-requires
     same-length
     same-length-2
+    same-length-3
     returns-4)
