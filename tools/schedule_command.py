@@ -35,6 +35,7 @@ def options(name):
     words.add_argument("--sheet", metavar="SHEET", action=Once, help="words are those of this sheet")
     out.add_argument("-o", metavar="FILE", dest="out", action=Once, help="write to FILE, not to standard output")
     out.add_argument("--hex", action="store_true", help="with --pack: print the bytes in hexadecimal")
+    out.add_argument("--records", action="store_true", help="the bytes are records, two for each field, and not packed")
     out.add_argument("--raw", action="store_true",
                      help="for schedules that are refused: check only that fields fit their widths, with --text only "
                           "that fields end and fill do")
@@ -57,7 +58,8 @@ def converted(name, args, problems):
     words, data = words_of(args), read_whole(name)
     try:
         if args.text:
-            return schedule_text.to_text(schedule_text.unpack(data, words, args.raw), words).encode("latin-1")
+            schedule = schedule_text.unpack(data, words, args.raw, args.records)
+            return schedule_text.to_text(schedule, words).encode("latin-1")
         text = map_files.text_in(name, data, problems)
         if text is None:
             return None
@@ -66,7 +68,7 @@ def converted(name, args, problems):
         problems.error(None, f"refused with {error.number}: {error.text}")
     if problems.of("error"):
         return None
-    out = schedule_text.packed(schedule)
+    out = schedule_text.packed(schedule, args.records)
     return out.hex(" ").encode() + b"\n" if args.hex else out
 
 

@@ -17,7 +17,7 @@ for a parent without words.
 from collections import namedtuple
 
 from model_lines import Line, Making
-from model_packing import pack
+from model_packing import Bits, Records, pack
 from places import Place, counted, name_from, place_of, quoted, word_at
 from sheet_text import number, tokens_in
 from sheetlib import Reader, SheetError
@@ -66,13 +66,21 @@ class Words:
         return self.listed.index(token) if token in self.listed else None
 
 
-# ------------------------------------------------------------- packed bytes
+# ------------------------------------------------------------ bytes
+
+class RecordReader(Reader):
+    """Reads fields from records, two bytes each; a value that is too wide for its field is not allowed."""
+
+    def take(self, width, what="a field", low=0, high=None):
+        """The next field."""
+        return super().take(16, what, low, (1 << width) - 1 if high is None else high)
+
 
 class Unpacking:
-    """The schedule of packed bytes, field by field, each with its limits."""
+    """The schedule of packed bytes or of records, field by field, each with its limits."""
 
-    def __init__(self, data, words, raw):
-        self.source, self.limits = Reader(data, not raw), limits_of(words, raw)
+    def __init__(self, source, limits):
+        self.source, self.limits = source, limits
         names = [self.name(f"type {at + 1}") for at in range(self.count(7, "types", self.limits.names))]
         items = [self.item(f"item {at + 1}") for at in range(self.count(16, "items", self.limits.items))]
         self.source.end("items")
@@ -116,20 +124,20 @@ class Unpacking:
         return self.source.take(8, what + ": tag") if self.flag(what) else None
 
 
-def unpack(data, words, raw=False):
-    """The schedule of packed bytes; SheetError with 11 or 12 where there is none. With `raw` only ends and
-    fill are tested."""
+def unpack(data, words, raw=False, records=False):
+    """The schedule of packed bytes, or of records; SheetError with 11 or 12 where there is none. With `raw`
+    only ends and fill are tested."""
     if not raw:
         words.check()
     try:
-        return Unpacking(data, words, raw).schedule
+        return Unpacking((RecordReader if records else Reader)(data, not raw), limits_of(words, raw)).schedule
     except SheetError as error:
         raise SheetError(error.text, number=REFUSALS[error.number]) from None
 
 
-def packed(schedule):
-    """The bytes of a schedule."""
-    return pack(schedule.names, schedule.items)
+def packed(schedule, records=False):
+    """The bytes of a schedule, or of its records."""
+    return pack(schedule.names, schedule.items, Records if records else Bits)
 
 
 # ------------------------------------------------------------------ showing

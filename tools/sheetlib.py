@@ -167,7 +167,7 @@ class Reader:
         rest = self.size - self.at
         if rest >= 8:
             raise SheetError(f"{counted(rest // 8, 'more byte')} after the {what}", number=7)
-        if self.take(rest):
+        if self.number & (1 << rest) - 1:
             raise SheetError("the fill of the last byte is not zero", number=7)
 
 

@@ -1,5 +1,5 @@
 #!/usr/bin/env python3
-"""Tests of bin/schedule and bin/order as people run them. Run: python3 tools/test_programs.py
+"""Tests of bin/schedule, bin/order and bin/show as people run them. Run: python3 tools/test_programs.py
 
 Those that ask the proved programs are skipped where these are not built, those that ask for packed bytes
 where the library is not. How the programs build what is missing is tried in a small copy, with a stand-in
@@ -30,8 +30,11 @@ import model
 import printed
 import proved
 import refusals
+import schedule_text
 import sheetlib
+import showing
 from maps import large
+from places import Problems
 
 CALLS = ("schedule", "order")
 EXAMPLES = os.path.join(ROOT, "examples")
@@ -39,11 +42,14 @@ BASE = os.path.join(EXAMPLES, "base.sheet")
 BASE_TEXT = b"T base\nT resource\nT file\nR base.file 0 file,resource makelist\nE base 00 file\n"
 
 BUILT = all(building.at_hand(ROOT, building.program(ROOT, call)) for call in CALLS)
+SHOWS = BUILT and building.at_hand(ROOT, building.program(ROOT, "show"))
 LINKED = (BUILT and building.at_hand(ROOT, building.library(ROOT))
           and any(map(shutil.which, ("cc", "gcc", "clang"))))
 NOT_BUILT = "the programs are not built, or older than their sources; run bin/schedule and bin/order once"
+NOT_SHOWN = "the program show is not built, or older than its sources; run bin/show -w 2 < /dev/null"
 NOT_LINKED = "the library is not built, or older than its sources; run bin/schedule --size examples/base.sheet"
 built = unittest.skipUnless(BUILT, NOT_BUILT)
+shows = unittest.skipUnless(SHOWS, NOT_SHOWN)
 linked = unittest.skipUnless(LINKED, NOT_LINKED)
 
 
@@ -303,7 +309,7 @@ class Tables(unittest.TestCase):
     """The table of numbers and kinds."""
 
     def test_complete(self):
-        self.assertEqual(list(refusals.REFUSALS), list(range(1, 11)))
+        self.assertEqual([*refusals.REFUSALS, *refusals.SCHEDULES], list(range(1, 13)))
         self.assertEqual(list(refusals.KINDS), list(range(1, 7)))
 
     def test_limits(self):
@@ -595,6 +601,206 @@ class Options(Folder):
         if os.path.exists(os.path.join(ROOT, "VERSION")):
             with open(os.path.join(ROOT, "VERSION"), encoding="utf-8") as source:
                 self.assertEqual(lines[0], f"schedule {source.read().strip()}")
+
+
+# ------------------------------------------------------------ packed schedules
+
+FOREIGN = b"T 0\nT 1.3\nE 1.3 01 2\nR 0.2 1 2,1.3.2 makelist,derive:0,derive:255\nR 1.3.4 0 0,0 -\nE 4 10 0\n"
+
+
+def packed_by_model(sheet):
+    """The packed schedule of an accepted sheet, None of another; and its lines."""
+    answer = model.schedule(sheet, bytes(1 << 18), bytes(1536))
+    lines = "".join(line + "\n" for line in model.printed(sheet, answer, True)).encode()
+    return (None if answer.number else answer.listing[:answer.size]), lines
+
+
+def packed_lines(text, width):
+    """The packed schedule of lines with word numbers."""
+    problems = Problems()
+    out = schedule_text.packed(schedule_text.parse_text(text.decode(), schedule_text.Words(width), problems))
+    assert not problems.found, problems.told("lines", ("error",))
+    return out
+
+
+@shows
+class Show(Folder):
+    """bin/show: what is printed, and the statuses."""
+
+    PACKED = bytes.fromhex("06000200800080001090140802800010")
+    NUMBERS = b"T 0\nT 2\nT 1\nR 0.1 0 1,2 makelist\nE 0 00 1\n"
+
+    def packed(self, data=PACKED):
+        """A file with a packed schedule."""
+        return self.write("a.schedule", data)
+
+    def test_words(self):
+        self.assertEqual(run("show", BASE, self.packed()), (0, BASE_TEXT, ""))
+        self.assertEqual(run("show", "--", BASE, self.packed()), (0, BASE_TEXT, ""))
+
+    def test_numbers(self):
+        path = self.packed()
+        for args in (["-w", "4", path], [path, "-w", "4"], ["-w4", path], ["-w", "200", path]):
+            self.assertEqual(run("show", *args), (0, self.NUMBERS, ""))
+
+    def test_standard_input(self):
+        """Of the two files one may be standard input."""
+        self.assertEqual(run("show", BASE, "-", given=self.PACKED), (0, BASE_TEXT, ""))
+        with open(BASE, "rb") as source:
+            self.assertEqual(run("show", "-", self.packed(), stdin=source), (0, BASE_TEXT, ""))
+        for args in ([], ["-"]):
+            self.assertEqual(run("show", "-w", "4", *args, given=self.PACKED), (0, self.NUMBERS, ""))
+
+    def test_examples(self):
+        """Each example that is accepted: what bin/schedule prints, and the packed bytes that stand beside it."""
+        count = 0
+        for folder, _, names in os.walk(EXAMPLES):
+            for path in [os.path.join(folder, name) for name in names if name.endswith(".sheet")]:
+                with open(path, "rb") as source:
+                    packed, lines = packed_by_model(source.read())
+                if packed is not None:
+                    count += 1
+                    self.assertEqual(run("schedule", path), (0, lines, ""))
+                    self.assertEqual(run("show", path, "-", given=packed), (0, lines, ""), path)
+        self.assertGreater(count, 1)
+        self.assertEqual(run("show", BASE, os.path.join(EXAMPLES, "base.schedule")), (0, BASE_TEXT, ""))
+
+    def test_cases(self):
+        """Each listed case that is accepted, in words and in numbers, by the proved program itself."""
+        program = proved.Each(building.program(ROOT, "show").path)
+        for sheet in listed_sheets().values():
+            packed, lines = packed_by_model(sheet)
+            if packed is not None:
+                words = schedule_text.Words(len(model.sheet_words(sheet)))
+                numbers = schedule_text.to_text(schedule_text.unpack(packed, words), words).encode()
+                self.assertEqual(program.text(showing.asked(None, sheet, packed)), lines)
+                self.assertEqual(program.text(showing.asked(words.count, None, packed)), numbers)
+
+    def test_largest(self):
+        """The largest schedule found, which bin/schedule does not print; and one with the most records a byte."""
+        crowd = sheetlib.encode(large.MAPS["crowd"]())
+        packed, lines = packed_by_model(crowd)
+        self.assertEqual(len(packed), 239675)
+        self.assertEqual(run("show", self.write("crowd.sheet", crowd), self.packed(packed)), (0, lines, ""))
+        for count in (60, 64, 900, 1100, 3900):
+            text = b"R 0.1 0 0,1 " + b",".join([b"makelist"] * 448) + b"\n"
+            packed = packed_lines(text * count, 2)
+            self.assertEqual(run("show", "-w", "2", "-", given=packed), (0, text * count, ""), count)
+
+    def test_foreign(self):
+        """A schedule that is not ours: items in any order, of types that are not listed."""
+        self.assertEqual(run("show", "-w", "5", "-", given=packed_lines(FOREIGN, 5)), (0, FOREIGN, ""))
+
+    def test_refused(self):
+        for width, data, number in [
+                (4, self.PACKED[:-1], 11), (4, self.PACKED[:4], 11), (4, b"", 11), (4, self.PACKED + b"\0", 12),
+                (4, self.PACKED[:-1] + b"\x11", 12), (2, self.PACKED, 12), (3, self.PACKED, 0), (4, b"\xff" * 16, 12),
+                (4, bytes.fromhex("0600020080"), 11), (0, self.PACKED, 12), (1, b"", 12), (201, b"", 12),
+                (70000, self.PACKED, 12), (1 << 70, self.PACKED, 12), (2, bytes(3), 0), (2, bytes(4), 12)]:
+            status, out, error = run("show", "-w", str(width), "-", given=data)
+            self.assertEqual((status, error), (int(number > 0), ""), (width, data))
+            if number:
+                self.assertEqual(out, b"refused %d\n" % number, (width, data))
+        other = self.write("other.sheet", sheetlib.sheet_of("domain a"))
+        self.assertEqual(run("show", other, self.packed(packed_lines(b"T 3", 4))), (1, b"refused 12\n", ""))
+
+    def test_cuts(self):
+        """Every cut passes the end."""
+        program = proved.Each(building.program(ROOT, "show").path)
+        packed = packed_lines(FOREIGN, 5)
+        for size in range(len(packed)):
+            self.assertEqual(program.text(showing.asked(5, None, packed[:size])), b"refused 11\n")
+
+    def test_explain(self):
+        status, out, error = run("show", "-w", "2", "--explain", self.packed())
+        self.assertEqual((status, error), (1, ""))
+        self.assertEqual(out.decode(), f"refused 12\nrefused 12: {refusals.meaning_of(12)}\n")
+        other = self.write("other.sheet", sheetlib.sheet_of("domain a"))
+        out = run("show", "--explain", other, self.packed(packed_lines(b"T 3", 4)))[1].decode()
+        self.assertTrue(out.splitlines()[-1].startswith("the sheet may be another one"), out)
+        out = run("show", "--explain", "-w", "4", "-", given=b"T base\n")[1].decode()
+        self.assertIn("tools/schedule", out.splitlines()[-1])
+        words = [os.path.join(ROOT, "bin", "show"), "-w", "2", self.packed()]
+        self.assertEqual(at_terminal(words), (1, f"refused 12\nrefused 12: {refusals.meaning_of(12)}\n"))
+
+    def test_json(self):
+        path = self.packed()
+        value = json.loads(run("show", "--json", BASE, path)[1])
+        other = json.loads(run("schedule", "--json", BASE)[1])
+        self.assertEqual(value, {**other, "file": path, "call": "show"})
+        self.assertEqual(printed_lines(json.loads(run("show", "--json", "-w", "4", path)[1])),
+                         self.NUMBERS.decode().splitlines())
+        status, out, _ = run("show", "--json", "-w", "2", path)
+        self.assertEqual((status, json.loads(out)), (1, {
+            "file": path, "call": "show", "status": 1,
+            "refusal": {"number": 12, "meaning": refusals.meaning_of(12), "rows": [], "more": False}}))
+        status, out, error = run("show", "--json", "gone", path)
+        self.assertEqual((status, error), (2, "show: gone: no such file or directory\n"))
+        self.assertEqual(json.loads(out), {"file": path, "call": "show", "status": 2,
+                                           "trouble": "gone: no such file or directory"})
+
+    def test_sheet_refused(self):
+        """A sheet that cannot be read has no words; one without an order has them."""
+        path = self.packed(bytes(3))
+        for sheet, said in [(b"", f"3: {refusals.meaning_of(3)}"), (b"\x20", f"4: {refusals.meaning_of(4)}"),
+                            (bytes(40961), f"1: {refusals.meaning_of(1)}"),
+                            (b"domain a\n", f"4: {printed.TEXT_AS_SHEET}")]:
+            name = self.write("a.sheet", sheet)
+            self.trouble(run("show", name, path),
+                         f"show: {name}: its words are needed, and the sheet is refused with {said}")
+        loop = self.write("loop.sheet", sheetlib.sheet_of("domain a : a"))
+        self.assertEqual(run("show", loop, self.packed(packed_lines(b"T 0", 3))), (0, b"T a\n", ""))
+
+    def test_troubles(self):
+        path, long = self.packed(), self.write("long", bytes((1 << 18) + 1))
+        needed = "a sheet and a schedule are needed, or -w W and a schedule; --help has more"
+        for args, said in [
+                ([], needed), ([BASE], needed), ([BASE, path, path], needed),
+                (["-w", "4", path, path],
+                 "-w W takes the place of the sheet: one file, the schedule, is taken beside it"),
+                (["-w", "x", path], "argument -w: invalid int value: 'x'; --help has the options"),
+                (["-w", "4", "-w", "5", path], "-w is given twice"), (["-w=-1", path], "-w -1: is no number of words"),
+                (["--json", "--explain", BASE, path], "--explain does nothing with --json, which has the words"),
+                (["-", "-"], "standard input is given twice"), (["--packed", "a"], None),
+                ([BASE, "gone"], "gone: no such file or directory"), (["gone", path], "gone: no such file or directory"),
+                ([BASE, self.folder], f"{self.folder}: is a directory"),
+                (["-w", "4", long], f"{long}: longer than 262,144 bytes, which the program takes")]:
+            status, out, error = run("show", *args)
+            self.assertEqual((status, out), (2, b""), args)
+            self.assertTrue(error.startswith("show: ") and error.count("\n") == 1, error)
+            if said:
+                self.assertEqual(error, f"show: {said}\n")
+        done = subprocess.run(["sh", "-c", '"$@" > /dev/full', "sh", os.path.join(ROOT, "bin", "show"), BASE, path],
+                              capture_output=True, check=False)
+        self.assertEqual((done.returncode, done.stderr), (2, b"show: standard output: no space left on device\n"))
+        status, shown = at_terminal([os.path.join(ROOT, "bin", "show"), "-w", "4"])
+        self.assertEqual((status, "is a terminal" in shown), (2, True))
+
+    @linked
+    def test_written(self):
+        """What bin/schedule --packed writes is shown as bin/schedule prints it."""
+        sheet, path = os.path.join(EXAMPLES, "pool.sheet"), self.path("p.bin")
+        self.assertEqual(run("schedule", "--packed", path, sheet), (0, b"", ""))
+        self.assertEqual(run("show", sheet, path), run("schedule", sheet))
+        width = run("schedule", "--size", sheet)[1].split()[3].decode()
+        self.assertEqual(run("show", "-w", width, path)[0], 0)
+        self.assertEqual(run("order", "--packed", path, sheet), (0, b"", ""))
+        self.assertEqual(run("show", sheet, path), (1, b"refused 11\n", ""))
+
+
+class ShowOptions(Folder):
+    """--help and --version of bin/show."""
+
+    def test_help(self):
+        status, out, error = run("show", "gone", "--help")
+        self.assertEqual((status, error), (0, ""))
+        self.assertTrue(out.decode().startswith("Usage: show "))
+        for part in ["-w W", "--json", "--explain", "Status: 0 printed", "262,144", "11  a field passes", "12  a value"]:
+            self.assertIn(part, out.decode())
+        self.assertLess(max(map(len, out.decode().splitlines())), 100)
+
+    def test_version(self):
+        self.assertEqual(run("show", "--version")[1].split()[0], b"show")
 
 
 class Examples(unittest.TestCase):
@@ -941,6 +1147,6 @@ class Building(Folder):
 
 
 if __name__ == "__main__":
-    for word in [NOT_BUILT] * (not BUILT) + [NOT_LINKED] * (not LINKED):
+    for word in [NOT_BUILT] * (not BUILT) + [NOT_SHOWN] * (not SHOWS) + [NOT_LINKED] * (not LINKED):
         print(f"some tests are skipped: {word}", file=sys.stderr)
     unittest.main()

@@ -14,10 +14,13 @@ import unittest
 HERE = os.path.dirname(os.path.abspath(__file__))
 sys.path.insert(0, HERE)
 
+import case_texts
 import model
+import schedule_text
 import sheetlib
 from case_texts import fields
 from maps import changed, drawn, flavours, large, loads, small
+from places import Problems
 from sheetlib import encode, sheet_of
 
 LISTING, DIAGNOSIS = b"\xa5" * 65536, b"\x5a" * 1600
@@ -36,6 +39,11 @@ def number(text, call="schedule", **options):
     sheet = text if isinstance(text, bytes) else sheet_of(text)
     options = {"listing": LISTING, "diagnosis": DIAGNOSIS, **options}
     return CALLS[call](sheet, **options).number
+
+
+def sheet_width(sheet):
+    """W, the number of words of a sheet."""
+    return len(model.sheet_words(sheet))
 
 
 class PCases(unittest.TestCase):
@@ -677,14 +685,15 @@ class Programs(unittest.TestCase):
             self.assertEqual(self.tool(name, "--check")[0], 0, name)
 
     def test_stored_tags(self):
-        """What `text_try` reads and prints is the model's schedule of examples/tags.txt."""
+        """What `text_try` reads and prints are the model's records and lines of examples/tags.txt."""
         root = os.path.join(HERE, "..")
         with open(os.path.join(root, "examples", "tags.txt"), encoding="latin-1") as source:
             sheet = sheet_of(source.read())
         result = model.schedule(sheet, LISTING, DIAGNOSIS)
         head = bytes([1, 0, 0, 0, 0, len(sheet) >> 8, len(sheet) & 255])
         lines = "".join(line + "\n" for line in model.printed(sheet, result, True))
-        stored = {"stdin": head + sheet + result[4][:result[1]], "stdout": lines.encode("latin-1")}
+        schedule = schedule_text.unpack(result.listing[:result.size], schedule_text.Words(sheet_width(sheet)))
+        stored = {"stdin": head + sheet + schedule_text.packed(schedule, records=True), "stdout": lines.encode("latin-1")}
         for name, expected in stored.items():
             with open(os.path.join(root, "crates", "text_try", name), "rb") as source:
                 self.assertEqual(source.read(), expected, name)
@@ -697,6 +706,178 @@ class Programs(unittest.TestCase):
         self.assertEqual(self.tool("model.py", "order", "--diagnosis", "1535", given=sheet)[1],
                          b"refused 2\n")
         self.assertEqual(self.tool("model.py", "order", given=sheet_of(""))[1], b"")
+
+
+# ---------------------------------------------------------- texts of schedules
+
+SCHEDULE = """\
+# types, then items in any order, also of types that are not listed
+T 0
+T 1.3
+
+E 1.3 01 2
+R 0.2 1 2,1.3.2 makelist,derive:0,derive:255
+R 1.3.4 0 0,0 -     # the same parent twice
+E 4 10 0
+"""
+
+
+class ScheduleTexts(unittest.TestCase):
+    """Packed schedules as text and back: schedule_text.py and tools/schedule."""
+
+    tool = Programs.tool
+
+    def told(self, text, words=5, raw=False, listed=None):
+        """What is wrong in a text."""
+        problems = Problems()
+        schedule_text.parse_text(text, schedule_text.Words(words, listed), problems, "x", raw)
+        return [str(problem).removeprefix("x:").replace(": error", "") for problem in problems.sorted()]
+
+    def refused(self, data, width=2, **options):
+        """The number with which bytes are refused, 0 for none."""
+        try:
+            schedule_text.unpack(data, schedule_text.Words(width), **options)
+        except sheetlib.SheetError as error:
+            return error.number
+        return 0
+
+    def test_every_schedule(self):
+        """Each listed case that is accepted: packed bytes, text with words and with numbers, records, and back."""
+        count = 0
+        for case in (*case_texts.DOCUMENT.values(), *case_texts.CORNERS.values()):
+            sheet = case_texts.sheet_in(case)
+            result = model.schedule(sheet, LISTING, DIAGNOSIS)
+            if result.number == 0:
+                count += 1
+                packed, listed = result.listing[:result.size], model.sheet_words(sheet)
+                for words in (schedule_text.Words(len(listed)), schedule_text.Words(len(listed), listed)):
+                    schedule = schedule_text.unpack(packed, words)
+                    text = schedule_text.to_text(schedule, words)
+                    self.assertEqual(schedule_text.parse_text(text, words, Problems()), schedule)
+                    self.assertEqual(schedule_text.packed(schedule), packed)
+                    records = schedule_text.packed(schedule, records=True)
+                    self.assertEqual(schedule_text.unpack(records, words, records=True), schedule)
+                self.assertEqual(text.splitlines(), model.printed(sheet, result, True))
+        self.assertGreater(count, 20)
+
+    def test_foreign(self):
+        """A schedule that is not ours."""
+        words, problems = schedule_text.Words(5), Problems()
+        schedule = schedule_text.parse_text(SCHEDULE, words, problems)
+        self.assertEqual(problems.found, [])
+        lines = [line.partition("#")[0].rstrip() for line in SCHEDULE.splitlines()]
+        self.assertEqual(schedule_text.to_text(schedule, words).splitlines(), [line for line in lines if line])
+        self.assertEqual(schedule_text.unpack(schedule_text.packed(schedule), words), schedule)
+
+    def test_refused(self):
+        """The cases of FORMAT 10.3 that need no lent slice."""
+        for data, number in [("000000", 0), ("000001", 12), ("00000000", 12), ("ff", 12), ("", 11), ("82", 12), ("80", 11),
+                             ("02020000", 0), ("02040000", 12), ("020102", 12), ("00000200000480200000", 0),
+                             ("000002000002800000", 12), ("0000020000040000", 12)]:
+            self.assertEqual(self.refused(bytes.fromhex(data)), number, data)
+        for data, number in [("00000000", 0), ("0000000000", 12), ("000000", 11), ("00800000", 12), ("000100000002", 12)]:
+            self.assertEqual(self.refused(bytes.fromhex(data), records=True), number, data)
+        for width, number in [(0, 12), (1, 12), (2, 0), (200, 0), (201, 12)]:
+            self.assertEqual(self.refused(bytes(3), width), number, width)
+
+    def test_cuts(self):
+        """Every cut passes the end, and every byte more follows it."""
+        schedule = schedule_text.parse_text(SCHEDULE, schedule_text.Words(5), Problems())
+        for records in (False, True):
+            data = schedule_text.packed(schedule, records)
+            self.assertEqual({self.refused(data[:size], 5, records=records) for size in range(len(data))}, {11})
+            self.assertEqual(self.refused(data + b"\0", 5, records=records), 12)
+
+    def test_limits(self):
+        """Each limit and one past it, in a text."""
+        for text, wanted in [
+                ("T 0\n" * 64, []), ("T 0\n" * 66, ["65:1: types: at most 64"]),
+                ("T 4", []), ("T 5", ["1:3: the word 5, allowed are 0 to 4"]),
+                ("R 0.1 0 " + ",".join("1" * 17) + " -", []), ("R 0.1 0 1,2 -", []),
+                ("R 0.1 0 " + ",".join("1" * 18) + " -", ["1:9: 18 parents, at most 17"]),
+                ("R 0.1 0 1 -", ["1:9: 1 parent, at least 2"]), ("R 0.1 0 - -", ["1:9: 0 parents, at least 2"]),
+                ("R 0.1 0 1,2.2.2.2 -", ["1:11: `2.2.2.2` is not a name of 1 to 3 words"]),
+                ("R 0.1 0 1,2 " + ",".join(["makelist"] * 448), []),
+                ("R 0.1 0 1,2 " + ",".join(["makelist"] * 449), ["1:13: 449 marks, at most 448"]),
+                ("R 0.1 0 1,2 derive:255", []),
+                ("R 0.1 0 1,2 derive:256",
+                 ["1:13: `derive:256` is no mark: `makelist` or `derive:` and a tag of 0 to 255"])]:
+            self.assertEqual(self.told(text), wanted, text[:40])
+
+    def test_errors(self):
+        """What is wrong is told with its place, all of it."""
+        self.assertEqual(self.told("T 0.1.2\nT a\nQ 1\nR 0 2 1,, frob\nE 0 3 1\nE 0 00\n  E 0 00 1.2\nT 1"), [
+            "1:3: `0.1.2` is not a name of 1 or 2 words", "2:3: `a` is not the number of a word",
+            "3:1: `Q` begins no line of a schedule: T, R or E", "4:3: `0` is not a name of 2 or 3 words",
+            "4:5: `2` is not 0 or 1", "4:9: `` is not a name of 1 to 3 words",
+            "4:10: `` is not a name of 1 to 3 words", "4:11: `frob` is no mark: `makelist` or `derive:` and a "
+            "tag of 0 to 255", "5:5: `3` is not two digits, each 0 or 1",
+            "6:1: `E` takes a type, two flags and a word", "7:10: `1.2` is not a word",
+            "8:1: a type behind an item; the types stand first"])
+        self.assertEqual(self.told("T a.c\nT @1", 2, listed=["a", "b"]),
+                         ["1:5: the sheet has no word `c`", "2:3: the sheet has no word `@1`"])
+
+    def test_raw(self):
+        """What a schedule must not have, within the widths of the fields."""
+        text = "T 200\nR 0.255 0 . -\nR 0.1 0 - -\n"
+        self.assertEqual(self.told(text, raw=True), [])
+        self.assertEqual(self.told("T 256", raw=True), ["1:3: the word 256, allowed are 0 to 255"])
+        words = schedule_text.Words(5, list("abcde"))
+        schedule = schedule_text.parse_text("T @9\nT a\n", words, Problems(), raw=True)
+        self.assertEqual(schedule.names, [(9,), (0,)])
+        packed = schedule_text.packed(schedule)
+        self.assertEqual(schedule_text.to_text(schedule_text.unpack(packed, words, raw=True), words), "T @9\nT a\n")
+        self.assertEqual(self.refused(packed, 5), 12)
+
+    def test_command(self):
+        """tools/schedule, both ways, and its statuses."""
+        examples = os.path.join(HERE, "..", "examples")
+        path, sheet = (os.path.join(examples, "base." + ending) for ending in ("schedule", "sheet"))
+        with open(path, "rb") as source:
+            packed = source.read()
+        text = b"T base\nT resource\nT file\nR base.file 0 file,resource makelist\nE base 00 file\n"
+        self.assertEqual(self.tool("schedule", "--text", "--sheet", sheet, path), (0, text, ""))
+        self.assertEqual(self.tool("schedule", "--pack", "--sheet", sheet, given=text), (0, packed, ""))
+        numbers = b"T 0\nT 2\nT 1\nR 0.1 0 1,2 makelist\nE 0 00 1\n"
+        self.assertEqual(self.tool("schedule", "--text", "-w", "4", "-", given=packed), (0, numbers, ""))
+        self.assertEqual(self.tool("schedule", "--pack", "-w", "4", "--hex", given=numbers)[:2],
+                         (0, packed.hex(" ").encode() + b"\n"))
+        records = self.tool("schedule", "--pack", "-w", "4", "--records", given=numbers)[1]
+        self.assertEqual(len(records), 52)
+        self.assertEqual(self.tool("schedule", "--text", "-w", "4", "--records", given=records), (0, numbers, ""))
+        with tempfile.TemporaryDirectory() as folder:
+            out = os.path.join(folder, "out")
+            self.assertEqual(self.tool("schedule", "--pack", "-w", "4", "-o", out, given=numbers), (0, b"", ""))
+            with open(out, "rb") as source:
+                self.assertEqual(source.read(), packed)
+            self.assertEqual(self.tool("schedule", "--pack", "-w", "2", "-o", out, given=numbers)[0], 1)
+            with open(out, "rb") as source:
+                self.assertEqual(source.read(), packed)
+        self.assertEqual(self.tool("schedule", "--help")[::2], (0, ""))
+
+    def test_command_errors(self):
+        for args, given, status, said in [
+                (["--text", "-w", "2"], b"\xff", 1,
+                 "standard input: error: refused with 12: bit 0: types: count is 127, allowed are 0 to 64\n"
+                 "schedule: standard input: 1 error, nothing written\n"),
+                (["--text", "-w", "4"], bytes.fromhex("0600020080"), 1,
+                 "standard input: error: refused with 11: bit 34: the end comes within items: count\n"
+                 "schedule: standard input: 1 error, nothing written\n"),
+                (["--text", "-w", "1"], b"", 1,
+                 "standard input: error: refused with 12: W is 1, allowed are 2 to 200\n"
+                 "schedule: standard input: 1 error, nothing written\n"),
+                (["--pack", "-w", "2"], b"T 0\nT 2\n", 1,
+                 "standard input:2:3: error: the word 2, allowed are 0 to 1\n"
+                 "schedule: standard input: 1 error, nothing written\n"),
+                (["--pack"], b"", 2, "schedule: one of the arguments -w --sheet is required; --help has the options\n"),
+                (["-w", "2"], b"", 2, "schedule: one of the arguments --text --pack is required; --help has the options\n"),
+                (["--text", "-w", "2", "--hex"], b"", 2, "schedule: --hex does nothing with --text\n"),
+                (["--text", "-w", "2", "gone"], b"", 2, "schedule: gone: no such file or directory\n"),
+                (["--text", "-w", "2", "a", "b"], b"", 2, "schedule: one file is taken\n"),
+                (["--text", "--sheet", "-"], b"", 2, "schedule: standard input is given twice\n"),
+                (["--text", "--sheet", "-", "gone"], b"", 2,
+                 "schedule: standard input: the sheet cannot be read: refused with 3: bit 0: the end comes within version\n")]:
+            self.assertEqual(self.tool("schedule", *args, given=given), (status, b"", said))
 
 
 # ---------------------------------------------------------------- the pages

@@ -1,7 +1,7 @@
 // Prints what standard input asks for, as the programs do, so that the lines can be compared with those of a model. The first
-// byte is 0 for the order-only call's listing, 1 for the schedule's, else a refusal with a diagnosis; then a refusal's
-// number, the flag, and two bytes each for the rows and the length of the sheet. The sheet follows, and behind it the listing
-// or the diagnosis.
+// byte is 0 for a schedule's records in the numbers of the words, 1 in the words of a sheet, else a refusal with a diagnosis;
+// then a refusal's number, the flag, and two bytes each for the rows and the length of the sheet. The sheet follows, and behind
+// it the records or the diagnosis.
 ghost use Prim.Native.Nat.{_<_};
 
 fn wide(b: u8) -> usize
@@ -17,7 +17,7 @@ fn two(high: u8, low: u8) -> usize {
 
 fn show(head: [u8; 7], sheet: &[u8], rest: &[u8]) {
     if head[0] == 0 {
-        return text::print_order(sheet, rest);
+        return text::print_numbers(rest);
     }
     if head[0] == 1 {
         return text::print_schedule(sheet, rest);
