@@ -415,6 +415,7 @@ class Archive(Folder):
         self.assertEqual(self.run_program("schedule", "base.sheet", cwd=examples), (0, BASE_TEXT, ""))
         self.assertEqual(self.run_program("order", "base.sheet", cwd=examples),
                          (0, b"T base\nT resource\nT file\n", ""))
+        self.assertEqual(self.run_program("show", "base.sheet", "base.schedule", cwd=examples), (0, BASE_TEXT, ""))
         self.assertEqual(self.run_program("schedule", "--size", BASE), (0, b"size 16 W 4\n", ""))
         self.assertEqual(self.run_program("schedule", "--packed", "-", BASE), (0, PACKED, ""))
         self.assertEqual(self.run_program("schedule", *["base.sheet"] * 50, cwd=examples),
@@ -435,6 +436,13 @@ class Archive(Folder):
             self.assertEqual((status, out, "error" in error), (0, b"", False), name)
             with open(os.path.join(examples, name.split(".")[0] + ".sheet"), "rb") as source:
                 self.assertEqual(self.read("out"), source.read(), name)
+
+    def test_schedule(self):
+        """A packed schedule as lines, and back."""
+        examples, tool = os.path.join(self.top, "examples"), os.path.join(self.top, "tools", "schedule")
+        done = ran([tool, "--text", "--sheet", "base.sheet", "base.schedule", "-o", self.path("lines")], cwd=examples)
+        self.assertEqual((done, self.read("lines")), ((0, b"", ""), BASE_TEXT))
+        self.assertEqual(ran([tool, "--pack", "--sheet", "base.sheet", self.path("lines")], cwd=examples), (0, PACKED, ""))
 
     def test_explain(self):
         """The program of libexec/ is asked; the page has its parts."""
