@@ -41,9 +41,9 @@ C_COMPILERS = [name for name in ("gcc", "clang") if shutil.which(name)]
 CXX_COMPILERS = [name for name in ("g++", "clang++") if shutil.which(name)]
 LINKED = building.at_hand(ROOT, building.library(ROOT)) and bool(C_COMPILERS)
 BUILT = LINKED and all(building.at_hand(ROOT, building.program(ROOT, name))
-                       for name in ("schedule", "order", "batch"))
+                       for name in ("schedule", "order", "batch", "show"))
 NOT_LINKED = "the library is not built, or older than its sources (rt staticlib exports), or cc is missing"
-NOT_BUILT = "the programs are not built, or older than their sources (rt check schedule order batch)"
+NOT_BUILT = "the programs are not built, or older than their sources (rt check schedule order batch show)"
 NO_CARGO = "cargo is missing"
 NO_PKG_CONFIG = "pkg-config is missing"
 linked = unittest.skipUnless(LINKED, NOT_LINKED)

@@ -682,7 +682,7 @@ class Show(Folder):
         packed, lines = packed_by_model(crowd)
         self.assertEqual(len(packed), 239675)
         self.assertEqual(run("show", self.write("crowd.sheet", crowd), self.packed(packed)), (0, lines, ""))
-        for count in (60, 64, 900, 1100, 3900):
+        for count in (65, 66, 1046, 1047):  # about 4,096 and 65,536 bytes
             text = b"R 0.1 0 0,1 " + b",".join([b"makelist"] * 448) + b"\n"
             packed = packed_lines(text * count, 2)
             self.assertEqual(run("show", "-w", "2", "-", given=packed), (0, text * count, ""), count)
@@ -742,7 +742,7 @@ class Show(Folder):
     def test_sheet_refused(self):
         """A sheet that cannot be read has no words; one without an order has them."""
         path = self.packed(bytes(3))
-        for sheet, said in [(b"", f"3: {refusals.meaning_of(3)}"), (b"\x20", f"4: {refusals.meaning_of(4)}"),
+        for sheet, said in [(b"", f"3: {refusals.meaning_of(3)}"), (b"\x20\x01", f"4: {refusals.meaning_of(4)}"),
                             (bytes(40961), f"1: {refusals.meaning_of(1)}"),
                             (b"domain a\n", f"4: {printed.TEXT_AS_SHEET}")]:
             name = self.write("a.sheet", sheet)
