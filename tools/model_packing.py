@@ -16,7 +16,7 @@ class Bits(Writer):
 
 
 class Records(Bits):
-    """The same as records: each field in two bytes, the high one first (FORMAT 10.2)."""
+    """The same as records: each field in two bytes, the high one first (FORMAT 12.2)."""
 
     def put(self, width, value, what="field"):
         """Appends the record of a field."""

@@ -25,7 +25,9 @@ from sheetlib import Reader, SheetError
 # The refusals of a schedule, by those of a sheet that are alike: past the end, not allowed, what follows.
 REFUSALS = {3: 11, 4: 12, 7: 12}
 WIDTHS = (2, 200)  # W
-TAKES = {"T": "a name", "R": "a name, virtual (0 or 1), parents and marks", "E": "a type, two flags and a word"}
+# What each line has behind its first token: how many tokens, and which.
+TAKES = {"T": (1, "a name"), "R": (4, "a name, virtual (0 or 1), parents and marks"),
+         "E": (3, "a type, two flags and a word")}
 
 Schedule = namedtuple("Schedule", "names items")
 
@@ -66,7 +68,7 @@ class Words:
         return self.listed.index(token) if token in self.listed else None
 
 
-# ------------------------------------------------------------ bytes
+# -------------------------------------------------------------------- bytes
 
 class RecordReader(Reader):
     """Reads fields from records, two bytes each; a value that is too wide for its field is not allowed."""
@@ -185,8 +187,8 @@ class ScheduleReader:
         """One line, told by its first token."""
         if first not in TAKES:
             self.error(first, f"{quoted(first)} begins no line of a schedule: T, R or E")
-        elif len(rest) != 1 + TAKES[first].count(",") + TAKES[first].count(" and "):
-            self.error(first, f"`{first}` takes {TAKES[first]}")
+        elif len(rest) != TAKES[first][0]:
+            self.error(first, f"`{first}` takes {TAKES[first][1]}")
         elif first == "T":
             self.read_type(first, rest[0])
         else:

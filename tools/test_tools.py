@@ -770,7 +770,7 @@ class ScheduleTexts(unittest.TestCase):
         self.assertEqual(schedule_text.unpack(schedule_text.packed(schedule), words), schedule)
 
     def test_refused(self):
-        """The cases of FORMAT 10.3 that need no lent slice."""
+        """The cases of FORMAT 12.3 that need no lent slice."""
         for data, number in [("000000", 0), ("000001", 12), ("00000000", 12), ("ff", 12), ("", 11), ("82", 12), ("80", 11),
                              ("02020000", 0), ("02040000", 12), ("020102", 12), ("00000200000480200000", 0),
                              ("000002000002800000", 12), ("0000020000040000", 12)]:
