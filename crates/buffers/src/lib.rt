@@ -9,7 +9,7 @@ pub fn for_schedule() -> [u8; 262144]
     [0; 262144]
 }
 
-// For the records of a schedule of up to 65,536 bytes, each bit of which is one record at most (FORMAT 10.2).
+// For the records of a schedule of up to 65,536 bytes, each bit of which is one record at most (FORMAT 12.2).
 pub fn for_records() -> [u8; 1048576]
     ensures { λ r. ⌜ 1048576 ≡ length r ⌝ }
 {

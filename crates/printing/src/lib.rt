@@ -4,8 +4,7 @@ use answers::Answer;
 
 // ---- a packed schedule
 
-// The records of schedules of up to so many bytes fit into 65,536 and 1,048,576 bytes: each bit is one record at most
-// (FORMAT 10.2).
+// The records of schedules of up to so many bytes fit into 65,536 and into 1,048,576 bytes (FORMAT 12.2).
 const SHORT: usize = 4096;
 
 const LONG: usize = 65536;
@@ -65,7 +64,8 @@ fn print_listed(sheet: &[u8], listing: &[u8], size: usize) {
     }
 }
 
-// What the order-only call lists, with a count of no items behind it, is a schedule: two zero bytes more (FORMAT 6.1).
+// What the order-only call lists is a schedule without items if their number, 0, stands behind it: two zero bytes more
+// (FORMAT 6.1).
 fn print_types(sheet: &[u8], listing: &[u8], size: usize) {
     if size < listing.len() {
         print_listed(sheet, listing, size + 2);
@@ -96,8 +96,8 @@ pub fn print_schedule(sheet: &[u8]) {
     }
 }
 
-// A packed schedule in the words of a sheet that can be read, or the sheet's refusal (1 to 7). Whether the sheet has an order is not
-// asked: its words are there.
+// A packed schedule in the words of a sheet that can be read, or the sheet's refusal by 1 to 7. Whether the sheet has an order is
+// not asked: its words are there.
 pub fn print_shown(sheet: &[u8], schedule: &[u8]) {
     let mut listing = [0u8; 1];
     let mut diagnosis = [0u8; answers::DIAGNOSIS];

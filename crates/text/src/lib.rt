@@ -44,7 +44,7 @@ fn wide(b: u8) -> usize
     b as usize
 }
 
-// The record at `at`: two bytes, the high one first (FORMAT 10.2); 0 where it passes the end.
+// The record at `at`: two bytes, the high one first (FORMAT 12.2); 0 where it passes the end.
 fn next(records: &[u8], at: usize) -> Got {
     if records.len() <= at {
         return Got { value: 0, at };
