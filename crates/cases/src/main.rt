@@ -1,7 +1,7 @@
 // Replays the answers of the Rust, stored with their sheets, through the calls, and compares every byte; reads each schedule
-// back and writes it again. Prints how many agree, and the number of each that does not; oracle/README.md says how standard input was made. A case is named `u` where
-// the Rust gave this answer untouched, and has no name where only its comparison of declarations was replaced by document
-// 01's.
+// back and writes it again. Prints how many agree, and the number of each that does not; oracle/README.md says how standard
+// input was made. A case is named `u` where the Rust gave this answer untouched, and has no name where only its comparison of
+// declarations was replaced by document 01's.
 
 struct Counts {
     cases: u64,
