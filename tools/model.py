@@ -1,28 +1,32 @@
 #!/usr/bin/env python3
-"""A model of document 01, written from its sentences and from the Rust.
+"""A model of document 01, written from its sentences and from the Rust, and of
+the requests of document 02.
 
 `schedule` and `order` give the answer and both slices after the call. The
 lines are computed twice: by the synthesis as the Rust does it, and from the
 proper ancestors alone as 01 states them; the two are asserted to agree.
+`read_schedule` and `write_schedule` give the answer and the lent slice.
 
-model_reading.py, model_order.py, model_synthesis.py, model_lines.py and
-model_packing.py have the parts, which are brought in here, so that one import
-serves.
+model_reading.py, model_order.py, model_synthesis.py, model_lines.py,
+model_packing.py and model_conversion.py have the parts, which are brought in
+here, so that one import serves.
 """
 
 import argparse
 import sys
 from collections import namedtuple
 
+from model_conversion import Converted, read_schedule, records_of, write_schedule
 from model_lines import Line, Making, items_of
 from model_order import ROWS, Row, organize_type_map, rounds
 from model_packing import pack, printed, row_bytes, sheet_words
 from model_reading import Refused, read_sheet, words_of
 from model_synthesis import Inherited, Synthesis, dedup_inherited_annotations, difference, intersection
 
-__all__ = ["LISTING_SIZE", "ROWS", "SHEET_LIMIT", "Answer", "Inherited", "Line", "Making", "Refused", "Row",
-           "Synthesis", "answer", "dedup_inherited_annotations", "difference", "intersection", "items_of", "order",
-           "organize_type_map", "pack", "printed", "read_sheet", "row_bytes", "schedule", "sheet_words", "words_of"]
+__all__ = ["LISTING_SIZE", "ROWS", "SHEET_LIMIT", "Answer", "Converted", "Inherited", "Line", "Making", "Refused",
+           "Row", "Synthesis", "answer", "dedup_inherited_annotations", "difference", "intersection", "items_of",
+           "order", "organize_type_map", "pack", "printed", "read_schedule", "read_sheet", "records_of", "row_bytes",
+           "schedule", "sheet_words", "words_of", "write_schedule"]
 
 SHEET_LIMIT, LISTING_SIZE = 40960, 65536
 Answer = namedtuple("Answer", "number size rowcount flag listing diagnosis")
