@@ -1,9 +1,11 @@
 /*
  * Access schedules of dosing controllers: the proved calls, for C and C++.
  *
- * A call turns a sheet (a bit-packed type map) into a bit-packed listing, or answers with one of ten
- * refusals. docs/FORMAT.md has the bits of both and says when each refusal is given; docs/LINKING.md
- * says how to link, and has an example.
+ * gidzelma_schedule and gidzelma_order turn a sheet (a bit-packed type map) into a bit-packed listing,
+ * or answer with one of ten refusals. gidzelma_read_schedule turns a packed schedule into records of
+ * two bytes a field, gidzelma_write_schedule records into a packed schedule; they have two refusals of
+ * their own. docs/FORMAT.md has the bits and says when each refusal is given; docs/LINKING.md says how
+ * to link, and has examples.
  *
  * The calls allocate nothing, keep nothing between calls and write nothing but the slices below, so
  * that several threads may call at the same time. Of the C library they need memcpy and memset.
@@ -18,10 +20,11 @@
 extern "C" {
 #endif
 
-#define GIDZELMA_VERSION "0.1.0"
+#define GIDZELMA_VERSION "0.2.0"
 
-/* What a call returns: 0, one of the ten refusals, or 255, which is none of them. Later versions may
- * add numbers. */
+/* What a call returns: 0, a refusal, or 255, which is none of them. Those of a call that takes a sheet
+ * are 1 to 10, those of a call between a schedule and its records 11 and 12. Later versions may add
+ * numbers. */
 enum gidzelma_number {
     GIDZELMA_ACCEPTED = 0,
     GIDZELMA_SHEET_TOO_LONG = 1,        /* over GIDZELMA_SHEET_MAX bytes */
@@ -35,6 +38,10 @@ enum gidzelma_number {
     GIDZELMA_REFUSED_IN_SYNTHESIS = 9,  /* what a type associates cannot be made; the diagnosis says
                                            why; never from gidzelma_order */
     GIDZELMA_LISTING_TOO_SHORT = 10,    /* parts[0] is the size that is needed */
+    GIDZELMA_SCHEDULE_PAST_END = 11,    /* a field, or its record, reaches past the end of the schedule,
+                                           or of the records */
+    GIDZELMA_SCHEDULE_NOT_ALLOWED = 12, /* the number of words, a field or the fill of a schedule is not
+                                           allowed, or bytes follow the last field */
     GIDZELMA_PARTS_TOO_FEW = 255        /* parts_len is under GIDZELMA_PARTS_LEN */
 };
 
@@ -62,16 +69,28 @@ enum gidzelma_kind {
 #define GIDZELMA_SCHEDULE_MAX 20949739
 #define GIDZELMA_SCHEDULE_FOUND 239675
 
+/* A record is two bytes, and a field of a schedule has 1 to 16 bits. So 16 times the bytes of a schedule
+ * always suffice for its records (those of ordinary maps take three to four times), and the bytes of
+ * its records for a schedule. */
+#define GIDZELMA_RECORD_LEN 2           /* bytes of a record: the high byte first */
+#define GIDZELMA_RECORDS_PER_BYTE 16    /* bytes of records for each byte of a schedule, at most */
+#define GIDZELMA_RECORDS_LEN(schedule_len) (GIDZELMA_RECORDS_PER_BYTE * (schedule_len))
+
+/* The number of words W of a sheet, which a schedule does not hold itself. */
+#define GIDZELMA_WORDS_MIN 2
+#define GIDZELMA_WORDS_MAX 200
+
 /* In a row: the second word of a name of one word, both words of an absent name, an absent word.
  * Other bytes of names and words are places in the word list of the sheet, counted from 0. */
 #define GIDZELMA_ABSENT 255
 
 /*
  * The stack. On the maps that were tried gidzelma_schedule took up to 1.1 MB of it, where it writes
- * rows of refusal 9, and 0.05 MB elsewhere, as gidzelma_order does (bench/stack.c measures them). No
- * call can tell that there is less: its thread is then ended by a signal. With glibc a thread has 8 MiB as a rule, one that Rust starts 2 MiB, and
- * elsewhere further threads have as little as 128 KiB. Give a thread that calls this many bytes, by
- * pthread_attr_setstacksize or what there is for it.
+ * rows of refusal 9, and 0.05 MB elsewhere, as gidzelma_order does; gidzelma_read_schedule and
+ * gidzelma_write_schedule took less than 0.01 MB (bench/stack.c measures them). No call can tell that
+ * there is less: its thread is then ended by a signal. With glibc a thread has 8 MiB as a rule, one
+ * that Rust starts 2 MiB, and elsewhere further threads have as little as 128 KiB. Give a thread that
+ * calls this many bytes, by pthread_attr_setstacksize or what there is for it.
  */
 #define GIDZELMA_STACK_LEN 4194304
 
@@ -92,7 +111,7 @@ struct gidzelma_row {
  * A call asks nothing of the values in its slices. Of the slices themselves it asks, as Rust
  * does: no pointer is null, also where its length is 0 (then any pointer will do that is not null and
  * is aligned, and nothing is read or written through it); each pointer is good for its length, `parts`
- * aligned for uint32_t; no two of the four slices overlap.
+ * aligned for uint32_t; no two of the slices overlap.
  *
  * What is left, by the number returned:
  *
@@ -118,6 +137,44 @@ uint32_t gidzelma_order(const uint8_t *sheet, size_t sheet_len,
                         uint8_t *listing, size_t listing_len,
                         uint8_t *diagnosis, size_t diagnosis_len,
                         uint32_t *parts, size_t parts_len);
+
+/*
+ * gidzelma_read_schedule turns a packed schedule into records, gidzelma_write_schedule records into a
+ * packed schedule. `w` is W, the number of words of the sheet that the schedule is of: 8 bits behind
+ * the first 4 of the sheet. A record is the value of one field, two bytes, the high one first; they
+ * stand in the order of the fields:
+ *
+ *    schedule     the number of types, for each its name; the number of items, each of them
+ *    name         a word, 0 or 1, and a second word behind the 1
+ *    item         0 and a resource, or 1 and an extension line
+ *    resource     the name of its type, its word, virtual (0 or 1), the number of parents, each of them,
+ *                 the number of marks, each of them
+ *    parent       the number of words, 1 to 3, and so many words
+ *    mark         0 for makelist, or 1 and the tag of a derive
+ *    line         the name of its type, virtual, trait, the word
+ *
+ * Every schedule of 0 to 64 types whose words are below W, whose resources have 2 to 17 parents and up
+ * to 448 marks is taken, also one that gidzelma_schedule would not write. W is tested first; then the
+ * first field that cannot be taken decides, its two ends before its value; then what follows the last.
+ * Of its slices a call asks what the others ask.
+ *
+ * What is left, by the number returned:
+ *
+ *    number   parts[0], [1], [2]        the slice that is lent for records, or for the schedule
+ *    0        size written, 0, 0        `size` bytes, then as before
+ *    11, 12   0, 0, 0                   as before
+ *    255      as before                 as before
+ *
+ * A slice that is too short is refused with 11, and no size is told: lend GIDZELMA_RECORDS_LEN of the
+ * schedule's bytes, or as many bytes for the schedule as the records have.
+ */
+uint32_t gidzelma_read_schedule(size_t w, const uint8_t *schedule, size_t schedule_len,
+                                uint8_t *records, size_t records_len,
+                                uint32_t *parts, size_t parts_len);
+
+uint32_t gidzelma_write_schedule(size_t w, const uint8_t *records, size_t records_len,
+                                 uint8_t *schedule, size_t schedule_len,
+                                 uint32_t *parts, size_t parts_len);
 
 #ifdef __cplusplus
 }

@@ -64,7 +64,7 @@ An accepted sheet is printed as
 
 def usage(call):
     """The text of --help."""
-    numbers = ["Refusals:"] + [f"  {number:2}  {said}" for number, (said, _) in refusals.REFUSALS.items()]
+    numbers = ["Refusals:"] + [f"  {number:2}  {said}" for number, (said, _) in refusals.OF_SHEETS.items()]
     numbers += ["Kinds of rows:"] + [f"  {kind:2}  {name}" for kind, (name, _) in refusals.KINDS.items()]
     return USAGE.format(call=call, what=WHAT[call], lines=LINES[call],
                         numbers="\n".join(numbers) + "\n")

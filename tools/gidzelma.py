@@ -4,6 +4,8 @@
     library = gidzelma.load()               # or gidzelma.load("lib/libgidzelma.so")
     try:
         packed = library.schedule(sheet)    # bytes to bytes; or library.order(sheet)
+        records = library.read_schedule(w, packed)      # w: the number of words of the sheet
+        assert library.write_schedule(w, records) == packed
     except gidzelma.Refused as refused:
         print(refused, refused.rows)
 
@@ -25,7 +27,9 @@ ABSENT = 255             # in a row, for a word that is not there
 STACK_LEN = 4 << 20      # bytes of stack that suffice for a call
 LISTING_TOO_SHORT = 10   # the refusal that answers the size that is needed
 LENT = 65536             # bytes of the listing that is lent first
-CALLS = ("schedule", "order")
+RECORDS_PER_BYTE = 16    # bytes of records for each byte of a schedule, at most
+CALLS = ("schedule", "order")   # of a sheet
+CONVERSIONS = ("read_schedule", "write_schedule")   # between a schedule and its records
 
 # What a call answers: its number, the size written or needed, how many rows were written, and whether
 # there are more.
@@ -36,7 +40,8 @@ Row = namedtuple("Row", "kind subject other word")
 
 
 class Refused(Exception):
-    """A sheet that is turned back: the number, the rows after 8 and 9, and whether there are more of them."""
+    """A sheet, a schedule or records that are turned back: the number, the rows after 8 and 9, and whether there
+    are more of them."""
 
     def __init__(self, number, rows=(), more=False):
         super().__init__(number, rows, more)
@@ -73,15 +78,16 @@ class Library:
     def __init__(self, path):
         self.path = path
         library, size = ctypes.CDLL(path), ctypes.c_size_t
+        given, slice_ = [ctypes.c_char_p, size], [ctypes.c_void_p, size]
+        kinds = {**dict.fromkeys(CALLS, given + 3 * slice_),
+                 **dict.fromkeys(CONVERSIONS, [size] + given + 2 * slice_)}
         self.calls = {}
-        for name in CALLS:
+        for name, kind in kinds.items():
             try:
                 call = getattr(library, "gidzelma_" + name)
             except AttributeError as error:
                 raise OSError(f"{path}: has no gidzelma_{name}") from error
-            call.restype = ctypes.c_uint32
-            call.argtypes = [ctypes.c_char_p, size, ctypes.c_void_p, size, ctypes.c_void_p, size,
-                             ctypes.c_void_p, size]
+            call.restype, call.argtypes = ctypes.c_uint32, kind
             self.calls[name] = call
 
     def lend(self, call, sheet, listing, diagnosis):
@@ -90,6 +96,13 @@ class Library:
         sheet = bytes(sheet)
         number = self.calls[call](sheet, len(sheet), lent(listing), len(listing),
                                   lent(diagnosis), len(diagnosis), parts, len(parts))
+        return Answer(number, parts[0], parts[1], parts[2] == 1)
+
+    def lend_one(self, call, w, given, output):
+        """One call, "read_schedule" or "write_schedule", on a bytearray, which it may write to; its Answer."""
+        parts = (ctypes.c_uint32 * 3)()
+        given = bytes(given)
+        number = self.calls[call](w, given, len(given), lent(output), len(output), parts, len(parts))
         return Answer(number, parts[0], parts[1], parts[2] == 1)
 
     def packed(self, call, sheet):
@@ -110,6 +123,22 @@ class Library:
     def order(self, sheet):
         """The packed order of the types of a sheet."""
         return self.packed("order", sheet)
+
+    def converted(self, call, w, given, size):
+        """What a call between a schedule and its records writes, in as many bytes as always suffice."""
+        output = bytearray(size)
+        answer = self.lend_one(call, w, given, output)
+        if answer.number:
+            raise Refused(answer.number)
+        return bytes(output[:answer.size])
+
+    def read_schedule(self, w, schedule):
+        """The records of a packed schedule, two bytes a field; w is the number of words of its sheet."""
+        return self.converted("read_schedule", w, schedule, RECORDS_PER_BYTE * len(schedule))
+
+    def write_schedule(self, w, records):
+        """The packed schedule of records."""
+        return self.converted("write_schedule", w, records, len(records))
 
 
 def places():

@@ -3,8 +3,8 @@
 The programs print numbers, as document 01 has them; these words are added where a person asks.
 """
 
-# The numbers, each with what it says and the limits that it goes by.
-REFUSALS = {
+# The numbers of the calls that take a sheet, each with what it says and the limits that it goes by.
+OF_SHEETS = {
     1: ("the sheet is too long", "it may have 40,960 bytes"),
     2: ("the diagnosis slice is too short", "it needs 1,536 bytes, 256 rows of 6"),
     3: ("a field passes the end of the sheet", ""),
@@ -22,13 +22,16 @@ REFUSALS = {
     10: ("the schedule is longer than the listing", "the program lends 65,536 bytes"),
 }
 
-# The numbers of a schedule that is read, which has no sheet.
-SCHEDULES = {
-    11: ("a field passes the end of the schedule", "what the order-only call lists has no item count, and ends there"),
-    12: ("a value that is not allowed in a schedule",
-         "2 to 200 words, each below their number; up to 64 types; resources with 2 to 17 parents of 1 to 3 words "
-         "and up to 448 marks; fewer than 8 bits behind the last field, all of them zero"),
+# Those of the calls between a schedule and its records.
+OF_SCHEDULES = {
+    11: ("a field, or its record, passes the end",
+         "that of the schedule or that of the records; what the order-only call lists ends before its item count"),
+    12: ("no schedule has such a value, or such an end",
+         "2 to 200 words, each word below their number; up to 64 types; resources of 2 to 17 parents, each of "
+         "1 to 3 words, and of up to 448 marks; fewer than 8 bits may follow the last field, all of them zero"),
 }
+
+REFUSALS = {**OF_SHEETS, **OF_SCHEDULES}
 
 # The kinds of the rows after 8 and 9: the name of the kind, and what a row says.
 KINDS = {

@@ -58,7 +58,7 @@ OTHER_SHEET = "the sheet may be another one than that of the schedule: its W is 
 
 def usage():
     """The text of --help."""
-    numbers = ["Refusals:"] + [f"  {number:2}  {said}" for number, (said, _) in refusals.SCHEDULES.items()]
+    numbers = ["Refusals:"] + [f"  {number:2}  {said}" for number, (said, _) in refusals.OF_SCHEDULES.items()]
     return USAGE.format(longest=LONGEST, numbers="\n".join(numbers) + "\n")
 
 
@@ -113,7 +113,7 @@ def text_of(args, names, say):
         text = program.text(asked(args.width, sheet, schedule))
     if printed.refused(text):
         number = int(text.split()[1])
-        if number not in refusals.SCHEDULES:
+        if number not in refusals.OF_SCHEDULES:
             why = printed.TEXT_AS_SHEET if printed.is_text(sheet) else refusals.meaning_of(number)
             raise Trouble(f"its words are needed, and the sheet is refused with {number}: {why}", called(names[0]))
     return schedule, text

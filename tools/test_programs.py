@@ -309,7 +309,8 @@ class Tables(unittest.TestCase):
     """The table of numbers and kinds."""
 
     def test_complete(self):
-        self.assertEqual([*refusals.REFUSALS, *refusals.SCHEDULES], list(range(1, 13)))
+        self.assertEqual(list(refusals.OF_SHEETS), list(range(1, 11)))
+        self.assertEqual(list(refusals.REFUSALS), list(range(1, 13)))
         self.assertEqual(list(refusals.KINDS), list(range(1, 7)))
 
     def test_limits(self):
