@@ -5,38 +5,9 @@
 //! With several files a line `== FILE` stands before each answer. The status is 0 if all were accepted,
 //! 1 if one was refused, 2 if one cannot be read.
 
-use gidzelma::{schedule_vec, Item, Malformed, Name, Refused, Row, Schedule, Words};
+use gidzelma::{schedule_vec, Malformed, Name, Refused, Row, Schedule, Words};
 use std::process::ExitCode;
 use std::{env, fs};
-
-/// Entries joined by commas, `-` if there are none.
-fn joined(entries: impl Iterator<Item = String>) -> String {
-    let all: Vec<String> = entries.collect();
-    if all.is_empty() {
-        "-".to_string()
-    } else {
-        all.join(",")
-    }
-}
-
-fn line_of(words: &Words, item: &Item) -> String {
-    match item {
-        Item::Resource(made) => format!(
-            "R {} {} {} {}",
-            words.spell(&made.name()),
-            u8::from(made.is_virtual),
-            joined(made.parents.iter().map(|name| words.spell(name))),
-            joined(made.marks.iter().map(ToString::to_string)),
-        ),
-        Item::Extension(line) => format!(
-            "E {} {}{} {}",
-            words.spell(&line.owner),
-            u8::from(line.is_virtual),
-            u8::from(line.is_trait),
-            words.spelled(line.word),
-        ),
-    }
-}
 
 fn print_schedule(words: &Words, packed: &[u8]) -> Result<(), Malformed> {
     let schedule = Schedule::read(packed)?;
@@ -44,7 +15,7 @@ fn print_schedule(words: &Words, packed: &[u8]) -> Result<(), Malformed> {
         println!("T {}", words.spell(name));
     }
     for item in schedule.items() {
-        println!("{}", line_of(words, &item?));
+        println!("{}", words.line(&item?));
     }
     Ok(())
 }

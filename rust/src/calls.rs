@@ -1,10 +1,10 @@
 //! The calls themselves: `include/gidzelma.h` behind safe functions.
 
-use crate::{Refusal, Row, Rows, DIAGNOSIS_LEN};
+use crate::{Refusal, Row, Rows, DIAGNOSIS_LEN, RECORDS_PER_BYTE};
 use std::error::Error;
 use std::fmt;
 
-/// What a call answers.
+/// What a call that takes a sheet answers.
 #[derive(Clone, Copy, Debug, PartialEq, Eq)]
 pub enum Answer {
     /// The listing's first `size` bytes are the answer. The rest of it, and the diagnosis slice,
@@ -111,7 +111,28 @@ extern "C" {
         parts: *mut u32,
         parts_len: usize,
     ) -> u32;
+    fn gidzelma_read_schedule(
+        w: usize,
+        schedule: *const u8,
+        schedule_len: usize,
+        records: *mut u8,
+        records_len: usize,
+        parts: *mut u32,
+        parts_len: usize,
+    ) -> u32;
+    fn gidzelma_write_schedule(
+        w: usize,
+        records: *const u8,
+        records_len: usize,
+        schedule: *mut u8,
+        schedule_len: usize,
+        parts: *mut u32,
+        parts_len: usize,
+    ) -> u32;
 }
+
+type Conversion =
+    unsafe extern "C" fn(usize, *const u8, usize, *mut u8, usize, *mut u32, usize) -> u32;
 
 /// The schedule call: the order of a sheet's types and the items of its access schedule, packed, in a lent
 /// listing. One that is too short is answered with the size that is needed.
@@ -217,5 +238,81 @@ fn answer(call: Call, sheet: &[u8], listing: &mut [u8], diagnosis: &mut [u8]) ->
             size: size as usize,
         },
         _ => Answer::Refused(Refusal::from(number)),
+    }
+}
+
+/// Reads a packed schedule into lent records, two bytes a field, and tells how many bytes it wrote. `w` is
+/// the number of words of its sheet. [`RECORDS_PER_BYTE`] times the bytes of the schedule always suffice;
+/// what is not written stays, and a refusal, 11 or 12, writes nothing.
+///
+/// ```
+/// use gidzelma::{read_schedule, Refusal};
+/// let packed = std::fs::read("../examples/base.schedule").unwrap();
+/// let mut records = [0; 64];
+/// assert_eq!(read_schedule(4, &packed, &mut records), Ok(52));
+/// assert_eq!(records[..4], [0, 3, 0, 0]); // three types, the first with the word 0
+/// assert_eq!(read_schedule(4, &packed, &mut [0; 51]), Err(Refusal::SchedulePastEnd));
+/// assert_eq!(read_schedule(2, &packed, &mut records), Err(Refusal::ScheduleNotAllowed));
+/// ```
+pub fn read_schedule(w: usize, schedule: &[u8], records: &mut [u8]) -> Result<usize, Refusal> {
+    converted(gidzelma_read_schedule, w, schedule, records)
+}
+
+/// Writes records as a packed schedule into lent bytes, and tells how many it wrote. As many bytes as the
+/// records have always suffice; what is not written stays, and a refusal, 11 or 12, writes nothing.
+pub fn write_schedule(w: usize, records: &[u8], schedule: &mut [u8]) -> Result<usize, Refusal> {
+    converted(gidzelma_write_schedule, w, records, schedule)
+}
+
+/// The records of a packed schedule, or why it is none: a refusal of 12, or of 11 where it ends early.
+///
+/// ```
+/// use gidzelma::{read_schedule_vec, write_schedule_vec, Refusal};
+/// let packed = std::fs::read("../examples/base.schedule").unwrap();
+/// let records = read_schedule_vec(4, &packed)?;
+/// assert_eq!(write_schedule_vec(4, &records)?, packed);
+/// assert_eq!(read_schedule_vec(4, &packed[..15]), Err(Refusal::SchedulePastEnd));
+/// # Ok::<(), Refusal>(())
+/// ```
+pub fn read_schedule_vec(w: usize, schedule: &[u8]) -> Result<Vec<u8>, Refusal> {
+    let mut records = vec![0; RECORDS_PER_BYTE * schedule.len()];
+    let size = read_schedule(w, schedule, &mut records)?;
+    records.truncate(size);
+    records.shrink_to_fit();
+    Ok(records)
+}
+
+/// The packed schedule of records, or why they are none.
+pub fn write_schedule_vec(w: usize, records: &[u8]) -> Result<Vec<u8>, Refusal> {
+    let mut schedule = vec![0; records.len()];
+    let size = write_schedule(w, records, &mut schedule)?;
+    schedule.truncate(size);
+    schedule.shrink_to_fit();
+    Ok(schedule)
+}
+
+fn converted(
+    call: Conversion,
+    w: usize,
+    given: &[u8],
+    output: &mut [u8],
+) -> Result<usize, Refusal> {
+    // Three are lent, so 255, the answer to fewer, does not come.
+    let mut parts = [0u32; 3];
+    // SAFETY: as in `answer`.
+    let number = unsafe {
+        call(
+            w,
+            given.as_ptr(),
+            given.len(),
+            output.as_mut_ptr(),
+            output.len(),
+            parts.as_mut_ptr(),
+            parts.len(),
+        )
+    };
+    match number {
+        0 => Ok(parts[0] as usize),
+        _ => Err(Refusal::from(number)),
     }
 }

@@ -1,15 +1,17 @@
 //! Access schedules of dosing controllers, from Rust: the proved calls behind safe functions.
 //!
 //! A call turns a *sheet* (a bit-packed type map) into a bit-packed listing, or answers with one of ten
-//! refusals. The calls are compiled Rattle; what each answers, and what it leaves in the slices that it is
-//! lent, is proved for every input. What this package adds is not proved: the owning calls, and the readers
-//! of words, rows and listings, which are tested, and which take any bytes without a panic.
+//! refusals; two further calls turn a packed schedule into records of two bytes a field, and back. The
+//! calls are compiled Rattle; what each answers, and what it leaves in the slices that it is lent, is
+//! proved for every input. What this package adds is not proved: the owning calls, and the readers of
+//! words, rows, listings and records, which are tested, and which take any bytes without a panic.
 //!
 //! | to have | use |
 //! |---|---|
 //! | a schedule, or the order of its types, as bytes | [`schedule_vec`], [`order_vec`] |
 //! | the same without allocation, in lent slices | [`schedule`], [`order`] |
-//! | what a schedule holds | [`Schedule`], and [`Words`] of the sheet to spell it |
+//! | a schedule tested and read, field by field, and written | [`read_schedule_vec`], [`write_schedule_vec`], and [`read_schedule`], [`write_schedule`] in lent slices |
+//! | what a schedule or its records hold | [`Schedule`], and [`Words`] of the sheet to spell it |
 //! | why a sheet is turned back | [`Refused`] with its [`Row`]s, or [`Answer::rows`] |
 //!
 //! ```
@@ -37,12 +39,28 @@
 //! # }
 //! ```
 //!
+//! A schedule that somebody sends is first read by the proved call, which tests every field of it:
+//!
+//! ```
+//! use gidzelma::{read_schedule_vec, Schedule, Words};
+//!
+//! # fn main() -> Result<(), Box<dyn std::error::Error>> {
+//! let words = Words::read(&std::fs::read("../examples/base.sheet")?).expect("words");
+//! let packed = std::fs::read("../examples/base.schedule")?;
+//! let records = read_schedule_vec(words.len(), &packed)?;
+//! let schedule = Schedule::of_records(&records)?;
+//! let items: Vec<String> = schedule.items().map(|item| Ok(words.line(&item?))).collect::<Result<_, gidzelma::Malformed>>()?;
+//! assert_eq!(items, ["R base.file 0 file,resource makelist", "E base 00 file"]);
+//! # Ok(())
+//! # }
+//! ```
+//!
 //! # Threads
 //!
 //! The calls keep nothing, so that threads may call at the same time. They need stack, on the maps that
 //! were tried up to 1.1 MB for a schedule that is refused with 9, and 0.05 MB for any other and for an order;
-//! a thread that has less is ended by a signal. A thread of [`std::thread::spawn`] has 2 MiB; this one has
-//! more:
+//! less than 0.01 MB between a schedule and its records; a thread that has less is ended by a signal. A
+//! thread of [`std::thread::spawn`] has 2 MiB; this one has more:
 //!
 //! ```
 //! let sheet = std::fs::read("../examples/base.sheet").unwrap();
@@ -61,7 +79,10 @@ mod names;
 mod refusal;
 mod rows;
 
-pub use calls::{order, order_vec, schedule, schedule_vec, Answer, Refused};
+pub use calls::{
+    order, order_vec, read_schedule, read_schedule_vec, schedule, schedule_vec, write_schedule,
+    write_schedule_vec, Answer, Refused,
+};
 pub use listing::{read_order, Extension, Item, Items, Malformed, Mark, Resource, Schedule};
 pub use names::{Name, Words};
 pub use refusal::Refusal;
@@ -85,6 +106,13 @@ pub const ORDER_MAX: usize = 137;
 /// The bytes that always suffice for a schedule, by a proved bound. The longest that was found has
 /// 239,675 bytes, and those of ordinary maps a few hundred.
 pub const SCHEDULE_MAX: usize = 20_949_739;
+
+/// The bytes of a record: a field of a schedule, the high byte first.
+pub const RECORD_LEN: usize = 2;
+
+/// The bytes of records for each byte of a schedule that always suffice: a field has a bit at least. The
+/// records of ordinary maps take three to four times the bytes of the schedule.
+pub const RECORDS_PER_BYTE: usize = 16;
 
 /// The bytes of stack that suffice for a call.
 pub const STACK_LEN: usize = 4 << 20;

@@ -1,6 +1,6 @@
-//! What the calls write, read: `docs/FORMAT.md`, section 6.
+//! What the calls write, read: `docs/FORMAT.md`, sections 6 and 12.
 
-use crate::Name;
+use crate::{Name, RECORD_LEN};
 use std::error::Error;
 use std::fmt;
 use std::iter::FusedIterator;
@@ -9,7 +9,7 @@ const TYPES_MAX: u16 = 64;
 const PARENTS: std::ops::RangeInclusive<u16> = 2..=17;
 const MARKS_MAX: u16 = 448;
 
-/// Bytes that are no schedule, or no order. What the calls write never is.
+/// Bytes that are no schedule, no order or no records of a schedule. What the calls write never is.
 #[derive(Clone, Copy, Debug, PartialEq, Eq, Hash)]
 #[non_exhaustive]
 pub enum Malformed {
@@ -24,29 +24,51 @@ pub enum Malformed {
 impl fmt::Display for Malformed {
     fn fmt(&self, to: &mut fmt::Formatter<'_>) -> fmt::Result {
         to.write_str(match self {
-            Malformed::PastEnd => "a field passes the end of the listing",
-            Malformed::NotAllowed => "a field of the listing has a value that is not allowed",
-            Malformed::BadFill => "the listing does not end where its last field does",
+            Malformed::PastEnd => "a field passes the end",
+            Malformed::NotAllowed => "a field has a value that is not allowed",
+            Malformed::BadFill => "the bytes do not end where their last field does",
         })
     }
 }
 
 impl Error for Malformed {}
 
-/// A cursor over bits, the highest of each byte first.
+/// A cursor over fields, the highest bit of each byte first.
 #[derive(Clone, Debug)]
-pub(crate) struct Bits<'a> {
+pub(crate) struct Fields<'a> {
     bytes: &'a [u8],
     at: usize,
+    /// Whether each field stands in a record of 16 bits, or in its own width.
+    recorded: bool,
 }
 
-impl<'a> Bits<'a> {
-    pub(crate) fn of(bytes: &'a [u8]) -> Bits<'a> {
-        Bits { bytes, at: 0 }
+impl<'a> Fields<'a> {
+    pub(crate) fn packed(bytes: &'a [u8]) -> Fields<'a> {
+        Fields {
+            bytes,
+            at: 0,
+            recorded: false,
+        }
+    }
+
+    fn recorded(bytes: &'a [u8]) -> Fields<'a> {
+        Fields {
+            bytes,
+            at: 0,
+            recorded: true,
+        }
     }
 
     /// A field of up to 16 bits.
     pub(crate) fn take(&mut self, width: usize) -> Result<u16, Malformed> {
+        let value = self.bits(if self.recorded { 8 * RECORD_LEN } else { width })?;
+        if u32::from(value) >> width != 0 {
+            return Err(Malformed::NotAllowed);
+        }
+        Ok(value)
+    }
+
+    fn bits(&mut self, width: usize) -> Result<u16, Malformed> {
         let mut value = 0;
         for at in self.at..self.at + width {
             let byte = self.bytes.get(at / 8).ok_or(Malformed::PastEnd)?;
@@ -219,8 +241,9 @@ pub enum Item {
     Extension(Extension),
 }
 
-/// A packed schedule, being read. Any bytes may be given: those that are no schedule are told by
-/// [`Malformed`], here or while the items are read.
+/// A schedule, being read, packed or from its records. Any bytes may be given: those that are no schedule
+/// are told by [`Malformed`], here or while the items are read. How many words there are is not known
+/// here, so no word is too high; [`read_schedule`](crate::read_schedule) tests that too.
 ///
 /// ```
 /// use gidzelma::{Item, Malformed, Schedule};
@@ -237,13 +260,31 @@ pub enum Item {
 pub struct Schedule<'a> {
     names: Vec<Name>,
     count: u16,
-    rest: Bits<'a>,
+    rest: Fields<'a>,
 }
 
 impl<'a> Schedule<'a> {
-    /// Reads the names and the count of items.
+    /// Reads the names and the count of items of a packed schedule.
     pub fn read(packed: &'a [u8]) -> Result<Schedule<'a>, Malformed> {
-        let mut rest = Bits::of(packed);
+        Schedule::begun(Fields::packed(packed))
+    }
+
+    /// The same of the records of a schedule.
+    ///
+    /// ```
+    /// use gidzelma::{read_schedule_vec, Item, Malformed, Schedule};
+    /// let packed = std::fs::read("../examples/base.schedule").unwrap();
+    /// let records = read_schedule_vec(4, &packed).unwrap();
+    /// let schedule = Schedule::of_records(&records)?;
+    /// let items = schedule.items().collect::<Result<Vec<Item>, Malformed>>()?;
+    /// assert_eq!((schedule.names().len(), schedule.count(), items.len()), (3, 2, 2));
+    /// # Ok::<(), Malformed>(())
+    /// ```
+    pub fn of_records(records: &'a [u8]) -> Result<Schedule<'a>, Malformed> {
+        Schedule::begun(Fields::recorded(records))
+    }
+
+    fn begun(mut rest: Fields<'a>) -> Result<Schedule<'a>, Malformed> {
         let names = rest.names()?;
         let count = rest.take(16)?;
         Ok(Schedule { names, count, rest })
@@ -264,17 +305,17 @@ impl<'a> Schedule<'a> {
     pub fn items(&self) -> Items<'a> {
         Items {
             left: Some(self.count),
-            bits: self.rest.clone(),
+            fields: self.rest.clone(),
         }
     }
 }
 
-/// The items of a packed schedule, as they are read.
+/// The items of a schedule, as they are read.
 #[derive(Clone, Debug)]
 pub struct Items<'a> {
     /// How many are left; `None` behind the end.
     left: Option<u16>,
-    bits: Bits<'a>,
+    fields: Fields<'a>,
 }
 
 impl Iterator for Items<'_> {
@@ -283,9 +324,9 @@ impl Iterator for Items<'_> {
     fn next(&mut self) -> Option<Self::Item> {
         let left = self.left.take()?;
         if left == 0 {
-            return self.bits.end().err().map(Err);
+            return self.fields.end().err().map(Err);
         }
-        let item = self.bits.item();
+        let item = self.fields.item();
         if item.is_ok() {
             self.left = Some(left - 1);
         }
@@ -309,8 +350,8 @@ impl FusedIterator for Items<'_> {}
 /// # Ok::<(), Box<dyn std::error::Error>>(())
 /// ```
 pub fn read_order(packed: &[u8]) -> Result<Vec<Name>, Malformed> {
-    let mut bits = Bits::of(packed);
-    let names = bits.names()?;
-    bits.end()?;
+    let mut fields = Fields::packed(packed);
+    let names = fields.names()?;
+    fields.end()?;
     Ok(names)
 }

@@ -1,6 +1,7 @@
 //! Names, and the words of a sheet that spell them.
 
-use crate::listing::Bits;
+use crate::listing::Fields;
+use crate::Item;
 use std::cmp::Ordering;
 use std::fmt;
 
@@ -84,11 +85,11 @@ impl Words {
     /// assert!(Words::read(b"no sheet").is_none());
     /// ```
     pub fn read(sheet: &[u8]) -> Option<Words> {
-        let mut bits = Bits::of(sheet);
-        bits.take(4).ok()?; // the version
-        let count = bits.take(8).ok()?;
+        let mut fields = Fields::packed(sheet);
+        fields.take(4).ok()?; // the version
+        let count = fields.take(8).ok()?;
         (0..count)
-            .map(|_| word(&mut bits))
+            .map(|_| word(&mut fields))
             .collect::<Option<_>>()
             .map(Words)
     }
@@ -128,12 +129,49 @@ impl Words {
         self.get(word)
             .map_or_else(|| format!("@{word}"), str::to_string)
     }
+
+    /// An item as the programs print it: an `R` line, or an `E` line.
+    ///
+    /// ```
+    /// use gidzelma::{Extension, Item, Name, Words};
+    /// let words = Words::read(&std::fs::read("../examples/base.sheet").unwrap()).unwrap();
+    /// let line = Extension { owner: Name::one(0), is_virtual: false, is_trait: true, word: 1 };
+    /// assert_eq!(words.line(&Item::Extension(line)), "E base 01 file");
+    /// ```
+    pub fn line(&self, item: &Item) -> String {
+        match item {
+            Item::Resource(made) => format!(
+                "R {} {} {} {}",
+                self.spell(&made.name()),
+                u8::from(made.is_virtual),
+                joined(made.parents.iter().map(|name| self.spell(name))),
+                joined(made.marks.iter().map(ToString::to_string)),
+            ),
+            Item::Extension(line) => format!(
+                "E {} {}{} {}",
+                self.spell(&line.owner),
+                u8::from(line.is_virtual),
+                u8::from(line.is_trait),
+                self.spelled(line.word),
+            ),
+        }
+    }
+}
+
+/// Entries joined by commas, `-` if there are none.
+fn joined(entries: impl Iterator<Item = String>) -> String {
+    let all: Vec<String> = entries.collect();
+    if all.is_empty() {
+        "-".to_string()
+    } else {
+        all.join(",")
+    }
 }
 
 /// A word at the cursor: its length and so many bytes.
-fn word(bits: &mut Bits<'_>) -> Option<String> {
-    let length = bits.take(5).ok()?;
-    let bytes: Option<Vec<u8>> = (0..length).map(|_| bits.byte().ok()).collect();
+fn word(fields: &mut Fields<'_>) -> Option<String> {
+    let length = fields.take(5).ok()?;
+    let bytes: Option<Vec<u8>> = (0..length).map(|_| fields.byte().ok()).collect();
     String::from_utf8(bytes?)
         .ok()
         .filter(|word| !word.is_empty() && word.is_ascii())

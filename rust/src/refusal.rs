@@ -1,9 +1,10 @@
-//! The ten refusals.
+//! The refusals.
 
 use std::error::Error;
 use std::fmt;
 
-/// Why a sheet is turned back. `docs/FORMAT.md`, section 7, has the condition of each.
+/// Why a sheet is turned back, by 1 to 10, or a schedule or its records, by 11 and 12. `docs/FORMAT.md`,
+/// 7.2 and 12.3, has the condition of each.
 #[derive(Clone, Copy, Debug, PartialEq, Eq, PartialOrd, Ord, Hash)]
 #[non_exhaustive]
 pub enum Refusal {
@@ -27,12 +28,17 @@ pub enum Refusal {
     RefusedInSynthesis,
     /// 10: the schedule, or the order, is longer than the listing.
     ListingTooShort,
+    /// 11: a field, or its record, passes the end of the schedule or of the records.
+    SchedulePastEnd,
+    /// 12: a schedule has a number of words or a field that is not allowed, or does not end where its
+    /// last field does.
+    ScheduleNotAllowed,
     /// A number that this version of the package does not know.
     Other(u32),
 }
 
 impl Refusal {
-    /// The number: 1 to 10, or that of [`Refusal::Other`].
+    /// The number: 1 to 12, or that of [`Refusal::Other`].
     ///
     /// ```
     /// use gidzelma::Refusal;
@@ -52,6 +58,8 @@ impl Refusal {
             Refusal::NoOrder => 8,
             Refusal::RefusedInSynthesis => 9,
             Refusal::ListingTooShort => 10,
+            Refusal::SchedulePastEnd => 11,
+            Refusal::ScheduleNotAllowed => 12,
             Refusal::Other(number) => number,
         }
     }
@@ -69,6 +77,8 @@ impl Refusal {
             Refusal::NoOrder => "the types have no order",
             Refusal::RefusedInSynthesis => "what a type associates cannot be made",
             Refusal::ListingTooShort => "the schedule is longer than the listing",
+            Refusal::SchedulePastEnd => "a field, or its record, passes the end",
+            Refusal::ScheduleNotAllowed => "no schedule has such a value, or such an end",
             Refusal::Other(_) => "a number that this version does not know",
         }
     }
@@ -87,6 +97,8 @@ impl From<u32> for Refusal {
             8 => Refusal::NoOrder,
             9 => Refusal::RefusedInSynthesis,
             10 => Refusal::ListingTooShort,
+            11 => Refusal::SchedulePastEnd,
+            12 => Refusal::ScheduleNotAllowed,
             _ => Refusal::Other(number),
         }
     }

@@ -1,4 +1,4 @@
-//! The readers of words, rows and listings, also on bytes that no call wrote.
+//! The readers of words, rows, listings and records, also on bytes that no call wrote.
 
 use gidzelma::{
     order_vec, read_order, schedule_vec, Extension, Item, Malformed, Mark, Name, Resource, Row,
@@ -92,7 +92,10 @@ fn read_all(bytes: &[u8]) -> usize {
         seen += rows.map(|row| row.subject.to_string().len()).sum::<usize>();
     }
     seen += read_order(bytes).map_or(0, |names| names.len());
-    if let Ok(schedule) = Schedule::read(bytes) {
+    for schedule in [Schedule::read(bytes), Schedule::of_records(bytes)]
+        .into_iter()
+        .flatten()
+    {
         seen += schedule.items().filter(Result::is_ok).count();
     }
     seen
