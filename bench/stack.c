@@ -1,4 +1,7 @@
-/* How much stack a call takes on the sheet on standard input: it runs on a painted stack. */
+/*
+ * How much stack a call takes on what is on standard input: it runs on a painted stack. CALL is the call;
+ * with CONVERSION it is one between a schedule and its records, and the first argument is W.
+ */
 #include <pthread.h>
 #include <stdio.h>
 #include <stdlib.h>
@@ -8,24 +11,29 @@
 
 enum { SIZE = 64 << 20, PAINT = 0xA5 };
 
-static uint8_t sheet[65536], listing[1 << 18], diagnosis[GIDZELMA_DIAGNOSIS_LEN];
+static uint8_t given[1 << 20], output[1 << 20], diagnosis[GIDZELMA_DIAGNOSIS_LEN];
 static uint32_t parts[GIDZELMA_PARTS_LEN], number;
-static size_t sheet_len;
+static size_t given_len, w;
 
 static void *run(void *unused)
 {
-    number = CALL(sheet, sheet_len, listing, sizeof listing, diagnosis, sizeof diagnosis,
+#ifdef CONVERSION
+    number = CALL(w, given, given_len, output, sizeof output, parts, GIDZELMA_PARTS_LEN);
+#else
+    number = CALL(given, given_len, output, sizeof output, diagnosis, sizeof diagnosis,
                   parts, GIDZELMA_PARTS_LEN);
+#endif
     return unused;
 }
 
-int main(void)
+int main(int count, char **words)
 {
     uint8_t *stack = aligned_alloc(4096, SIZE);
     pthread_attr_t attributes;
     pthread_t thread;
     size_t left = 0;
-    sheet_len = fread(sheet, 1, sizeof sheet, stdin);
+    w = count > 1 ? strtoul(words[1], NULL, 10) : 0;
+    given_len = fread(given, 1, sizeof given, stdin);
     if (stack == NULL || pthread_attr_init(&attributes) != 0)
         return 2;
     memset(stack, PAINT, SIZE);

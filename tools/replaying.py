@@ -36,6 +36,23 @@ def case(call, sheet, answer, name="", lengths_too=False, same_sheet=False):
     return head + name.encode() + (b"" if same_sheet else sheet) + written(answer)
 
 
+def cases_in(data):
+    """The cases of a file that the programs read, as `case` puts them: call, number, name, sheet, bytes written."""
+    at, sheet = 0, b""
+
+    def take(size):
+        nonlocal at
+        at += size
+        return data[at - size:at]
+
+    while at < len(data):
+        call, number, _, name_size = take(4)
+        rows, _, sheet_size, _, size = (int.from_bytes(take(width), "big") for width in (2, 2, 2, 3, 3))
+        name = take(name_size).decode()
+        sheet = sheet if sheet_size == SAME_SHEET else take(sheet_size)
+        yield ("order", "schedule")[call & 1], number, name, sheet, take(6 * rows if number else size)
+
+
 def answer_of(call, sheet, listing=None, diagnosis=6 * model.ROWS):
     """The model's answer; a listing of two bytes more than the size where no length is given."""
     lent = bytes([LENT]) * diagnosis

@@ -24,6 +24,7 @@ sys.path.insert(0, HERE)
 import building
 import gidzelma
 import model
+import model_conversion
 import program
 import refusals
 import sheetlib
@@ -36,6 +37,7 @@ ARCHIVE = building.library(ROOT).path
 STRICT = ["-Wall", "-Wextra", "-Wpedantic", "-Werror"]
 LARGEST = 1 << 18  # above the longest schedule that was found
 PACKED = bytes.fromhex("06000200800080001090140802800010")
+EXPORTED = ["gidzelma_" + name for name in ("order", "read_schedule", "schedule", "write_schedule")]
 
 C_COMPILERS = [name for name in ("gcc", "clang") if shutil.which(name)]
 CXX_COMPILERS = [name for name in ("g++", "clang++") if shutil.which(name)]
@@ -111,11 +113,15 @@ typedef char slice_size[sizeof(struct gidzelma_row[GIDZELMA_ROWS_MAX]) == GIDZEL
 uint32_t use(enum gidzelma_number number, enum gidzelma_kind kind, const char *version);
 uint32_t use(enum gidzelma_number number, enum gidzelma_kind kind, const char *version)
 {
-    uint8_t sheet[1] = {0}, listing[1] = {0};
+    uint8_t sheet[1] = {0}, listing[1] = {0}, records[GIDZELMA_RECORDS_LEN(sizeof listing)] = {0};
     struct gidzelma_row rows[GIDZELMA_ROWS_MAX];
     uint32_t parts[GIDZELMA_PARTS_LEN];
     if (number == GIDZELMA_ACCEPTED && kind == GIDZELMA_KIND_CYCLE && version[0] == GIDZELMA_VERSION[0])
         return gidzelma_order(sheet, 1, listing, 1, (uint8_t *)rows, sizeof rows, parts, 3);
+    if (number == GIDZELMA_SCHEDULE_PAST_END)
+        return gidzelma_read_schedule(GIDZELMA_WORDS_MAX, listing, 1, records, sizeof records, parts, 3);
+    if (number == GIDZELMA_SCHEDULE_NOT_ALLOWED)
+        return gidzelma_write_schedule(GIDZELMA_WORDS_MIN, records, sizeof records, listing, 1, parts, 3);
     return gidzelma_schedule(sheet, 1, listing, 1, (uint8_t *)rows, sizeof rows, parts, 3);
 }
 """
@@ -154,10 +160,13 @@ class Header(Folder):
         page = text_of("docs", "FORMAT.md")
         for name in ("SHEET_MAX", "DIAGNOSIS_LEN", "ORDER_MAX", "SCHEDULE_MAX", "SCHEDULE_FOUND"):
             self.assertRegex(page, rf"\b{values[name]:,}\b", name)
-        for name in ("DIAGNOSIS_LEN", "ROW_LEN", "ABSENT", "STACK_LEN", "LISTING_TOO_SHORT"):
+        self.assertEqual((values["WORDS_MIN"], values["WORDS_MAX"]), model_conversion.WORDS)
+        self.assertEqual((values["RECORD_LEN"], values["RECORDS_PER_BYTE"]), (model_conversion.RECORD, 8 * 2))
+        for name in ("DIAGNOSIS_LEN", "ROW_LEN", "ABSENT", "STACK_LEN", "LISTING_TOO_SHORT", "RECORDS_PER_BYTE"):
             self.assertEqual(getattr(gidzelma, name), values[name], name)
         rust = text_of("rust", "src", "lib.rs")
-        for name in ("SHEET_MAX", "ROW_LEN", "ROWS_MAX", "ORDER_MAX", "SCHEDULE_MAX"):
+        for name in ("SHEET_MAX", "ROW_LEN", "ROWS_MAX", "ORDER_MAX", "SCHEDULE_MAX", "RECORD_LEN",
+                     "RECORDS_PER_BYTE"):
             self.assertIn(f"pub const {name}: usize = {values[name]:_};", rust)
 
     def test_words(self):
@@ -200,31 +209,60 @@ class Linked(Folder):
         self.assertEqual(ran([example, self.path("gone")])[:2], (2, b""))
         self.assertEqual(ran([example])[:2], (2, b""))
 
+    def test_records(self):
+        """examples/records.c prints the model's records, or says its number."""
+        for compiler in C_COMPILERS:
+            example = self.build("examples/records.c", "-std=c99", *STRICT, compiler=compiler)
+            self.assertEqual(ran([example, "4", os.path.join(ROOT, "examples", "base.schedule")]),
+                             (0, b"3 0 0 2 0 1 0 2 0 0 0 1 0 2 1 1 1 2 1 0 1 0 0 0 0 1\n", ""))
+        for w, schedule in ((4, b""), (4, PACKED[:-1]), (4, PACKED + b"\0"), (2, PACKED), (201, PACKED), (2, bytes(3))):
+            status, out, error = ran([example, str(w), self.write("a.schedule", schedule)])
+            answer = model.read_schedule(w, schedule, bytes(16 * len(schedule)))
+            self.assertEqual((status, error), (1, f"refused {answer.number}\n") if answer.number else (0, ""))
+            self.assertEqual(out, b"" if answer.number else b"0 0\n")
+        self.assertEqual(ran([example, "4", self.path("gone")])[:2], (2, b""))
+        self.assertEqual(ran([example])[:2], (2, b""))
+
     def test_symbols(self):
-        """The library asks for nothing but memcpy and memset, and gives the two calls alone."""
+        """The library asks for nothing but memcpy and memset, and gives the calls alone."""
         if not shutil.which("nm"):
             self.skipTest("nm is missing")
         lines = ran(["nm", "-g", ARCHIVE])[1].decode().splitlines()
         pairs = sorted(tuple(line.split()[-2:]) for line in lines if line and not line.endswith(":"))
-        self.assertEqual(pairs, [("T", "gidzelma_order"), ("T", "gidzelma_schedule"), ("U", "memcpy"),
-                                 ("U", "memset")])
+        self.assertEqual(pairs, [*(("T", name) for name in EXPORTED), ("U", "memcpy"), ("U", "memset")])
 
     def test_stack(self):
         """No more stack than the header and the pages say, and half of what they advise."""
-        said, other = (float(re.search(what + r" ([\d.]+) MB", text_of("include", "gidzelma.h")).group(1))
-                       for what in ("took up to", "and"))
+        said, other, least = (float(re.search(what + r" ([\d.]+) MB", text_of("include", "gidzelma.h")).group(1))
+                              for what in ("took up to", "and", "less than"))
         for name in ("docs/LINKING.md", "rust/src/lib.rs"):
             self.assertIn(f"up to {said} MB", text_of(name))
             self.assertIn(f"and {other} MB", text_of(name))
+            self.assertIn(f"less than {least} MB", text_of(name))
         ring = "\n".join(f"domain t{at:02} : t{(at + 1) % 64:02}" for at in range(64))
         tried = [sheetlib.sheet_of(ring), *(sheetlib.encode(make()) for make in large.MAPS.values())]
         for call in ("schedule", "order"):
             stack = self.build("bench/stack.c", f"-DCALL=gidzelma_{call}", "-pthread")
             for sheet in tried:
-                done = subprocess.run([stack], input=sheet, stdout=subprocess.PIPE, check=True)
-                number, used = map(int, re.search(rb"number (\d+), (\d+) bytes of stack", done.stdout).groups())
+                number, used = self.used([stack], sheet)
                 self.assertLessEqual(used, 1e6 * (said if number == 9 else other))
                 self.assertLessEqual(2 * used, constants()["STACK_LEN"])
+        sheet = sheetlib.encode(large.MAPS["crowd"]())
+        answer, w = model_of("schedule", sheet), len(model.sheet_words(sheet))
+        packed = answer.listing[:answer.size]
+        records = model.records_of(*model_conversion.Going(w, model_conversion.Packed(packed),
+                                                           model_conversion.Records(bytes(1 << 20))).schedule())
+        for call, right in (("read_schedule", packed), ("write_schedule", records)):
+            stack = self.build("bench/stack.c", f"-DCALL=gidzelma_{call}", "-DCONVERSION", "-pthread")
+            for given, want in ((right, 0), (right[:-2], 11), (right + b"\0", 12), (b"", 11), (b"\xff" * 9, 12)):
+                number, used = self.used([stack, str(w)], given)
+                self.assertEqual(number, want)
+                self.assertLess(used, 1e6 * least)
+
+    def used(self, words, given):
+        """The number, and the bytes of stack, that bench/stack.c finds."""
+        done = subprocess.run(words, input=given, stdout=subprocess.PIPE, check=True)
+        return map(int, re.search(rb"number (\d+), (\d+) bytes of stack", done.stdout).groups())
 
 
 # ------------------------------------------------------------------- Python
@@ -344,6 +382,18 @@ class Rust(Folder):
             want += "".join(line + "\n" for line in [f"== {name}", *lines])
         self.assertEqual((status, error), (1, ""))
         self.assertEqual(out.decode().split("== "), want.split("== "))
+
+    def test_show(self):
+        """What the example prints from records is what the model prints, for each accepted case."""
+        for name, sheet in sheets().items():
+            answer = model_of("schedule", sheet)
+            if answer.number == 0:
+                files = self.write("a.sheet", sheet), self.write("a.schedule", answer.listing[:answer.size])
+                lines = "".join(line + "\n" for line in model.printed(sheet, answer, True))
+                self.assertEqual(self.cargo("run", "--example", "show", "--", *files), (0, lines.encode(), ""), name)
+        short = self.write("short", PACKED[:-1])
+        self.assertEqual(self.cargo("run", "--example", "show", "--", BASE, short), (1, b"refused 11\n", ""))
+        self.assertEqual(self.cargo("run", "--example", "show", "--", BASE, self.path("gone"))[0], 2)
 
     def test_library(self):
         """GIDZELMA_LIB_DIR: a folder without the library, and one that has it under its own name."""
@@ -534,7 +584,7 @@ class Archive(Folder):
         self.assertEqual(ran([self.path("static"), BASE]), (0, PACKED, ""))
 
     def test_shared_object(self):
-        """It has its name, gives the two calls alone, and has no stack that can be run."""
+        """It has its name, gives the calls alone, and has no stack that can be run."""
         if not shutil.which("readelf") or not shutil.which("nm"):
             self.skipTest("readelf or nm is missing")
         path = os.path.join(self.top, "lib", "libgidzelma.so")
@@ -542,7 +592,7 @@ class Archive(Folder):
         self.assertIn(f"[{soname}]", ran(["readelf", "-d", path])[1].decode())
         self.assertTrue(os.path.exists(os.path.join(self.top, "lib", soname)))
         names = {line.split()[-1] for line in ran(["nm", "-D", "--defined-only", path])[1].decode().splitlines()}
-        self.assertEqual(names, {"gidzelma_order", "gidzelma_schedule"})
+        self.assertEqual(names, set(EXPORTED))
         stack = [line for line in ran(["readelf", "-lW", path])[1].decode().splitlines() if "GNU_STACK" in line]
         self.assertRegex(stack[0], r" RW +0x")
 

@@ -8,6 +8,7 @@
     large       maps at the limits of document 01
     records     records written briefly
     shapes      what families and large maps share
+    schedules   packed schedules drawn without a sheet, and damaged records
 
 For one seed a map stays what it is, byte for byte: stored cases were drawn with these.
 """
