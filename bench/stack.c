@@ -11,7 +11,7 @@
 
 enum { SIZE = 64 << 20, PAINT = 0xA5 };
 
-static uint8_t given[1 << 20], output[1 << 20], diagnosis[GIDZELMA_DIAGNOSIS_LEN];
+static uint8_t given[1 << 20], output[1 << 20];
 static uint32_t parts[GIDZELMA_PARTS_LEN], number;
 static size_t given_len, w;
 
@@ -20,6 +20,7 @@ static void *run(void *unused)
 #ifdef CONVERSION
     number = CALL(w, given, given_len, output, sizeof output, parts, GIDZELMA_PARTS_LEN);
 #else
+    static uint8_t diagnosis[GIDZELMA_DIAGNOSIS_LEN];
     number = CALL(given, given_len, output, sizeof output, diagnosis, sizeof diagnosis,
                   parts, GIDZELMA_PARTS_LEN);
 #endif

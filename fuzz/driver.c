@@ -4,10 +4,13 @@
  *   driver          slices end at, then start at, a page that may not be touched
  *   driver malloc   slices are blocks of exactly their size, for valgrind
  *
- * Standard input is a list of records, numbers of four bytes in the machine's order: the lengths of
- * sheet, listing, diagnosis and parts, a seed, then the sheet. The lent bytes are filled by `fill`.
- * For each record standard output gets the number returned, 1 if all else was left alone (else 0),
- * listing, diagnosis and parts as the call left them.
+ * CALL is the call; it takes a sheet, or, with CONVERSION, W and a schedule or records.
+ *
+ * Standard input is a list of questions, in numbers of the machine's order: W in eight bytes; in four
+ * bytes each the lengths of what is given, of the lent slices (listing and diagnosis, or one) and of
+ * parts, and a seed; then what is given. The lent bytes are filled by `fill`. For each question standard
+ * output gets the number returned, 1 if all else was left alone (else 0), the lent slices and parts as
+ * the call left them.
  */
 #include <stdio.h>
 #include <stdlib.h>
@@ -21,7 +24,19 @@
 #define CALL gidzelma_order
 #endif
 
-enum { SLICES = 4, MARGIN = 256, PERIOD = 251 };
+/* What is given, what is lent, and the parts; and the most bytes of each. */
+#ifdef CONVERSION
+enum { SLICES = 3 };
+static const size_t most[SLICES] = {1 << 20, 1 << 22, 1 << 10};
+#else
+enum { SLICES = 4 };
+static const size_t most[SLICES] = {1 << 17, 1 << 19, 1 << 14, 1 << 10};
+#endif
+
+enum { MARGIN = 256, PERIOD = 251 };
+
+/* How many words the sheet has that a schedule is of. */
+static uint64_t w;
 
 /* A region with a page before and behind it that may not be touched. */
 struct region {
@@ -96,8 +111,13 @@ static uint32_t call(struct lent l[SLICES])
     for (int i = 0; i < SLICES; i++)
         if (l[i].size > 0)
             memcpy(l[i].at, l[i].before, l[i].size);
-    return CALL(l[0].at, l[0].size, l[1].at, l[1].size, l[2].at, l[2].size,
-                (uint32_t *)(void *)l[3].at, l[3].size / sizeof(uint32_t));
+    uint32_t *parts = (uint32_t *)(void *)l[SLICES - 1].at;
+    size_t parts_len = l[SLICES - 1].size / sizeof(uint32_t);
+#ifdef CONVERSION
+    return CALL((size_t)w, l[0].at, l[0].size, l[1].at, l[1].size, parts, parts_len);
+#else
+    return CALL(l[0].at, l[0].size, l[1].at, l[1].size, l[2].at, l[2].size, parts, parts_len);
+#endif
 }
 
 /* The call with its slices at the end, or the start, of their regions. */
@@ -173,13 +193,14 @@ int main(int count, char **words)
     int blocks = count == 2 && strcmp(words[1], "malloc") == 0;
     if (count > 1 && !blocks)
         stop("usage: driver [malloc]");
-    const size_t most[SLICES] = {1 << 17, 1 << 19, 1 << 14, 1 << 10};
     struct region r[SLICES];
     struct lent l[SLICES];
     for (int i = 0; i < SLICES; i++)
         r[i] = guarded(most[i]);
     uint32_t head[SLICES + 1];
-    while (get(head, sizeof head)) {
+    while (get(&w, sizeof w)) {
+        if (!get(head, sizeof head))
+            stop("a question that ends early");
         for (int i = 0; i < SLICES; i++) {
             l[i].size = head[i] * (i == SLICES - 1 ? sizeof(uint32_t) : 1);
             if (l[i].size > most[i])
@@ -189,7 +210,7 @@ int main(int count, char **words)
                 l[i].before[at] = fill(at, head[SLICES]);
         }
         if (!get(l[0].before, l[0].size))
-            stop("a record that ends early");
+            stop("a question that ends early");
         if (blocks)
             run_blocks(l);
         else

@@ -1,6 +1,45 @@
-/* Libraries with one fault each, to see that fuzz/run finds it. FAULT picks the fault. */
+/*
+ * Libraries with one fault each, to see that fuzz/run finds it. FAULT picks the fault, CALL is the call;
+ * with CONVERSION it is one between a schedule and its records.
+ */
 #include "gidzelma.h"
 
+#ifdef CONVERSION
+uint32_t faultless(size_t w, const uint8_t *given, size_t given_len, uint8_t *output, size_t output_len,
+                   uint32_t *parts, size_t parts_len);
+
+uint32_t CALL(size_t w, const uint8_t *given, size_t given_len, uint8_t *output, size_t output_len,
+              uint32_t *parts, size_t parts_len)
+{
+    uint32_t number = faultless(w, given, given_len, output, output_len, parts, parts_len);
+#if FAULT == 1 /* writes behind the lent slice */
+    if (number == 0 && parts[0] == output_len)
+        output[output_len] = 0;
+#elif FAULT == 2 /* writes before it */
+    if (number == 12)
+        output[-1] ^= 1;
+#elif FAULT == 3 /* reads behind what is given */
+    if (number == 11 && ((const volatile uint8_t *)given)[given_len] == 255)
+        number = 11;
+#elif FAULT == 4 /* a refusal that has written */
+    if (number == 12 && output_len > 0)
+        output[0] ^= 1;
+#elif FAULT == 5 /* invents a size */
+    if (number == 11)
+        parts[0] = 1;
+#elif FAULT == 6 /* touches parts that are too few */
+    if (number == GIDZELMA_PARTS_TOO_FEW && parts_len > 0)
+        parts[0] = 0;
+#elif FAULT == 7 /* clears the slice behind what it wrote */
+    if (number == 0 && parts[0] < output_len)
+        output[parts[0]] = 0;
+#elif FAULT == 8 /* an 11 that is not due */
+    if (number == 0 && output_len == parts[0])
+        number = 11;
+#endif
+    return number;
+}
+#else
 uint32_t faultless(const uint8_t *sheet, size_t sheet_len, uint8_t *listing, size_t listing_len,
                    uint8_t *diagnosis, size_t diagnosis_len, uint32_t *parts, size_t parts_len);
 
@@ -36,3 +75,4 @@ uint32_t CALL(const uint8_t *sheet, size_t sheet_len, uint8_t *listing, size_t l
 #endif
     return number;
 }
+#endif
