@@ -48,9 +48,12 @@
 //! let words = Words::read(&std::fs::read("../examples/base.sheet")?).expect("words");
 //! let packed = std::fs::read("../examples/base.schedule")?;
 //! let records = read_schedule_vec(words.len(), &packed)?;
-//! let schedule = Schedule::of_records(&records)?;
-//! let items: Vec<String> = schedule.items().map(|item| Ok(words.line(&item?))).collect::<Result<_, gidzelma::Malformed>>()?;
-//! assert_eq!(items, ["R base.file 0 file,resource makelist", "E base 00 file"]);
+//!
+//! let mut lines = vec![];
+//! for item in Schedule::of_records(&records)?.items() {
+//!     lines.push(words.line(&item?));
+//! }
+//! assert_eq!(lines, ["R base.file 0 file,resource makelist", "E base 00 file"]);
 //! # Ok(())
 //! # }
 //! ```
