@@ -52,12 +52,12 @@ UNKNOWN = ("a number that the table of refusals does not have", "")
 
 def said_of(number):
     """A refusal in words."""
-    return {**REFUSALS, **SCHEDULES}.get(number, UNKNOWN)[0]
+    return REFUSALS.get(number, UNKNOWN)[0]
 
 
 def meaning_of(number):
     """A refusal in words, with its limits."""
-    said, limits = {**REFUSALS, **SCHEDULES}.get(number, UNKNOWN)
+    said, limits = REFUSALS.get(number, UNKNOWN)
     return f"{said} ({limits})" if limits else said
 
 
