@@ -15,17 +15,9 @@ class Bits(Writer):
             self.put(8, word)
 
 
-class Records(Bits):
-    """The same as records: each field in two bytes, the high one first (FORMAT 12.2)."""
-
-    def put(self, width, value, what="field"):
-        """Appends the record of a field."""
-        super().put(16, value, what)
-
-
-def pack(names, items=None, form=Bits):
-    """The packed schedule, or its records; of the order-only call, without items."""
-    bits = form()
+def pack(names, items=None):
+    """The packed schedule; of the order-only call, without items."""
+    bits = Bits()
     bits.put(7, len(names))
     for name in names:
         bits.put_name(name)

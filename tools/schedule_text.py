@@ -16,15 +16,15 @@ for a parent without words.
 
 from collections import namedtuple
 
+from model_conversion import MARKS, PARENTS, PARENT_WORDS, TYPES, WORDS, records_of
 from model_lines import Line, Making
-from model_packing import Bits, Records, pack
+from model_packing import pack
 from places import Place, counted, name_from, place_of, quoted, word_at
 from sheet_text import number, tokens_in
 from sheetlib import Reader, SheetError
 
 # The refusals of a schedule, by those of a sheet that are alike: past the end, not allowed, what follows.
 REFUSALS = {3: 11, 4: 12, 7: 12}
-WIDTHS = (2, 200)  # W
 # What each line has behind its first token: how many tokens, and which.
 TAKES = {"T": (1, "a name"), "R": (4, "a name, virtual (0 or 1), parents and marks"),
          "E": (3, "a type, two flags and a word")}
@@ -33,7 +33,7 @@ Schedule = namedtuple("Schedule", "names items")
 
 # The least and the most of each, as document 02 has them, and as the fields' widths allow.
 Limits = namedtuple("Limits", "names items words parents parent_words marks")
-ALLOWED = Limits((0, 64), (0, 65535), (0, 0), (2, 17), (1, 3), (0, 448))
+ALLOWED = Limits(TYPES, (0, 65535), (0, 0), PARENTS, PARENT_WORDS, MARKS)
 WIDE = Limits((0, 127), (0, 65535), (0, 255), (0, 31), (0, 3), (0, 511))
 
 
@@ -50,8 +50,8 @@ class Words:
 
     def check(self):
         """W, which is tested before anything else."""
-        if not WIDTHS[0] <= self.count <= WIDTHS[1]:
-            raise SheetError(f"W is {self.count}, allowed are {WIDTHS[0]} to {WIDTHS[1]}", number=12)
+        if not WORDS[0] <= self.count <= WORDS[1]:
+            raise SheetError(f"W is {self.count}, allowed are {WORDS[0]} to {WORDS[1]}", number=12)
 
     def show(self, word):
         """A word as the text has it."""
@@ -139,7 +139,7 @@ def unpack(data, words, raw=False, records=False):
 
 def packed(schedule, records=False):
     """The bytes of a schedule, or of its records."""
-    return pack(schedule.names, schedule.items, Records if records else Bits)
+    return records_of(*schedule) if records else pack(*schedule)
 
 
 # ------------------------------------------------------------------ showing

@@ -796,7 +796,8 @@ class ShowOptions(Folder):
         status, out, error = run("show", "gone", "--help")
         self.assertEqual((status, error), (0, ""))
         self.assertTrue(out.decode().startswith("Usage: show "))
-        for part in ["-w W", "--json", "--explain", "Status: 0 printed", "262,144", "11  a field passes", "12  a value"]:
+        numbers = [f"{number}  {said}" for number, (said, _) in refusals.OF_SCHEDULES.items()]
+        for part in ["-w W", "--json", "--explain", "Status: 0 printed", "262,144", *numbers]:
             self.assertIn(part, out.decode())
         self.assertLess(max(map(len, out.decode().splitlines())), 100)
 

@@ -19,7 +19,7 @@ import model
 import schedule_text
 import sheetlib
 from case_texts import fields
-from maps import changed, drawn, flavours, large, loads, small
+from maps import changed, drawn, flavours, large, loads, schedules, small
 from places import Problems
 from sheetlib import encode, sheet_of
 
@@ -780,6 +780,26 @@ class ScheduleTexts(unittest.TestCase):
         for width, number in [(0, 12), (1, 12), (2, 0), (200, 0), (201, 12)]:
             self.assertEqual(self.refused(bytes(3), width), number, width)
 
+    def test_model(self):
+        """What is refused, and what is read, is the model's: each limit and one past it, and damaged ones."""
+        rng, asked = random.Random(11), []
+        for _, w, fields_of, _ in (*schedules.limits(), *schedules.flags()):
+            asked.append((w, True, schedules.recorded(fields_of)))
+            if schedules.fit(fields_of):
+                asked.append((w, False, schedules.packed(fields_of)))
+        for _ in range(300):
+            w = rng.choice((2, 3, 20, 200))
+            names, items = schedules.random_schedule(rng, w)
+            asked += [(w, False, changed.damaged(rng, model.pack(names, items))), (w, False, model.pack(names, items)),
+                      (w, True, schedules.damaged_records(rng, model.records_of(names, items)))]
+        for w, records, data in asked:
+            call = model.write_schedule if records else model.read_schedule
+            answer, options = call(w, data, bytes(16 * len(data))), {"records": records}
+            self.assertEqual(self.refused(data, w, **options), answer.number, (w, options, data))
+            if answer.number == 0:
+                schedule = schedule_text.unpack(data, schedule_text.Words(w), **options)
+                self.assertEqual(schedule_text.packed(schedule, not records), answer.output[:answer.size])
+
     def test_cuts(self):
         """Every cut passes the end, and every byte more follows it."""
         schedule = schedule_text.parse_text(SCHEDULE, schedule_text.Words(5), Problems())
@@ -1054,6 +1074,7 @@ BELIEVED = {
         "pub enum Answer {\n    Yes,\n}\n\nfn helper() -> u8\n    ensures { private }\n{\n    1\n}\n\n"
         "// The call.\npub fn order() -> Answer\n    ensures { λ r. ⌜ answerOf r ≡ outcome ⌝ }\n    ensures { Promised }\n{\n    helper()\n}\n",
     "crates/exports/src/lib.rt": "fn none() -> u8 {\n    1\n}\n",
+    "crates/schedule_records/src/lib.rt": "fn none() -> u8 {\n    1\n}\n",
     "README.md": "Before.\n<!-- believed: written by tools/believed --write -->\n<!-- end of believed -->\nAfter.\n",
 }
 
