@@ -111,16 +111,17 @@ module _ (short : Bool) (n : ℕ) (rule : Rule) (source : List ℕ) (p : ℕ) wh
     value = λ _. (tested v e h l q ∙ rw (le-leb (rule .least) v a, le-leb v (rule .most) b) refl, b, l, e);
   }
 
--- a record that is not written, and one that is
-module _ (down packed : Bool) (buf : List ℕ) (p n v : ℕ) (a : Aligned packed n p) (e : packed ≡ false) where
-  pub laid-up : down ≡ false → Penned down buf buf p (p + 16) (toBits n v)
-  laid-up d = record { next = omega (arith, length-toBits n v, a .wide e); holds = rw d refl }
+-- a field that is not written
+pub laid-up : (down : Bool) (buf : List ℕ) (p n v : ℕ) → down ≡ false → Penned down buf buf p (p + n) (toBits n v)
+laid-up down buf p n v d = record { next = ap (λ (i : ℕ). p + i) (sym (length-toBits n v)); holds = rw d refl }
 
-  pub laid-down : (after : List ℕ) → down ≡ true → after ≡ put buf (8 * (p / 8)) (toBits 16 v) → Penned down buf after p (p + 16) (toBits n v)
-  laid-down after d w = record {
-    next = omega (arith, length-toBits n v, a .wide e);
-    holds = rw d (w ∙ ap₂ (λ (i k : ℕ). put buf i (toBits k v)) (omega (arith, a .even e)) (sym (a .wide e)));
-  }
+-- a record that is
+pub laid-down : (down packed : Bool) (buf : List ℕ) (p n v : ℕ) → Aligned packed n p → packed ≡ false → (after : List ℕ) → down ≡ true
+    → after ≡ put buf (8 * (p / 8)) (toBits 16 v) → Penned down buf after p (p + 16) (toBits n v)
+laid-down down packed buf p n v a e after d w = record {
+  next = omega (arith, length-toBits n v, a .wide e);
+  holds = rw d (w ∙ ap₂ (λ (i k : ℕ). put buf i (toBits k v)) (omega (arith, a .even e)) (sym (a .wide e)));
+}
 
 -- ---- from field to field
 

@@ -128,11 +128,11 @@ fn lay(target: &mut [u8], at: usize, down: bool, packed: bool, f: Field) -> usiz
     requires { ⌜ Aligned packed (f .width) at ⌝ }
     ensures { λ r. ⌜ Penned down (now (target .entry)) (now (target .exit)) at r (toBits (f .width) (f .value)) ⌝ }
 {
+    if !down {
+        return at + f.width;
+    }
     if packed {
         return item_pen::put(target, at, down, f.width, f.value);
-    }
-    if !down {
-        return at + RECORD;
     }
     put_record(target, at / 8, f.value);
     at + RECORD
