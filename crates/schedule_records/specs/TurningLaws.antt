@@ -144,6 +144,11 @@ pub in-form : (packed : Bool) (n : ℕ) → n ≤ 16 → (n ≤ formOf packed n)
 in-form true n h = (omega arith, h)
 in-form false n h = (h, omega arith)
 
+-- both widths together are a record's and the field's own
+pub other-form : (packed : Bool) (w n : ℕ) → n ≡ formOf packed w → w + 16 - n ≡ formOf (not packed) w
+other-form true w n e = omega (arith, e)
+other-form false w n e = omega (arith, e)
+
 -- what the pen has written has the length of what was lent
 pub as-long : (down : Bool) (lent : List ℕ) (xs : List Bool) → length (cond down (put lent 0 xs) lent) ≡ length lent
 as-long true lent xs = length-put lent 0 xs

@@ -51,6 +51,14 @@ fn in_form(packed: bool, n: usize) -> usize
     if packed { n } else { RECORD }
 }
 
+// How wide it is in the other one: n is its width in a form, and both together are a record's and its own.
+fn in_other_form(packed: bool, width: usize, n: usize) -> usize
+    requires { ⌜ (n ≡ formOf packed width) × (width ≤ 16) ⌝ }
+    ensures { λ r. ⌜ r ≡ formOf (not packed) width ⌝ }
+{
+    width + RECORD - n
+}
+
 // The bits of so many bytes, or as many as no schedule has in either form: those of longer slices may be more than a number counts.
 fn bits_within(bytes: usize) -> usize
     ensures { λ r. ⌜ r ≡ bitsWithin bytes ⌝ }
@@ -168,7 +176,7 @@ fn pass(w: usize, source: &[u8], target: &mut [u8], reading: bool, down: bool) -
     let mut rule = schedule_fields::rule_at(place, w);
     while rule.width != 0 {
         let n = in_form(reading, rule.width);
-        let m = in_form(!reading, rule.width);
+        let m = in_other_form(reading, rule.width, n);
         let met = meet(source, end, at, n, room < to + m, rule);
         if met.number != 0 {
             return Passed {

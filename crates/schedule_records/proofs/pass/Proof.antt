@@ -35,8 +35,13 @@ loop-holds c = (going-start _ _ _ _ _, c .rule-at .ensures, c .before .before .b
 in-form-requires : tie.Need-in-form-requires Inv-loop μ-loop
 in-form-requires c κs = search needs
 
-in-form-requires-2 : tie.Need-in-form-requires-2 Inv-loop μ-loop
-in-form-requires-2 c κs = search needs
+in-other-form-requires : tie.Need-in-other-form-requires Inv-loop μ-loop
+in-other-form-requires c κs =
+    let a = c .before .before .before .before .before .before .before .before .before .args in
+    let w = c .before .before .before .before .before .before .before .before .before .pre in
+    let l = c .before .before .before .loop in
+    let h : 0 < l .rule .width = omega (arith, c .before .if1 .taken) in
+    (c .in-form .ensures, ready (a .w) (a .reading) (a .down) (now (a .source)) (now (a .target)) (l .target) (l .place) (l .at) (l .to) (l .inv .0) (l .rule) (l .inv .1) w h .0)
 
 add-meet : tie.Need-add-meet Inv-loop μ-loop
 add-meet c =
@@ -45,7 +50,7 @@ add-meet c =
     let l = c .before .before .before .before .loop in
     let h : 0 < l .rule .width = omega (arith, c .before .before .if1 .taken) in
     let n = c .before .in-form in
-    let m = c .in-form2 in
+    let m = c .in-other-form in
     let d = ready (a .w) (a .reading) (a .down) (now (a .source)) (now (a .target)) (l .target) (l .place) (l .at) (l .to) (l .inv .0) (l .rule) (l .inv .1) w h in
     omega (arith, d .2, in-form (not (a .reading)) (l .rule .width) (d .0), m .ensures)
 
@@ -56,7 +61,7 @@ meet-requires c κs =
     let l = c .before .before .before .before .loop in
     let h : 0 < l .rule .width = omega (arith, c .before .before .if1 .taken) in
     let n = c .before .in-form in
-    let m = c .in-form2 in
+    let m = c .in-other-form in
     let d = ready (a .w) (a .reading) (a .down) (now (a .source)) (now (a .target)) (l .target) (l .place) (l .at) (l .to) (l .inv .0) (l .rule) (l .inv .1) w h in
     let i = in-form (a .reading) (l .rule .width) (d .0) in
     (l .inv .2, omega (arith, i .0, n .ensures), omega (arith, i .1, n .ensures), omega (arith, d .1, i .1, n .ensures))
@@ -75,7 +80,7 @@ returns c =
     let l = c .before .before .before .before .before .before .before .loop in
     let h : 0 < l .rule .width = omega (arith, c .before .before .before .before .before .if1 .taken) in
     let n = c .before .before .before .before .in-form in
-    let m = c .before .before .before .in-form2 in
+    let m = c .before .before .before .in-other-form in
     let d = ready (a .w) (a .reading) (a .down) (now (a .source)) (now (a .target)) (l .target) (l .place) (l .at) (l .to) (l .inv .0) (l .rule) (l .inv .1) w h in
     let x = c .before .before .meet in
     let y : l .to + m .result ≤ mostBits = omega (arith, d .2, in-form (not (a .reading)) (l .rule .width) (d .0), m .ensures) in
@@ -89,7 +94,7 @@ add-at c =
     let l = c .before .before .before .before .before .before .before .loop in
     let h : 0 < l .rule .width = omega (arith, c .before .before .before .before .before .if1 .taken) in
     let n = c .before .before .before .before .in-form in
-    let m = c .before .before .before .in-form2 in
+    let m = c .before .before .before .in-other-form in
     let d = ready (a .w) (a .reading) (a .down) (now (a .source)) (now (a .target)) (l .target) (l .place) (l .at) (l .to) (l .inv .0) (l .rule) (l .inv .1) w h in
     omega (arith, d .1, in-form (a .reading) (l .rule .width) (d .0), n .ensures)
 
@@ -100,7 +105,7 @@ lay-requires c κs =
     let l = c .before .before .before .before .before .before .before .before .loop in
     let h : 0 < l .rule .width = omega (arith, c .before .before .before .before .before .before .if1 .taken) in
     let n = c .before .before .before .before .before .in-form in
-    let m = c .before .before .before .before .in-form2 in
+    let m = c .before .before .before .before .in-other-form in
     let d = ready (a .w) (a .reading) (a .down) (now (a .source)) (now (a .target)) (l .target) (l .place) (l .at) (l .to) (l .inv .0) (l .rule) (l .inv .1) w h in
     let x = c .before .before .before .meet in
     let y : l .to + m .result ≤ mostBits = omega (arith, d .2, in-form (not (a .reading)) (l .rule .width) (d .0), m .ensures) in
@@ -132,7 +137,7 @@ loop-less c =
     let l = c .before .before .before .before .before .before .before .before .before .before .before .before .before .loop in
     let h : 0 < l .rule .width = omega (arith, c .before .before .before .before .before .before .before .before .before .before .before .if1 .taken) in
     let n = c .before .before .before .before .before .before .before .before .before .before .in-form in
-    let m = c .before .before .before .before .before .before .before .before .before .in-form2 in
+    let m = c .before .before .before .before .before .before .before .before .before .in-other-form in
     let d = ready (a .w) (a .reading) (a .down) (now (a .source)) (now (a .target)) (l .target) (l .place) (l .at) (l .to) (l .inv .0) (l .rule) (l .inv .1) w h in
     let x = c .before .before .before .before .before .before .before .before .meet in
     let y : l .to + m .result ≤ mostBits = omega (arith, d .2, in-form (not (a .reading)) (l .rule .width) (d .0), m .ensures) in
@@ -148,7 +153,7 @@ loop-again c =
     let l = c .before .before .before .before .before .before .before .before .before .before .before .before .before .loop in
     let h : 0 < l .rule .width = omega (arith, c .before .before .before .before .before .before .before .before .before .before .before .if1 .taken) in
     let n = c .before .before .before .before .before .before .before .before .before .before .in-form in
-    let m = c .before .before .before .before .before .before .before .before .before .in-form2 in
+    let m = c .before .before .before .before .before .before .before .before .before .in-other-form in
     let d = ready (a .w) (a .reading) (a .down) (now (a .source)) (now (a .target)) (l .target) (l .place) (l .at) (l .to) (l .inv .0) (l .rule) (l .inv .1) w h in
     let x = c .before .before .before .before .before .before .before .before .meet in
     let y : l .to + m .result ≤ mostBits = omega (arith, d .2, in-form (not (a .reading)) (l .rule .width) (d .0), m .ensures) in
@@ -202,7 +207,7 @@ pass-spec =
     rule-at-requires
     loop-holds
     in-form-requires
-    in-form-requires-2
+    in-other-form-requires
     add-meet
     meet-requires
     same-length
