@@ -108,8 +108,8 @@ fn merged(old: u64, o: usize, n: usize, v: u64) -> u64
     (old - (old & hole)) + (v << behind)
 }
 
-// The n bits of v at bit `at`, in the eight bytes from its byte on.
-fn put_wide(buf: &mut [u8], at: usize, n: usize, v: u64)
+// The n bits of v at bit `at`, in the eight bytes from its byte on, and zeros to the end of the byte that the last of them is in.
+pub fn put_wide(buf: &mut [u8], at: usize, n: usize, v: u64)
     requires { ⌜ (0 < n) × (n ≤ 56) × (v < 2 ^ n) × (at / 8 + 8 ≤ length (now buf)) ⌝ }
     ensures { λ _. ⌜ now (buf .exit) ≡ put (now (buf .entry)) at (toBits n v) ⌝ }
 {

@@ -47,8 +47,9 @@ pub record Meets (short : Bool) (n : ℕ) (rule : Rule) (source : List ℕ) (p :
       → (head short n (rule .least) (rule .most) (drop p (bitsOf source)) ≡ done (r .value) (drop (p + n) (bitsOf source)))
       × (r .value ≤ rule .most) × (p + n ≤ 8 * length source) × (short ≡ false)
 
--- A record is two whole bytes (FORMAT 12.2).
+-- A field has a bit at least; a record is two whole bytes (FORMAT 12.2).
 pub record Aligned (packed : Bool) (n p : ℕ) : Type 0 where
+  pub some : 0 < n
   pub wide : packed ≡ false → n ≡ 16
   pub even : packed ≡ false → p % 8 ≡ 0
 

@@ -115,6 +115,14 @@ module _ (short : Bool) (n : ℕ) (rule : Rule) (source : List ℕ) (p : ℕ) wh
 pub laid-up : (down : Bool) (buf : List ℕ) (p n v : ℕ) → down ≡ false → Penned down buf buf p (p + n) (toBits n v)
 laid-up down buf p n v d = record { next = ap (λ (i : ℕ). p + i) (sym (length-toBits n v)); holds = rw d refl }
 
+-- a field that is, in eight bytes
+pub laid-wide : (buf after : List ℕ) (p n v : ℕ) → after ≡ put buf p (toBits n v) → Penned true buf after p (p + n) (toBits n v)
+laid-wide buf after p n v w = record { next = ap (λ (i : ℕ). p + i) (sym (length-toBits n v)); holds = w }
+
+-- a field that is, where the pen is down
+pub laid-packed : {down : Bool} {buf after : List ℕ} {p q : ℕ} {bs : List Bool} → down ≡ true → Penned true buf after p q bs → Penned down buf after p q bs
+laid-packed {down} {buf} {after} {p} {q} {bs} d w = record { next = w .next; holds = rw d (w .holds) }
+
 -- a record that is
 pub laid-down : (down packed : Bool) (buf : List ℕ) (p n v : ℕ) → Aligned packed n p → packed ≡ false → (after : List ℕ) → down ≡ true
     → after ≡ put buf (8 * (p / 8)) (toBits 16 v) → Penned down buf after p (p + 16) (toBits n v)

@@ -4,7 +4,7 @@ use answers::Answer;
 use item_pen::Field;
 use schedule_fields::Place;
 use schedule_fields::Rule;
-ghost use mathlib.Core.Bool.{not};
+ghost use mathlib.Core.Bool.{true, not};
 ghost use mathlib.Core.Path.{_≡_};
 ghost use Prim.Native.Nat.{_+_, _*_, _^_, _≤_, _<_};
 ghost use lib.ListN.{length, drop};
@@ -129,6 +129,19 @@ fn put_record(target: &mut [u8], i: usize, v: u64)
     target[i + 1] = (v % 256) as u8;
 }
 
+// A field at bit `at`, in eight bytes at once where there are as many. The answer is the bit behind it.
+fn put_packed(target: &mut [u8], at: usize, f: Field) -> usize
+    requires { ⌜ Room true (now target) at (f .width) (f .value) ⌝ }
+    requires { ⌜ 0 < f .width ⌝ }
+    ensures { λ r. ⌜ Penned true (now (target .entry)) (now (target .exit)) at r (toBits (f .width) (f .value)) ⌝ }
+{
+    if at / 8 + 8 <= target.len() {
+        item_pen::put_wide(target, at, f.width, f.value);
+        return at + f.width;
+    }
+    item_pen::put(target, at, true, f.width, f.value)
+}
+
 // With the pen down a field goes to bit `at`, packed or as a record; with the pen up nothing is touched. The answer is the bit behind
 // it.
 fn lay(target: &mut [u8], at: usize, down: bool, packed: bool, f: Field) -> usize
@@ -140,7 +153,7 @@ fn lay(target: &mut [u8], at: usize, down: bool, packed: bool, f: Field) -> usiz
         return at + f.width;
     }
     if packed {
-        return item_pen::put(target, at, down, f.width, f.value);
+        return put_packed(target, at, f);
     }
     put_record(target, at / 8, f.value);
     at + RECORD

@@ -1,7 +1,7 @@
 use native.Mathlib.Omega.{arith}
 use denote.Ref.{now}
 use borrow.Author.Tests.{not-true, not-false}
-use Rattle.schedule_records.specs.TurningLaws.{laid-up, laid-down}
+use Rattle.schedule_records.specs.TurningLaws.{laid-up, laid-packed, laid-down}
 use borrow.Author.Needs.{needs}
 use Rattle.schedule_records.proofs.lay.Statement.{statement}
 use Rattle.schedule_records.proofs.lay.Tie as tie
@@ -14,14 +14,21 @@ returns c =
     let a = c .before .before .before .args in
     laid-up (a .down) (now (a .target)) (a .at) (a .f .width) (a .f .value) (not-true (a .down) (c .before .if1 .taken))
 
-put-requires : tie.Need-put-requires
-put-requires c κs = search needs
+put-packed-requires : tie.Need-put-packed-requires
+put-packed-requires c κs =
+    let a = c .before .before .before .before .args in
+    let r = c .before .before .before .before .pre in
+    let d = not-false (a .down) (c .before .before .if1 .left) in
+    (record { few = r .0 .few; most = r .0 .most; fits = λ _. r .0 .fits d; small = r .0 .small }, r .1 .some)
 
 same-length : tie.Need-same-length
 same-length c = search needs
 
 returns-2 : tie.Need-returns-2
-returns-2 c = search needs
+returns-2 c =
+    let a = c .before .before .before .before .before .before .before .args in
+    let d = not-false (a .down) (c .before .before .before .before .before .if1 .left) in
+    laid-packed d (c .before .before .put-packed .ensures)
 
 put-record-requires : tie.Need-put-record-requires
 put-record-requires c κs =
@@ -50,7 +57,7 @@ lay-spec =
     (tie.spec
     add-result
     returns
-    put-requires
+    put-packed-requires
     same-length
     returns-2
     put-record-requires

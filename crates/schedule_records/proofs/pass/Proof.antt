@@ -119,6 +119,7 @@ lay-requires c κs =
         small = omega (arith, y);
       },
       record {
+        some = omega (arith, i .0, m .ensures, h);
         wide = λ e. record-wide (a .w) (a .reading) (a .down) (now (a .source)) (now (a .target)) (l .target) (l .place) (l .at) (l .to) (l .inv .0) (l .rule) (l .inv .1) w h (n .result) (m .result) (n .ensures) (m .ensures) (x .result) r (not-false (a .reading) e);
         even = λ e. l .inv .0 .even (not-false (a .reading) e);
       },
