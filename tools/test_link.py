@@ -37,13 +37,14 @@ ARCHIVE = building.library(ROOT).path
 STRICT = ["-Wall", "-Wextra", "-Wpedantic", "-Werror"]
 LARGEST = 1 << 18  # above the longest schedule that was found
 PACKED = bytes.fromhex("06000200800080001090140802800010")
+PROGRAMS = ("schedule", "order", "batch", "show")  # of the archive
 EXPORTED = ["gidzelma_" + name for name in ("order", "read_schedule", "schedule", "write_schedule")]
 
 C_COMPILERS = [name for name in ("gcc", "clang") if shutil.which(name)]
 CXX_COMPILERS = [name for name in ("g++", "clang++") if shutil.which(name)]
 LINKED = building.at_hand(ROOT, building.library(ROOT)) and bool(C_COMPILERS)
 BUILT = LINKED and all(building.at_hand(ROOT, building.program(ROOT, name))
-                       for name in ("schedule", "order", "batch", "show"))
+                       for name in PROGRAMS)
 NOT_LINKED = "the library is not built, or older than its sources (rt staticlib exports), or cc is missing"
 NOT_BUILT = "the programs are not built, or older than their sources (rt check schedule order batch show)"
 NO_CARGO = "cargo is missing"
@@ -424,7 +425,7 @@ def copy_of_repository(folder):
     for name in ("crates.txt", "LICENSE", "NOTICE", "VERSION", "CHANGELOG.md", ".gitignore"):
         shutil.copy(os.path.join(ROOT, name), folder)
     for name in ("target/staticlib/libexports.a", *(f"target/{place}/{crate}" for place in ("bin", "stamp")
-                                                    for crate in ("schedule", "order", "batch"))):
+                                                    for crate in PROGRAMS)):
         os.makedirs(os.path.join(folder, os.path.dirname(name)), exist_ok=True)
         shutil.copy(os.path.join(ROOT, name), os.path.join(folder, name))
 
@@ -713,7 +714,7 @@ class Making(Folder):
         self.write("kit/runs", b"")
         status, _, error = ran(words, env=env)
         self.assertEqual((status, self.read("kit/runs").decode().splitlines()),
-                         (0, ["check schedule", "check order", "check batch", "staticlib exports", "version"]))
+                         (0, [*(f"check {name}" for name in PROGRAMS), "staticlib exports", "version"]))
         self.assertIn("dist: exports for the archive: rt proves what has changed\n", error)
         with tarfile.open(self.path("out", Archive.NAME + ".tar.gz")) as tar:
             page = tar.extractfile(Archive.NAME + "/PROVENANCE").read().decode()
