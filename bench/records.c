@@ -4,6 +4,8 @@
  *   records W FILE MILLISECONDS     repeats for so long
  *   records W FILE once             one repetition, for callgrind
  *
+ * A first call, in which the linker finds what it needs, is not counted.
+ *
  * Prints: the number, the size written, repetitions, the least nanoseconds.
  */
 #define _POSIX_C_SOURCE 199309L
@@ -39,8 +41,8 @@ int main(int count, char **words)
     given_len = fread(given, 1, sizeof given, file);
     fclose(file);
     long long budget = strcmp(words[3], "once") == 0 ? 0 : 1000000LL * atoi(words[3]);
+    uint32_t number = CALL(w, given, given_len, output, sizeof output, parts, GIDZELMA_PARTS_LEN);
     long long begin = now(), least = -1, times = 0;
-    uint32_t number;
     do {
         long long start = now();
         number = timed_call();
