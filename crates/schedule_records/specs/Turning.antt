@@ -87,7 +87,6 @@ pub record Going (W : ℕ) (reading down : Bool) (source lent now : List ℕ) (p
   pub long : q ≡ length bits
   pub wrote : now ≡ cond down (put lent 0 bits) lent
   pub even : reading ≡ true → q % 8 ≡ 0
-  pub read : p ≤ 8 * length source
   pub fits : q ≤ 8 * length lent
   pub fewRead : p + 16 * fieldsLeft place ≤ mostBits
   pub fewWritten : q + 16 * fieldsLeft place ≤ mostBits

@@ -183,7 +183,6 @@ module _ (W : ℕ) (reading down : Bool) (source lent : List ℕ) where
     long = refl;
     wrote = none-put down lent;
     even = λ _. refl;
-    read = omega arith;
     fits = omega arith;
     fewRead = omega arith;
     fewWritten = omega arith;
@@ -281,7 +280,6 @@ module _ (W : ℕ) (reading down : Bool) (source lent : List ℕ) where
                   ∙ ap₂ (λ (x : List ℕ) (i : ℕ). cond down (put x i (toBits k (met .value))) x) (g .wrote) (g .long)
                   ∙ more-put down lent (g .bits) (toBits k (met .value));
               even = λ y. omega (arith, g .even y, t, record-wide y);
-              read = v .2;
               fits = omega (arith, t, fits-in);
               fewRead = omega (arith, g .fewRead, l, a .1, en);
               fewWritten = omega (arith, g .fewWritten, l, b .1, ek, t);

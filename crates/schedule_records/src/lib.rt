@@ -1,12 +1,13 @@
 // The two calls that turn a packed schedule into records, and records into a packed schedule (FORMAT 12). Both are one loop over
 // the fields: first it looks, and where nothing is to be refused it goes again and writes.
 use answers::Answer;
+use bits::Cursor;
 use item_pen::Field;
 use schedule_fields::Place;
 use schedule_fields::Rule;
 ghost use mathlib.Core.Bool.{true, not};
 ghost use mathlib.Core.Path.{_≡_};
-ghost use Prim.Native.Nat.{_+_, _*_, _^_, _≤_, _<_};
+ghost use Prim.Native.Nat.{_+_, _*_, _≤_, _<_};
 ghost use lib.ListN.{length, drop};
 ghost use Rattle.definitions.specs.Bits.{toBits, bitsOf, num};
 ghost use Rattle.definitions.specs.Checks.{badFill};
@@ -159,20 +160,15 @@ fn lay(target: &mut [u8], at: usize, down: bool, packed: bool, f: Field) -> usiz
     at + RECORD
 }
 
-// Whether a byte or a set bit stands behind the last field (FORMAT 12.3).
+// Whether a byte or a set bit stands behind the last field (FORMAT 12.3). Where no byte does, the bits can be counted.
 fn is_bad_fill(source: &[u8], at: usize) -> bool
-    requires { ⌜ (at ≤ 8 * length (now source)) × (at + 7 < 2 ^ 64) ⌝ }
+    requires { ⌜ at ≤ mostBits ⌝ }
     ensures { λ r. ⌜ r ≡ badFill (drop at (bitsOf (now (source .entry)))) ⌝ }
 {
-    let bytes = (at + 7) / 8;
-    if bytes < source.len() {
+    if (at + 7) / 8 < source.len() {
         return true;
     }
-    let left = bytes * 8 - at;
-    if left == 0 {
-        return false;
-    }
-    0 < sheet_window::wide(source, at, left)
+    sheet::is_bad_fill(source, Cursor { at })
 }
 
 // All fields of a source in one form, into a target in the other: packed into records where `reading`, else records into packed.

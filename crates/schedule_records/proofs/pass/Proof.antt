@@ -163,11 +163,7 @@ loop-again c =
     (going-on (a .w) (a .reading) (a .down) (now (a .source)) (now (a .target)) (l .target) (l .place) (l .at) (l .to) (l .inv .0) (l .rule) (l .inv .1) w h (n .result) (m .result) (n .ensures) (m .ensures) (x .result) r z _ _ _ (c .before .before .before .before .lay .ensures) (c .before .next .ensures), c .rule-at2 .ensures, l .inv .2, l .inv .3)
 
 is-bad-fill-requires : tie.Need-is-bad-fill-requires Inv-loop μ-loop
-is-bad-fill-requires c κs =
-    let a = c .before .before .before .before .before .before .before .before .args in
-    let w = c .before .before .before .before .before .before .before .before .pre in
-    let l = c .before .before .loop in
-    (l .inv .0 .read, omega (arith, l .inv .0 .fewRead))
+is-bad-fill-requires c κs = omega (arith, c .before .before .loop .inv .0 .fewRead)
 
 same-length-2 : tie.Need-same-length-2 Inv-loop μ-loop
 same-length-2 c =
