@@ -1,4 +1,4 @@
--- Where the schedule call accepts, the items are the lines of the map.
+-- Where the schedule call accepts, the items are the lines of the map in their order.
 use mathlib.Core.Bool.{true}
 use mathlib.Core.List.{List, []}
 use mathlib.Core.Path.{_≡_, sym, ap, _∙_}
@@ -11,24 +11,13 @@ use Rattle.definitions.specs.Map.{typeMapOf}
 use Rattle.definitions.specs.Order.{hasOrder}
 use Rattle.definitions.specs.Relisted.{Holds}
 use Rattle.definitions.specs.Answer.{schedule, Input, Outcome, sheetOf, scheduleOf, synthesisRows, lateRefusals, readIn, typeMapIn, sheetRefusals, refusals, accept, firstRefusal, outcome}
-use Rattle.line_laws.specs.Refused.{accepted-is-tested}
-use Rattle.line_laws.specs.Lines.{items-are-lines}
-use Rattle.line_laws.specs.Once.{items-once}
-use Rattle.synthesis_laws.specs.Statements.{Ordered, MakesLines}
-use Rattle.synthesis_laws.specs.Rows.{rows-are-tested}
+use Rattle.synthesis_laws.specs.Rows.{items-listed}
 use Rattle.reading_laws.specs.Statements.{NoneHolds}
 use Rattle.reading_laws.specs.Refusals.{passed, none-front, all-pass}
 use Rattle.reading_laws.specs.Answers.{accepted-exactly, passed-is-held}
 use Rattle.answers.specs.declared.Answer.{Answer}
 use Rattle.answers.specs.Answers.{answerOf, Answered, scheduleInput}
 use Rattle.access.specs.Lines.{Lists, LinesListed}
-
--- no row: no type is refused, and each line stands once among the items
-items-listed : (s : Sheet) → Ordered s → null (synthesisRows schedule (typeMapOf s)) ≡ true → MakesLines s (scheduleOf schedule (typeMapOf s) .items)
-unfolding scheduleOf
-items-listed s o e =
-    let a = accepted-is-tested s (o .readable) .0 (rows-are-tested s o .0 (null-nil (synthesisRows schedule (typeMapOf s)) e)) in
-    record { lines = items-are-lines s (o .readable) a; once = items-once s (o .readable) a }
 
 module _ (s l d : List ℕ) (e : outcome (scheduleInput s l d) .answer .number ≡ 0) where
   abbrev i : Input
@@ -57,12 +46,13 @@ module _ (s l d : List ℕ) (e : outcome (scheduleInput s l d) .answer .number �
   accepts = all-pass i (refusals i) [] none
 
   pub accepted-lists : Lists s l (outcome i .listing)
-  unfolding accept typeMapIn
+  unfolding accept typeMapIn scheduleOf
   accepted-lists = record {
     s = t;
     holds = holds;
     written = ap (λ (o : Outcome). o .listing) accepts;
-    lines = items-listed t (record { readable = record { words = holds .words; once = holds .once }; order = has-order }) no-rows;
+    items = items-listed t (record { readable = record { words = holds .words; once = holds .once }; order = has-order })
+        (null-nil (synthesisRows schedule (typeMapOf t)) no-rows);
   }
 
 -- so what a call promises has this too

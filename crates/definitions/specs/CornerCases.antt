@@ -1430,6 +1430,112 @@ ownSorted-schedule-comes-out : ComesOut ownSorted-schedule
 unfolding run
 ownSorted-schedule-comes-out = refl
 
+-- equal parents: the own resource goes before the inherited one, which the parents do not tell
+--     resource p.f
+--     resource q.f
+--       mark makelist
+--     domain p
+--       nest q.f
+--     domain t : p
+--       associate p.f
+--   => T p; T p.f; T q.f; T t; R t.f 0 p.f,resource -; R t.f 0 p.f,resource makelist; E t 00 f
+abbrev ownBeforeInherited : List ℕ
+ownBeforeInherited = hex 45 0x1060b305c02e287265736f75726365239b2b63305d0200c0100001401000804002840204014020212201010000
+
+abbrev ownBeforeInherited-schedule : Case
+ownBeforeInherited-schedule = accepts ownBeforeInherited schedule 30 1536 28 0x0802018001400140006050005008020600028002804010300a0a0000
+
+ownBeforeInherited-schedule-comes-out : ComesOut ownBeforeInherited-schedule
+unfolding run
+ownBeforeInherited-schedule-comes-out = refl
+
+-- two words, two doms and an inherited word in one type
+--     resource f
+--     resource d.f
+--     resource g
+--     resource z.g
+--     resource h
+--     domain p
+--       associate h g
+--     domain t : p
+--       associate f
+--       associate z.g d.f
+--   => T d.f; T f; T g; T h; … 14 lines; E t 00 h
+abbrev wordsAndDoms : List ℕ
+wordsAndDoms = hex 63 0x1090b205982ce1680b821c995cdbdd5c98d948e6cad8cc1740bd070120000080a00002200008812000032000040009203010038041044404480a1003000000
+
+abbrev wordsAndDoms-schedule : Case
+wordsAndDoms-schedule = accepts wordsAndDoms schedule 78 1536 76 0x0e0101010100c080881038003008020902414010400404018481a0a008200303804280005050001c021202828020e0040e020a080241400070105020120a00838020380c28100d050041c018
+
+wordsAndDoms-schedule-comes-out : ComesOut wordsAndDoms-schedule
+unfolding run
+wordsAndDoms-schedule-comes-out = refl
+
+-- as many own resources of one word as there can be, by ascending class name
+--     resource f
+--     resource a.f
+--     resource wa
+--     resource b.f
+--     resource wb
+--     resource c.f
+--     resource wc
+--     resource d.f
+--     resource wd
+--     resource e.f
+--     resource we
+--     resource g.f
+--     resource wg
+--     resource h.f
+--     resource wh
+--     resource i.f
+--     resource wi
+--     resource j.f
+--     resource wj
+--     resource k.f
+--     resource wk
+--     resource l.f
+--     resource wl
+--     domain t
+--       associate f
+--       associate l.f wl
+--       associate k.f wk
+--       associate j.f wj
+--       associate i.f wi
+--       associate h.f wh
+--       associate g.f wg
+--       associate e.f we
+--       associate d.f wd
+--       associate c.f wc
+--       associate b.f wb
+--       associate a.f wa
+--   => T a.f; T b.f; T c.f; T d.f; … 54 lines; E t 00 wl
+abbrev twelveOwn : List ℕ
+twelveOwn = hex 197 0x11a0b085882c61640b285982ce1680b485a82d616c43932b9b7bab931b291cd95b1982e82776113bb109dd8c4eec82776513bb389dda04eed22776a13bb589ddb0c0290000041500007900000c150000810000141500008900001c1500009100002415000099000034150000a100003c150000a9000044150000b100004c150000b9000054150000c100005c150000c90000700308828902c2c6448161430240b09171205840b0902c1c5448160c28240b0413120581890902c084448160220240b000f000
+
+abbrev twelveOwn-schedule : Case
+twelveOwn-schedule = accepts twelveOwn schedule 237 1536 235 0x3001050182814140e0a090505034141e0a11050982854142e0a1c0f0804424130a0542c170c06400460e02850002a1800070142804150c000380a14040a860001c050a0305430000e02850202a18000701424150c000380a140c0a860001c050a0705430000e02850402a1800070142824150c000380a14140a860001c050a0b05430010e00a0e078487a18008700f0704024410c0043808038221222860021c0441c120912430010e0240e098489a1800870130705024510c004380a0382a122a860021c0541c160916430010e02c0e0b848ba1800870170706024610c004380c038321232860021c0640
+
+twelveOwn-schedule-comes-out : ComesOut twelveOwn-schedule
+unfolding run
+twelveOwn-schedule-comes-out = refl
+
+-- items go by the names of the types, which is not the order of the types
+--     resource f
+--     domain a : c
+--     domain b : a
+--     domain c
+--       associate f
+--   => T c; T f; T a; T b; R a.f 0 c.f,resource -; E a 00 f; R b.f 0 a.f,resource -; E b 00 f; R c.f 0 f,resource -; E c 00 f
+abbrev itemsByName : List ℕ
+itemsByName = hex 40 0x1060b085882c616643932b9b7bab931b291cd95b1982019000000040800040200000400122060000
+
+abbrev itemsByName-schedule : Case
+itemsByName-schedule = accepts itemsByName schedule 39 1536 37 0x08040300004000c0001850101a0800800030080c28000d040040401808061206820020400c
+
+itemsByName-schedule-comes-out : ComesOut itemsByName-schedule
+unfolding run
+itemsByName-schedule-comes-out = refl
+
 -- virtual: the type and all its classes
 --     resource f virtual
 --     resource g
@@ -1910,8 +2016,9 @@ cases =
     ∷ nextRound-order ∷ oneWordFirst-order ∷ longestChain-order ∷ selfTwice-order ∷ selfWaiting-order ∷ selfDeclared-order ∷
     selfReplaced-order ∷ selfInTwoWords-order ∷ firstBadParent-order ∷ repeatedParent-order ∷ throughPath-order ∷
     placedParent-order ∷ rows256-schedule ∷ rows256-order ∷ rows257-schedule ∷ rows257-order ∷ twoDoms-schedule ∷
-    farDoms-schedule ∷ unitedDoms-schedule ∷ ownDoms-schedule ∷ directParents-schedule ∷ ownSorted-schedule ∷ virtual-schedule
-    ∷ repeatedMarks-schedule ∷ otherKinds-schedule ∷ extensions-schedule ∷ threeWords-schedule ∷ ownClass-schedule ∷
+    farDoms-schedule ∷ unitedDoms-schedule ∷ ownDoms-schedule ∷ directParents-schedule ∷ ownSorted-schedule ∷
+    ownBeforeInherited-schedule ∷ wordsAndDoms-schedule ∷ twelveOwn-schedule ∷ itemsByName-schedule ∷ virtual-schedule ∷
+    repeatedMarks-schedule ∷ otherKinds-schedule ∷ extensions-schedule ∷ threeWords-schedule ∷ ownClass-schedule ∷
     nestAlone-schedule ∷ nestUnknown-schedule ∷ nestAndOwn-schedule ∷ failedParent-schedule ∷ listedAgain-schedule ∷
     failsThrough-schedule ∷ rowUnrefused-schedule ∷ unknownEnds-schedule ∷ after5-schedule ∷ after5Unknown-schedule ∷
     after6Unknown-schedule ∷ not6Where5-schedule ∷ firstNoResource-schedule ∷ otherVariant-schedule ∷ wordLists-schedule ∷
@@ -1951,13 +2058,14 @@ hold =
     throughPath-order-comes-out also placedParent-order-comes-out also rows256-schedule-comes-out also rows256-order-comes-out
     also rows257-schedule-comes-out also rows257-order-comes-out also twoDoms-schedule-comes-out also
     farDoms-schedule-comes-out also unitedDoms-schedule-comes-out also ownDoms-schedule-comes-out also
-    directParents-schedule-comes-out also ownSorted-schedule-comes-out also virtual-schedule-comes-out also
-    repeatedMarks-schedule-comes-out also otherKinds-schedule-comes-out also extensions-schedule-comes-out also
-    threeWords-schedule-comes-out also ownClass-schedule-comes-out also nestAlone-schedule-comes-out also
-    nestUnknown-schedule-comes-out also nestAndOwn-schedule-comes-out also failedParent-schedule-comes-out also
-    listedAgain-schedule-comes-out also failsThrough-schedule-comes-out also rowUnrefused-schedule-comes-out also
-    unknownEnds-schedule-comes-out also after5-schedule-comes-out also after5Unknown-schedule-comes-out also
-    after6Unknown-schedule-comes-out also not6Where5-schedule-comes-out also firstNoResource-schedule-comes-out also
-    otherVariant-schedule-comes-out also wordLists-schedule-comes-out also dedupOrder-schedule-comes-out also
-    dedupTurned-schedule-comes-out also identicalOwn-schedule-comes-out also identicalAbove-schedule-comes-out also
-    marksDiffer-schedule-comes-out also declaredName-schedule-comes-out also tt
+    directParents-schedule-comes-out also ownSorted-schedule-comes-out also ownBeforeInherited-schedule-comes-out also
+    wordsAndDoms-schedule-comes-out also twelveOwn-schedule-comes-out also itemsByName-schedule-comes-out also
+    virtual-schedule-comes-out also repeatedMarks-schedule-comes-out also otherKinds-schedule-comes-out also
+    extensions-schedule-comes-out also threeWords-schedule-comes-out also ownClass-schedule-comes-out also
+    nestAlone-schedule-comes-out also nestUnknown-schedule-comes-out also nestAndOwn-schedule-comes-out also
+    failedParent-schedule-comes-out also listedAgain-schedule-comes-out also failsThrough-schedule-comes-out also
+    rowUnrefused-schedule-comes-out also unknownEnds-schedule-comes-out also after5-schedule-comes-out also
+    after5Unknown-schedule-comes-out also after6Unknown-schedule-comes-out also not6Where5-schedule-comes-out also
+    firstNoResource-schedule-comes-out also otherVariant-schedule-comes-out also wordLists-schedule-comes-out also
+    dedupOrder-schedule-comes-out also dedupTurned-schedule-comes-out also identicalOwn-schedule-comes-out also
+    identicalAbove-schedule-comes-out also marksDiffer-schedule-comes-out also declaredName-schedule-comes-out also tt

@@ -19,6 +19,7 @@ pub mod LegalSchedule
 pub mod Encoding
 pub mod Ancestry
 pub mod Lines
+pub mod ItemOrder
 pub mod Relisted
 pub mod ScheduleFields
 pub mod Conversion
@@ -27,3 +28,4 @@ pub mod Cases
 pub mod DocumentCases
 pub mod CornerCases
 pub mod ConversionCases
+pub mod ItemOrderCases

@@ -21,12 +21,13 @@ use Rattle.definitions.specs.Map.{LineType, LineMap, lineTypeOf}
 use Rattle.definitions.specs.Making.{declared, extensionParents, isResourceVariant, isResource, sameMark, extensionLine, sameItem}
 use Rattle.definitions.specs.Items.{owned, given, ofWord, ancestors, ownClasses, wordsMade, itemsAt, itemsFor}
 use Rattle.definitions.specs.Ancestry.{Parent, Ancestor, direct, further}
+use Rattle.definitions.specs.ItemOrder.{parentsIn}
 use Rattle.laws.specs.Comparisons.{same-name, name-same, look-up-is}
 use Rattle.line_laws.specs.Statements.{Readable, lineMap, DeclaredFor, classesOf, isRefused, anyRefused}
 use Rattle.line_laws.specs.Declarations.{type-in, type-of, name-is, inherits-in, declared-one, declared-some, declarations-distinct, one-declaration}
 use Rattle.line_laws.specs.Ancestors.{parents-above, ancestor-of}
 use Rattle.line_laws.specs.Associating.{word-is, classes-are}
-use Rattle.line_laws.specs.Once.{isMade, parentsIn, line-not, at-key, owned-apart}
+use Rattle.line_laws.specs.Once.{isMade, line-not, at-key, owned-apart}
 use Rattle.line_laws.specs.Identical.{identical-is-twice}
 use Rattle.line_laws.specs.SameItem.{same-item, item-same, once-tested, tested-once}
 use Rattle.line_laws.specs.Within.{Within}

@@ -45,7 +45,7 @@ ours-is-read i q e =
       s = l .s;
       holds = l .holds;
       names = l .names;
-      lines = l .lines;
+      items = l .items;
       read = λ lent h. reads-records _ _ lent _ (record { legal = b .legal; packed = b .packed; room = h });
       written = λ lent h.
           writes-schedule _ _ lent _ (record { legal = b .legal; recorded = refl; room = subst (λ p. length p ≤ length lent) (b .packed) h })

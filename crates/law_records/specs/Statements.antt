@@ -18,7 +18,7 @@ use Rattle.definitions.specs.Answer.{schedule, Input, overwrite, scheduleOf, ou
 use Rattle.definitions.specs.ScheduleFields.{Fields, field, Form, packed, recorded, unwritten, scheduleFields, writeFields}
 use Rattle.definitions.specs.Conversion.{Converted, convert, readSchedule, writeSchedule}
 use Rattle.definitions.specs.Values.{scheduleValues, recordsOf}
-use Rattle.synthesis_laws.specs.Statements.{MakesLines}
+use Rattle.synthesis_laws.specs.Statements.{ListsLines}
 use Rattle.reading_laws.specs.Statements.{Bytes}
 use Rattle.schedule_laws.specs.Statements.{bytesWritten, NamesInOrder}
 
@@ -228,13 +228,13 @@ abbrev pub scheduleIn : Sheet → Schedule
 scheduleIn s = scheduleOf schedule (typeMapOf s)
 
 -- What the schedule call has listed is read back, W being the number of the sheet's words: the records are those of the sheet's
--- schedule, whose names are in order and whose items are the lines of the map, each once; and these records are written back to
--- the bytes listed.
+-- schedule, whose names are in order and whose items are the lines of the map, each once and in their order; and these records
+-- are written back to the bytes listed.
 pub record ReadBack (i : Input) : Type 0 where
   pub s : Sheet
   pub holds : Holds (i .sheet) s
   pub names : NamesInOrder s (scheduleIn s .order)
-  pub lines : MakesLines s (scheduleIn s .items)
+  pub items : ListsLines s (scheduleIn s .items)
   pub read : (lent : List ℕ) → length (recordsOf (scheduleIn s)) ≤ length lent →
       readSchedule (length (s .words)) (bytesWritten i) lent ≡ gives (recordsOf (scheduleIn s)) lent
   pub written : (lent : List ℕ) → length (bytesWritten i) ≤ length lent →

@@ -17,6 +17,7 @@ use Rattle.definitions.specs.Making.{sameItem}
 use Rattle.definitions.specs.Items.{parentsOf, ancestors, domsAbove, itemsOf, itemsFor}
 use Rattle.definitions.specs.Ancestry.{Ancestor, direct, further}
 use Rattle.definitions.specs.Lines.{Making, LineOf, Refused}
+use Rattle.definitions.specs.ItemOrder.{parentsIn, ItemBefore, InOrder}
 use Rattle.definitions.specs.Relisted.{end, and, Relisted}
 use Rattle.definitions.specs.Bits.{bitsOf}
 use Rattle.definitions.specs.Parse.{done}
@@ -29,17 +30,18 @@ use Rattle.line_laws.specs.Statements.{Readable, lineMap, Accepted, Decl
 use Rattle.line_laws.specs.Ancestors.{ancestors-are}
 use Rattle.line_laws.specs.Unroll.{doms-unroll}
 use Rattle.line_laws.specs.Lines.{accepted-declared, items-are-lines, own-making-of}
-use Rattle.line_laws.specs.Once.{parentsIn, isMade, items-once}
+use Rattle.line_laws.specs.Once.{isMade, items-once}
 use Rattle.line_laws.specs.SameItem.{once-tested}
 use Rattle.line_laws.specs.Identical.{identical-is-twice}
 use Rattle.line_laws.specs.Refused.{refused-is-tested, accepted-is-tested, all-declared}
+use Rattle.line_laws.specs.InOrder.{not-both-ways, items-in-order}
 use Rattle.line_laws.specs.Within.{Within, CountsWithin, ItemWithin}
 use Rattle.line_laws.specs.Reading.{read-is-within}
 use Rattle.line_laws.specs.Bounds.{items-at-most}
 use Rattle.line_laws.specs.Counts.{counts-are}
 use Rattle.line_laws.specs.Fields.{items-within}
 use Rattle.line_laws.specs.Size.{schedule-at-most}
-use Rattle.line_laws.specs.Relisting.{relisted-items, relisted-accepted, relisted-lines}
+use Rattle.line_laws.specs.Relisting.{relisted-items, relisted-accepted, relisted-lines, relisted-in-order}
 
 -- ---- sheets
 
@@ -150,6 +152,82 @@ c-none-identical p q x n h k = family-accepted typeC (List·Memᴰ·head refl) (
 c-once : Distinct (itemsFor (lineMap family) (lineTypeOf typeC) (ancestors (lineMap family) (lineTypeOf typeC)))
 c-once = identical-is-twice family family-readable typeC (accepted-declared family family-readable family-accepted typeC (List·Memᴰ·head refl)) .0 c-none-identical
 
+-- ---- the order of the items
+
+-- `a` nests `c.file`, which has a mark, and `b` under `a` associates `a.file`: both `b.file` have the parents `a.file`,
+-- `resource` and `a`, which the extension record adds
+abbrev trapA : TypeInfo
+trapA = domainType 0 [] (nestAssociate (file (2 ∷ []) ∷ []) ∷ [])
+
+abbrev trapB : TypeInfo
+trapB = domainType 1 (a ∷ []) (associate (file a ∷ []) ∷ [])
+
+abbrev trap : Sheet
+trap = sheetOf (trapB ∷ trapA ∷ resourceType (0 ∷ 3 ∷ []) [] ∷ resourceType (2 ∷ 3 ∷ []) (makelistMark ∷ []) ∷ [])
+
+trap-readable : Readable trap
+unfolding run
+trap-readable = record { words = refl; once = refl }
+
+trap-accepted : Accepted trap
+unfolding run anyRefused isRefused
+trap-accepted = accepted-is-tested trap trap-readable .0 refl
+
+abbrev trapOwn : Item
+trapOwn = synthesized b 3 false ((0 ∷ 3 ∷ []) ∷ (4 ∷ []) ∷ a ∷ []) []
+
+abbrev trapInherited : Item
+trapInherited = synthesized b 3 false ((0 ∷ 3 ∷ []) ∷ (4 ∷ []) ∷ a ∷ []) (makelistMark ∷ [])
+
+abbrev trapLine : Item
+trapLine = extension b false false 3
+
+trap-items : itemsOf (lineMap trap) ≡ trapOwn ∷ trapInherited ∷ trapLine ∷ []
+unfolding run
+trap-items = refl
+
+trap-in-order : InOrder trap (trapOwn ∷ trapInherited ∷ trapLine ∷ [])
+trap-in-order = subst (InOrder trap) trap-items (items-in-order trap trap-readable trap-accepted .ordered)
+
+-- the own one goes first, though its parents are those of the inherited one
+own-first : ItemBefore trap trapOwn trapInherited
+own-first = trap-in-order .sorted .0 trapInherited (List·Memᴰ·head refl)
+
+equal-parents : parentsIn trapOwn ≡ parentsIn trapInherited
+equal-parents = refl
+
+inherited-not-first : ItemBefore trap trapInherited trapOwn → ⊥
+inherited-not-first h = not-both-ways trap trap-readable trap-accepted trapInherited trapOwn h own-first
+
+-- so the two exchanged are not in order
+turned-not : InOrder trap (trapInherited ∷ trapOwn ∷ trapLine ∷ []) → ⊥
+turned-not h = inherited-not-first (h .sorted .0 trapOwn (List·Memᴰ·head refl))
+
+-- `a` associates `file` and, apart from it, `c.file`: by name `c.file` goes before `file`, by dom behind it
+abbrev twoClasses : TypeInfo
+twoClasses = domainType 0 [] (associate (file [] ∷ []) ∷ associate (file (2 ∷ []) ∷ record { word = 1; dom = [] } ∷ []) ∷ [])
+
+abbrev classes : Sheet
+classes = sheetOf (twoClasses ∷ typeFile ∷ resourceType (2 ∷ 3 ∷ []) [] ∷ resourceType b [] ∷ [])
+
+classes-readable : Readable classes
+unfolding run
+classes-readable = record { words = refl; once = refl }
+
+classes-accepted : Accepted classes
+unfolding run anyRefused isRefused
+classes-accepted = accepted-is-tested classes classes-readable .0 refl
+
+classes-sorted : InOrder classes
+    (synthesized a 1 false (b ∷ (4 ∷ []) ∷ []) []
+    ∷ extension a false false 1
+    ∷ synthesized a 3 false ((2 ∷ 3 ∷ []) ∷ (4 ∷ []) ∷ []) []
+    ∷ synthesized a 3 false ((3 ∷ []) ∷ (4 ∷ []) ∷ []) (makelistMark ∷ [])
+    ∷ extension a false false 3
+    ∷ [])
+unfolding run
+classes-sorted = items-in-order classes classes-readable classes-accepted .ordered
+
 -- ---- bounds
 
 -- the sheet as bytes
@@ -207,6 +285,9 @@ shuffled-accepted = relisted-accepted family shuffled family-readable shuffled-r
 
 shuffled-line : (x : Item) → LineOf family x ↔ LineOf shuffled x
 shuffled-line = relisted-lines family shuffled family-readable shuffled-readable family-shuffled family-accepted
+
+shuffled-in-order : (l : List Item) → InOrder family l ↔ InOrder shuffled l
+shuffled-in-order = relisted-in-order family shuffled family-readable shuffled-readable family-shuffled family-accepted
 
 -- ---- refused types
 

@@ -15,13 +15,14 @@ use Rattle.definitions.specs.Map.{LineType, LineMap, lineTypeOf}
 use Rattle.definitions.specs.Making.{extensionLine, sameItem}
 use Rattle.definitions.specs.Items.{associateOf, owned, ofWord, hasWord, associateWord, ownResource, ownClasses, inheritedResource, wordsMade, itemsAt, itemsFor}
 use Rattle.definitions.specs.Lines.{OwnResource, HasMaking, OwnMaking, InheritedMaking, Source, Making, ClassOf}
+use Rattle.definitions.specs.ItemOrder.{wordOf}
 use Rattle.lists.specs.Members.{filter-none, at-sorted, map-sorted, sorted-left, each-sorted, each-sorted-in, Between}
 use Rattle.lists.specs.Places.{one-at}
 use Rattle.lists.specs.Strict.{which}
 use Rattle.line_laws.specs.Statements.{Readable, lineMap, NoneIdentical, DeclaredFor, IdenticalIsTwice}
 use Rattle.line_laws.specs.Associating.{word-is, word-of, owned-of, owned-in, above, made-is}
 use Rattle.line_laws.specs.Lines.{own-making-of, own-making-in, own-classes-are, inherited-making-is, class-above}
-use Rattle.line_laws.specs.Once.{own-word, own-class, inherited-word, wordOf, for-once, SameResource}
+use Rattle.line_laws.specs.Once.{own-word, own-class, inherited-word, for-once, SameResource}
 use Rattle.line_laws.specs.SameItem.{same-item, item-same}
 
 resources-of : {rs rs′ : List Resource} → associate rs ≡ associate rs′ → rs ≡ rs′
@@ -173,20 +174,20 @@ inheritedMade m T As r = (Source.inherited r, inheritedResource m T As r)
 madeOf : LineMap → LineType → List LineType → List Made
 madeOf m T As = each (ownMade m T) (places (T .annotations)) ++ map (inheritedMade m T As) (filter (associateWord As) (wordsMade T As))
 
-sameSource : Source → Source → Bool
+pub sameSource : Source → Source → Bool
 sameSource (Source.own i j) (Source.own k l) = eqb i k && eqb j l
 sameSource (Source.own i j) (Source.inherited r) = false
 sameSource (Source.inherited r) (Source.own k l) = false
 sameSource (Source.inherited r) (Source.inherited q) = eqb r q
 
-same-source : (a b : Source) → sameSource a b ≡ true → a ≡ b
+pub same-source : (a b : Source) → sameSource a b ≡ true → a ≡ b
 unfolding sameSource
 same-source (Source.own i j) (Source.own k l) e = ap₂ Source.own (eqb-true i k (and-left (eqb i k) (eqb j l) e)) (eqb-true j l (and-right (eqb i k) (eqb j l) e))
 same-source (Source.own i j) (Source.inherited r) e = never e refl
 same-source (Source.inherited r) (Source.own k l) e = never e refl
 same-source (Source.inherited r) (Source.inherited q) e = ap Source.inherited (eqb-true r q e)
 
-source-self : (a : Source) → sameSource a a ≡ true
+pub source-self : (a : Source) → sameSource a a ≡ true
 unfolding sameSource
 source-self (Source.own i j) = and-both (eq-eqb i i refl) (eq-eqb j j refl)
 source-self (Source.inherited r) = eq-eqb r r refl

@@ -10,6 +10,7 @@ pub mod Once
 pub mod SameItem
 pub mod Identical
 pub mod Refused
+pub mod InOrder
 pub mod Relisting
 pub mod Bounds
 pub mod Counts

@@ -109,34 +109,44 @@ module _ (s : Sheet) (ok : Readable s) (T : TypeInfo) where
 
   -- ---- the items at a word
 
-  abbrev owns : ℕ → List Item
+  abbrev pub owns : ℕ → List Item
   owns r = map (ownResource (lineMap s) (lineTypeOf T) r) (ownClasses (lineTypeOf T) r)
 
-  abbrev inherits : ℕ → List Item
+  abbrev pub inherits : ℕ → List Item
   inherits r = map (inheritedResource (lineMap s) (lineTypeOf T) (above s ok T)) (filter (associateWord (above s ok T)) (r ∷ []))
+
+  -- what each part of them is made from, where every class of T is declared
+  module _ (d : (c : Name) → ClassOf s T c → Declared s c) (r : ℕ) {x : Item} where
+    pub own-of : In x (owns r) → (i j : ℕ) × OwnMaking s T i j x
+    own-of k =
+        let y = Memᴰ·of-map (ownResource (lineMap s) (lineTypeOf T) r) (ownClasses (lineTypeOf T) r) k in
+        let c = own-classes-are r (y .0) .0 (y .1) in
+        let u = c .0 in
+        let o = owned-of T (c .1) in
+        let e : x ≡ ownResource (lineMap s) (lineTypeOf T) (u .word) (dotted (u .dom) (u .word)) =
+        sym (y .2) ∙ ap (ownResource (lineMap s) (lineTypeOf T) r) (sym (c .3)) ∙ ap (λ w. ownResource (lineMap s) (lineTypeOf T) w (dotted (u .dom) w)) (sym (c .2)) in
+        (o .0, o .1, own-making-in u (o .2) (d (dotted (u .dom) (u .word)) (ClassOf.own (o .0) (o .1) u (o .2) refl)) e)
+
+    pub inherited-of : In x (inherits r) → (q : ℕ) × InheritedMaking s T q x
+    inherited-of k =
+        let y = Memᴰ·of-map (inheritedResource (lineMap s) (lineTypeOf T) (above s ok T)) (filter (associateWord (above s ok T)) (r ∷ [])) k in
+        let z = filter-of (associateWord (above s ok T)) (r ∷ []) (y .1) in
+        (y .0, inherited-making-is (y .0) x .1 (z .1, λ c i. d c (class-above (y .0) i), sym (y .2)))
+
+  pub line-of : (r : ℕ) → HasMaking s T r → {x : Item} → In x (extensionLine (lineTypeOf T) r ∷ []) → ExtensionLine s T x
+  unfolding extensionLine lineTypeOf
+  line-of r w k = record { word = r; made = w; item = List·Memᴰ·eq-of-singleton k }
 
   at-line : In T (s .types) → ((c : Name) → ClassOf s T c → Declared s c) → (r : ℕ) → HasMaking s T r → {x : Item}
       → In x (itemsAt (lineMap s) (lineTypeOf T) (above s ok T) r) → LineOf s x
-  unfolding itemsAt extensionLine lineTypeOf
+  unfolding itemsAt
   at-line t d r w {x} h =
       ⊎-elim
-      (λ j.
-      let y = Memᴰ·of-map (ownResource (lineMap s) (lineTypeOf T) r) (ownClasses (lineTypeOf T) r) j in
-      let c = own-classes-are r (y .0) .0 (y .1) in
-      let u = c .0 in
-      let o = owned-of T (c .1) in
-      let e : x ≡ ownResource (lineMap s) (lineTypeOf T) (u .word) (dotted (u .dom) (u .word)) =
-      sym (y .2) ∙ ap (ownResource (lineMap s) (lineTypeOf T) r) (sym (c .3)) ∙ ap (λ w. ownResource (lineMap s) (lineTypeOf T) w (dotted (u .dom) w)) (sym (c .2)) in
-      LineOf.resource T (Source.own (o .0) (o .1)) t
-      (Making.own (o .0) (o .1) refl (own-making-in u (o .2) (d (dotted (u .dom) (u .word)) (ClassOf.own (o .0) (o .1) u (o .2) refl)) e)))
+      (λ j. let o = own-of d r j in LineOf.resource T (Source.own (o .0) (o .1)) t (Making.own (o .0) (o .1) refl (o .2)))
       (λ j.
       ⊎-elim
-      (λ k.
-      let y = Memᴰ·of-map (inheritedResource (lineMap s) (lineTypeOf T) (above s ok T)) (filter (associateWord (above s ok T)) (r ∷ [])) k in
-      let z = filter-of (associateWord (above s ok T)) (r ∷ []) (y .1) in
-      LineOf.resource T (Source.inherited (y .0)) t
-      (Making.inherited (y .0) refl (inherited-making-is (y .0) x .1 (z .1, λ c i. d c (class-above (y .0) i), sym (y .2)))))
-      (λ k. LineOf.line T t (record { word = r; made = w; item = List·Memᴰ·eq-of-singleton k }))
+      (λ k. let o = inherited-of d r k in LineOf.resource T (Source.inherited (o .0)) t (Making.inherited (o .0) refl (o .1)))
+      (λ k. LineOf.line T t (line-of r w k))
       (List·Memᴰ·append-cases (inherits r) j))
       (List·Memᴰ·append-cases (owns r) h)
 

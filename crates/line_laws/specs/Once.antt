@@ -9,15 +9,17 @@ use borrow.Author.Tests.{ltb-true}
 use lib.Dec.{eqb}
 use Rattle.lists.specs.Lists.{In, At, Sorted, filter, each}
 use Rattle.lists.specs.Tests.{never, filter-of, each-of}
-use Rattle.lists.specs.Sorting.{Distinct, sorted-append, sorted-filter, sorted-imp, perm-sorted, sort-perm, set-sorted}
+use Rattle.lists.specs.Sorting.{Distinct, Ascending, sorted-append, sorted-filter, sorted-imp, sort-sorted, set-sorted}
 use Rattle.definitions.specs.Records.{Name, Resource, makeList, associate, nestAssociate, alias, inherit, derive, noDerive, Annotation, TypeInfo, Sheet, Item, synthesized, extension}
 use Rattle.definitions.specs.Comparisons.{nameBefore, dotted}
 use Rattle.definitions.specs.Map.{LineType, LineMap, lineTypeOf}
 use Rattle.definitions.specs.Making.{createSyntheticResource, extensionLine}
 use Rattle.definitions.specs.Items.{associateOf, owned, given, ofWord, associateWord, ancestors, ownResource, ownClasses, inheritedResource, wordsMade, itemsAt, itemsFor, itemsOf}
 use Rattle.definitions.specs.Lines.{OwnResource, Source, Making, ClassOf, Refused}
+use Rattle.definitions.specs.ItemOrder.{typeOf, wordOf, parentsIn}
 use Rattle.lists.specs.Members.{sorted-at, sorted-map, sorted-each, in-at, distinct-each, distinct-map}
 use Rattle.lists.specs.Strict.{number-strict}
+use Rattle.laws.specs.Comparisons.{name-strict}
 use Rattle.line_laws.specs.Statements.{Readable, lineMap, NoneIdentical, DeclaredFor, ItemsOnce}
 use Rattle.line_laws.specs.Declarations.{declarations-distinct, type-of, one-declaration}
 use Rattle.line_laws.specs.Associating.{own-at, owned-of, above, word-is}
@@ -25,21 +27,9 @@ use Rattle.line_laws.specs.Lines.{accepted-declared, own-making-in, own-
 
 -- ---- the parts of an item
 
-abbrev pub typeOf : Item → Name
-typeOf (synthesized n r v ps ms) = n
-typeOf (extension n v t r) = n
-
-abbrev pub wordOf : Item → ℕ
-wordOf (synthesized n r v ps ms) = r
-wordOf (extension n v t r) = r
-
 abbrev pub isMade : Item → Bool
 isMade (synthesized n r v ps ms) = true
 isMade (extension n v t r) = false
-
-abbrev pub parentsIn : Item → List Name
-parentsIn (synthesized n r v ps ms) = ps
-parentsIn (extension n v t r) = []
 
 module _ (m : LineMap) (T : LineType) where
   pub own-word : (r : ℕ) (c : Name) → wordOf (ownResource m T r c) ≡ r
@@ -155,16 +145,20 @@ module _ (s : Sheet) (ok : Readable s) (T : TypeInfo) (d : DeclaredFor s T) wher
         let y = own-at b q iw in
         apart-at (x .1) (y .1) (λ e. let f : i ≡ k = ap firstPlace e in omega arith)))
 
-    classes-once : (r : ℕ) → Distinct (ownClasses (lineTypeOf T) r)
+    -- the own classes of a word ascend by name, each once
+    pub classes-ascend : (r : ℕ) → Ascending nameBefore (ownClasses (lineTypeOf T) r)
     unfolding ownClasses
-    classes-once r =
+    classes-ascend r =
         let us = owned (lineTypeOf T) in
         let f : Resource → Name = λ u. dotted (u .dom) r in
-        perm-sorted (λ a b. a ≡ b → ⊥) (λ a b h e. h (sym e)) (sort-perm nameBefore (map f (ofWord r us)))
+        sort-sorted name-strict (λ (c : Name). c) (map f (ofWord r us))
         (sorted-map (λ a b. a ≡ b → ⊥) f (ofWord r us)
         (sorted-imp (ofWord r us)
         (λ u w i j h e. h (word-is r us u .0 i .1 ∙ sym (word-is r us w .0 j .1), append-cancel-right (u .dom) (w .dom) (r ∷ []) e))
         (sorted-filter (λ u w. SameResource u w → ⊥) (λ (u : Resource). eqb (u .word) r) us owned-apart)))
+
+    classes-once : (r : ℕ) → Distinct (ownClasses (lineTypeOf T) r)
+    classes-once r = sorted-imp (ownClasses (lineTypeOf T) r) (λ c d _ _ b e. never b (rw e (name-strict .irreflexive d))) (classes-ascend r)
 
     at-once : (r : ℕ) → Distinct (itemsAt (lineMap s) (lineTypeOf T) (above s ok T) r)
     unfolding itemsAt

@@ -9,7 +9,7 @@ use lib.ListN.{length}
 use Rattle.lists.specs.Lists.{In, any, null, each, repeats, setOf}
 use Rattle.lists.specs.Sorting.{Distinct}
 use Rattle.definitions.specs.Records.{Name, Resource, TypeInfo, Sheet, Item}
-use Rattle.definitions.specs.Comparisons.{domBefore, dotted}
+use Rattle.definitions.specs.Comparisons.{nameBefore, domBefore, dotted}
 use Rattle.definitions.specs.Parse.{done}
 use Rattle.definitions.specs.Reading.{sheet}
 use Rattle.definitions.specs.Checks.{badWords, somethingTwice}
@@ -17,7 +17,8 @@ use Rattle.definitions.specs.Map.{LineMap, LineType, typeMapOf, lineTypeOf, lin
 use Rattle.definitions.specs.Making.{declared, isResource, sameItem}
 use Rattle.definitions.specs.Items.{owned, given, parentsOf, ancestors, domsAbove, wordsMade, itemsFor, itemsOf}
 use Rattle.definitions.specs.Ancestry.{Ancestor}
-use Rattle.definitions.specs.Lines.{Source, Making, LineOf, ClassOf, Refused}
+use Rattle.definitions.specs.Lines.{OwnMaking, Source, Making, LineOf, ClassOf, Refused}
+use Rattle.definitions.specs.ItemOrder.{parentsIn, Part, PartOf, NamesBefore, ItemBefore, InOrder, OnlyInOrder}
 use Rattle.definitions.specs.Relisted.{Relisted}
 use Rattle.definitions.specs.Packing.{scheduleBits}
 use Rattle.definitions.specs.Answer.{schedule, scheduleOf}
@@ -133,6 +134,46 @@ anyRefused m = any (λ T. isRefused m T (ancestors m T)) (m .types)
 abbrev pub AcceptedIsTested : Type 0
 AcceptedIsTested = (s : Sheet) → Readable s → (anyRefused (lineMap s) ≡ false) ↔ Accepted s
 
+-- ---- the order of the items (InOrder.antt)
+
+-- a line of an accepted map that is a resource has one source, of one type
+abbrev pub OneSource : Type 0
+OneSource = (s : Sheet) → Readable s → Accepted s → (T U : TypeInfo) (a b : Source) (x : Item) → In T (s .types) → In U (s .types)
+    → Making s T a x → Making s U b x → (T ≡ U) × (a ≡ b)
+
+-- so each line belongs to one part of what stands at its type and word; that it belongs to one at all is no matter of the map
+abbrev pub OnePart : Type 0
+OnePart = (s : Sheet) → Readable s → Accepted s → (x : Item) (p q : Part) → PartOf s x p → PartOf s x q → p ≡ q
+
+abbrev pub EachHasPart : Type 0
+EachHasPart = (s : Sheet) (x : Item) → LineOf s x ↔ ((p : Part) × PartOf s x p)
+
+-- the parent lists of two own resources of a type and a word ascend exactly as the names of their classes do
+abbrev pub OwnListsByClass : Type 0
+OwnListsByClass = (s : Sheet) → Readable s → (T : TypeInfo) (i j k l : ℕ) (x y : Item) (g : OwnMaking s T i j x) (h : OwnMaking s T k l y)
+    → g .from .word ≡ h .from .word → NamesBefore (parentsIn x) (parentsIn y) ↔ (nameBefore (g .class) (h .class) ≡ true)
+
+-- no two lines of an accepted map go before each other
+abbrev pub NotBothWays : Type 0
+NotBothWays = (s : Sheet) → Readable s → Accepted s → (x y : Item) → ItemBefore s x y → ItemBefore s y x → ⊥
+
+-- of two that differ one goes before the other,
+abbrev pub OneWay : Type 0
+OneWay = (s : Sheet) → Readable s → Accepted s → (x y : Item) → LineOf s x → LineOf s y → (x ≡ y) ⊎ (ItemBefore s x y ⊎ ItemBefore s y x)
+
+-- and what goes before a line goes before all that follow it
+abbrev pub BeforeAllThatFollow : Type 0
+BeforeAllThatFollow = (s : Sheet) → Readable s → Accepted s → (x y z : Item) → LineOf s x → LineOf s y → LineOf s z
+    → ItemBefore s x y → ItemBefore s y z → ItemBefore s x z
+
+-- so there is one list at most of the lines in their order (FORMAT 5.3)
+abbrev pub OneInOrder : Type 0
+OneInOrder = (s : Sheet) → Readable s → Accepted s → (l k : List Item) → InOrder s l → InOrder s k → l ≡ k
+
+-- and the items are that list
+abbrev pub ItemsInOrder : Type 0
+ItemsInOrder = (s : Sheet) → Readable s → Accepted s → OnlyInOrder s (itemsOf (lineMap s))
+
 -- ---- relisted sheets (Relisting.antt)
 
 -- relisted sheets have the same items, in the same order
@@ -146,6 +187,10 @@ RelistedAccepted = (s t : Sheet) → Readable s → Readable t → Relisted s t 
 -- and, where neither has, the same lines
 abbrev pub RelistedLines : Type 0
 RelistedLines = (s t : Sheet) → Readable s → Readable t → Relisted s t → Accepted s → (x : Item) → LineOf s x ↔ LineOf t x
+
+-- in the same order: the lists that stand in order are the same
+abbrev pub RelistedInOrder : Type 0
+RelistedInOrder = (s t : Sheet) → Readable s → Readable t → Relisted s t → Accepted s → (l : List Item) → InOrder s l ↔ InOrder t l
 
 -- ---- bounds (Reading.antt, Bounds.antt, Counts.antt, Fields.antt, Size.antt)
 

@@ -1,27 +1,29 @@
 -- Legal schedules, so that the theorems speak of something; schedules past the limits that share their bits; and the worked
 -- example, from its bytes.
 use mathlib.Core.Bool.{true, false}
-use mathlib.Core.List.{List, [], _∷_}
+use mathlib.Core.List.{List, [], _∷_, map}
 use mathlib.Core.Path.{_≡_, refl, sym, ap, _∙_, subst}
 use Prim.Native.Nat.{ℕ, zero, suc, _≤_, zero-le}
 use native.Mathlib.Omega.{arith}
 use lib.ListN.{replicate, length-replicate}
 use Rattle.definitions.specs.Bits.{odd, toBits, bitsOf, num, packTo, pack}
-use Rattle.definitions.specs.Records.{Name, makelistMark, deriveMark, Sheet, Item, synthesized, extension, Schedule}
+use Rattle.definitions.specs.Records.{Name, makelistMark, deriveMark, TypeInfo, Sheet, Item, synthesized, extension, Schedule}
 use Rattle.definitions.specs.Reading.{sheet}
 use Rattle.definitions.specs.Packing.{nameBits, parentBits, markBits, itemBits, orderBits, scheduleBits}
 use Rattle.definitions.specs.Legal.{Every, Counted}
 use Rattle.definitions.specs.LegalSchedule.{mostNames, mostItems, leastParents, mostParents, mostMarks, LegalItem, LegalOrder, LegalSchedule}
 use Rattle.definitions.specs.Map.{typeMapOf}
+use Rattle.definitions.specs.Ancestry.{IsOrder}
+use Rattle.definitions.specs.ItemOrder.{InOrder}
 use Rattle.definitions.specs.Answer.{Call, schedule, order, Input, standard, restOf, scheduleOf, outcome}
 use Rattle.definitions.specs.Relisted.{Holds}
 use Rattle.definitions.specs.Cases.{hex, lent, run}
-use Rattle.synthesis_laws.specs.Statements.{MakesLines}
+use Rattle.synthesis_laws.specs.Statements.{ListsLines}
 use Rattle.reading_laws.specs.Examples.{worked, workedBytes}
 use Rattle.reading_laws.specs.Parsers.{done-value}
 use Rattle.schedule_laws.specs.Statements.{bytesWritten, NamesInOrder, Listed, OrderListed, ReadToLines}
 use Rattle.schedule_laws.specs.OneToOne.{bytes-determine}
-use Rattle.schedule_laws.specs.Listed.{listed-exactly, order-listed-exactly, bytes-hold-lines}
+use Rattle.schedule_laws.specs.Listed.{listed-exactly, order-listed-exactly, bytes-hold-lines, bytes-are-declared}
 
 -- ---- every construct: a two-word type, a parent of three words, both marks, an extension line
 
@@ -217,7 +219,19 @@ worked-has-order =
     subst (λ s. NamesInOrder s (workedSchedule .order)) (worked-sheet (worked-lines .s) (worked-lines .holds))
     (worked-lines .names 4 workedSchedule worked-legal (worked-written .0 ∙ sym worked-bytes))
 
-worked-has-lines : MakesLines worked (workedSchedule .items)
+worked-has-lines : ListsLines worked (workedSchedule .items)
 worked-has-lines =
-    subst (λ s. MakesLines s (workedSchedule .items)) (worked-sheet (worked-lines .s) (worked-lines .holds))
-    (worked-lines .lines 4 workedSchedule worked-legal (worked-written .0 ∙ sym worked-bytes))
+    subst (λ s. ListsLines s (workedSchedule .items)) (worked-sheet (worked-lines .s) (worked-lines .holds))
+    (worked-lines .items 4 workedSchedule worked-legal (worked-written .0 ∙ sym worked-bytes))
+
+-- the bytes are those of any types in order and any lines in order
+worked-declared : (ts : List TypeInfo) (l : List Item) → IsOrder worked ts → InOrder worked l
+    → listedBytes ≡ pack (scheduleBits (record { order = map (λ (T : TypeInfo). T .name) ts; items = l }))
+worked-declared ts l o h =
+    let d = bytes-are-declared (asked schedule) refl (accepted .0) in
+    let e = sym (worked-sheet (d .s) (d .holds)) in
+    sym (worked-written .0) ∙ d .bytes ts l (subst (λ s. IsOrder s ts) e o) (subst (λ s. InOrder s l) e h)
+
+-- and there are such
+worked-items-in-order : InOrder worked (workedSchedule .items)
+worked-items-in-order = worked-has-lines .inOrder .ordered

@@ -1,7 +1,7 @@
 -- From the bytes of an accepted sheet to what its listing holds.
 use mathlib.Core.Bool.{true}
-use mathlib.Core.List.{List, []}
-use mathlib.Core.Path.{_≡_, refl, sym, ap, _∙_, subst}
+use mathlib.Core.List.{List, [], map}
+use mathlib.Core.Path.{_≡_, refl, sym, ap, ap₂, _∙_, subst}
 use Prim.Native.Nat.{ℕ}
 use borrow.Author.Tests.{not-false}
 use lib.ListN.{length, take, drop}
@@ -9,7 +9,7 @@ use lib.Seq
 use Rattle.lists.specs.Lists.{null}
 use Rattle.lists.specs.Tests.{null-nil}
 use Rattle.definitions.specs.Bits.{bitsOf, pack}
-use Rattle.definitions.specs.Records.{Name, Sheet, Schedule}
+use Rattle.definitions.specs.Records.{Name, TypeInfo, Sheet, Item, Schedule}
 use Rattle.definitions.specs.Map.{typeMapOf}
 use Rattle.definitions.specs.Order.{hasOrder, lastPass, organizeTypeMap}
 use Rattle.definitions.specs.Packing.{orderBits, scheduleBits}
@@ -18,18 +18,15 @@ use Rattle.definitions.specs.Relisted.{Holds}
 use Rattle.definitions.specs.Answer.{Call, schedule, order, Input, Outcome, sheetOf, scheduleOf, bitsWritten, synthesisRows, lateRefusals, readIn, typeMapIn, sheetRefusals, refusals, accept, firstRefusal, outcome}
 use Rattle.laws.specs.Statements.{WellNamed}
 use Rattle.laws.specs.Comparisons.{names-once}
-use Rattle.laws.specs.Order.{order-exists, order-is-by-round}
+use Rattle.laws.specs.Order.{order-exists, order-is-by-round, order-is-one}
 use Rattle.line_laws.specs.Within.{Within}
 use Rattle.line_laws.specs.Reading.{read-is-within}
-use Rattle.line_laws.specs.Refused.{accepted-is-tested}
-use Rattle.line_laws.specs.Lines.{items-are-lines}
-use Rattle.line_laws.specs.Once.{items-once}
-use Rattle.synthesis_laws.specs.Statements.{Ordered, MakesLines}
-use Rattle.synthesis_laws.specs.Rows.{rows-are-tested}
+use Rattle.synthesis_laws.specs.Statements.{Ordered, ListsLines}
+use Rattle.synthesis_laws.specs.Rows.{items-listed}
 use Rattle.reading_laws.specs.Statements.{NoneHolds}
 use Rattle.reading_laws.specs.Refusals.{passed, none-front, all-pass}
 use Rattle.reading_laws.specs.Answers.{accepted-exactly, passed-is-held}
-use Rattle.schedule_laws.specs.Statements.{bytesWritten, BytesOf, OrderBytesOf, NamesInOrder, ListedExactly, OrderListedExactly, BytesHoldLines}
+use Rattle.schedule_laws.specs.Statements.{bytesWritten, BytesOf, OrderBytesOf, NamesInOrder, ListedExactly, OrderListedExactly, BytesHoldLines, BytesAreDeclared}
 use Rattle.schedule_laws.specs.OneToOne.{bytes-determine, order-bytes-determine}
 use Rattle.schedule_laws.specs.Written.{written-is-legal, written-order-is-legal}
 
@@ -41,13 +38,6 @@ module _ (s : Sheet) (o : Ordered s) where
   names-in-order =
       let w : WellNamed s = record { words = o .readable .words; names = names-once s (o .readable .once) } in
       record { types = lastPass (typeMapOf s) .placed; ordered = order-is-by-round s w (order-exists s w .0 (o .order)); named = refl }
-
-  -- no row: no type is refused, and each line stands once among the items
-  items-listed : null (synthesisRows schedule (typeMapOf s)) ≡ true → MakesLines s (scheduleOf schedule (typeMapOf s) .items)
-  unfolding scheduleOf
-  items-listed e =
-      let a = accepted-is-tested s (o .readable) .0 (rows-are-tested s o .0 (null-nil (synthesisRows schedule (typeMapOf s)) e)) in
-      record { lines = items-are-lines s (o .readable) a; once = items-once s (o .readable) a }
 
 -- ---- the bytes
 
@@ -109,7 +99,7 @@ listed-exactly i q e =
       holds = holds i e;
       bytes = bytes-of (length (s′ .words)) (scheduleOf schedule m) (bytesWritten i) (written-is-legal s′ (o .readable) (within i e)) (was-written i e schedule q);
       names = names-in-order s′ o;
-      lines = items-listed s′ o (subst (λ c. null (synthesisRows c m) ≡ true) q (no-rows i e));
+      items = items-listed s′ o (null-nil (synthesisRows schedule m) (subst (λ c. null (synthesisRows c m) ≡ true) q (no-rows i e)));
     }
 
 pub order-listed-exactly : OrderListedExactly
@@ -131,5 +121,18 @@ bytes-hold-lines i q e =
       s = l .s;
       holds = l .holds;
       names = λ W t h f. subst (λ (c : Schedule). NamesInOrder (l .s) (c .order)) (sym (l .bytes .only W t h f)) (l .names);
-      lines = λ W t h f. subst (λ (c : Schedule). MakesLines (l .s) (c .items)) (sym (l .bytes .only W t h f)) (l .lines);
+      items = λ W t h f. subst (λ (c : Schedule). ListsLines (l .s) (c .items)) (sym (l .bytes .only W t h f)) (l .items);
+    }
+
+pub bytes-are-declared : BytesAreDeclared
+bytes-are-declared i q e =
+    let l = listed-exactly i q e in
+    record {
+      s = l .s;
+      holds = l .holds;
+      bytes = λ ts k o h.
+          let n : map (λ (T : TypeInfo). T .name) ts ≡ scheduleOf schedule (typeMapOf (l .s)) .order =
+          ap (map (λ (T : TypeInfo). T .name)) (order-is-one (l .s) ts (l .names .types) o (l .names .ordered)) ∙ sym (l .names .named) in
+          l .bytes .packed
+          ∙ sym (ap₂ (λ ns (k : List Item). pack (scheduleBits (record { order = ns; items = k }))) n (l .items .inOrder .only k h));
     }

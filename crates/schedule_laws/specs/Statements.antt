@@ -14,11 +14,12 @@ use Rattle.definitions.specs.Packing.{orderBits, scheduleBits}
 use Rattle.definitions.specs.LegalSchedule.{LegalOrder, LegalSchedule}
 use Rattle.definitions.specs.Ancestry.{IsOrder}
 use Rattle.definitions.specs.Lines.{LineOf}
+use Rattle.definitions.specs.ItemOrder.{InOrder}
 use Rattle.definitions.specs.Relisted.{Holds}
 use Rattle.definitions.specs.Answer.{schedule, order, Input, scheduleOf, outcome}
 use Rattle.line_laws.specs.Within.{Within}
 use Rattle.line_laws.specs.Statements.{Readable, lineMap}
-use Rattle.synthesis_laws.specs.Statements.{MakesLines}
+use Rattle.synthesis_laws.specs.Statements.{ListsLines}
 
 -- ---- the bits and the bytes determine the schedule (OneToOne.antt)
 
@@ -92,13 +93,13 @@ pub record NamesInOrder (s : Sheet) (ns : List Name) : Type 0 where
   pub named : ns ≡ map (λ (T : TypeInfo). T .name) types
 
 -- The schedule call has listed the sheet that its bytes hold: what it wrote is the bytes of the sheet's schedule and of no other
--- legal one, the names are in order, and the items are the lines of the map, each once.
+-- legal one, the names are in order, and the items are the lines of the map, each once and in their order.
 pub record Listed (i : Input) : Type 0 where
   pub s : Sheet
   pub holds : Holds (i .sheet) s
   pub bytes : BytesOf (length (s .words)) (scheduleOf schedule (typeMapOf s)) (bytesWritten i)
   pub names : NamesInOrder s (scheduleOf schedule (typeMapOf s) .order)
-  pub lines : MakesLines s (scheduleOf schedule (typeMapOf s) .items)
+  pub items : ListsLines s (scheduleOf schedule (typeMapOf s) .items)
 
 abbrev pub ListedExactly : Type 0
 ListedExactly = (i : Input) → i .call ≡ schedule → outcome i .answer .number ≡ 0 → Listed i
@@ -114,12 +115,23 @@ abbrev pub OrderListedExactly : Type 0
 OrderListedExactly = (i : Input) → i .call ≡ order → outcome i .answer .number ≡ 0 → OrderListed i
 
 -- Hence whoever reads the bytes finds the order and the lines: any legal schedule that has these bytes holds the names in order,
--- and its items are the lines, each once. No computed list is named here.
+-- and its items are the lines, each once and in their order. No computed list is named here.
 pub record ReadToLines (i : Input) : Type 0 where
   pub s : Sheet
   pub holds : Holds (i .sheet) s
   pub names : (W′ : ℕ) (t : Schedule) → LegalSchedule W′ t → bytesWritten i ≡ pack (scheduleBits t) → NamesInOrder s (t .order)
-  pub lines : (W′ : ℕ) (t : Schedule) → LegalSchedule W′ t → bytesWritten i ≡ pack (scheduleBits t) → MakesLines s (t .items)
+  pub items : (W′ : ℕ) (t : Schedule) → LegalSchedule W′ t → bytesWritten i ≡ pack (scheduleBits t) → ListsLines s (t .items)
 
 abbrev pub BytesHoldLines : Type 0
 BytesHoldLines = (i : Input) → i .call ≡ schedule → outcome i .answer .number ≡ 0 → ReadToLines i
+
+-- And what is declared leaves nothing open: the bytes written are those of any list of the types in their order and any list of the
+-- lines in theirs. No computed list is named here either.
+pub record WrittenAsDeclared (i : Input) : Type 0 where
+  pub s : Sheet
+  pub holds : Holds (i .sheet) s
+  pub bytes : (ts : List TypeInfo) (l : List Item) → IsOrder s ts → InOrder s l
+      → bytesWritten i ≡ pack (scheduleBits (record { order = map (λ (T : TypeInfo). T .name) ts; items = l }))
+
+abbrev pub BytesAreDeclared : Type 0
+BytesAreDeclared = (i : Input) → i .call ≡ schedule → outcome i .answer .number ≡ 0 → WrittenAsDeclared i

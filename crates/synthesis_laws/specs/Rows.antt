@@ -17,6 +17,7 @@ use Rattle.definitions.specs.Making.{declared, classNames, isResource, extensio
 use Rattle.definitions.specs.Synthesis.{ownEntries, interpretType, interpretAll, synthesis}
 use Rattle.definitions.specs.Items.{owned, given, ofWord, associateWord, ancestors, domsAbove, wordsMade, itemsFor, itemsOf}
 use Rattle.definitions.specs.Ancestry.{HasOrder}
+use Rattle.definitions.specs.ItemOrder.{wordOf}
 use Rattle.laws.specs.Comparisons.{dom-strict, types-is, names-once}
 use Rattle.laws.specs.Order.{order-exists}
 use Rattle.line_laws.specs.Statements.{Readable, lineMap, classesOf, isRefused, anyRefused}
@@ -25,9 +26,10 @@ use Rattle.line_laws.specs.Declarations.{type-in, type-of}
 use Rattle.line_laws.specs.Associating.{word-is}
 use Rattle.line_laws.specs.SameItem.{once-tested, tested-once}
 use Rattle.line_laws.specs.Lines.{items-are-lines}
-use Rattle.line_laws.specs.Once.{wordOf, items-once}
+use Rattle.line_laws.specs.Once.{items-once}
+use Rattle.line_laws.specs.InOrder.{items-in-order}
 use Rattle.line_laws.specs.Refused.{accepted-is-tested}
-use Rattle.synthesis_laws.specs.Statements.{RowsAreTested, RowsAreRefusals, SynthesisMakesItems, SynthesisMakesLines}
+use Rattle.synthesis_laws.specs.Statements.{RowsAreTested, RowsAreRefusals, SynthesisMakesItems, SynthesisMakesLines, ItemsListed}
 use Rattle.lists.specs.Appending.{each-map}
 use Rattle.lists.specs.Permutations.{perm-map, perm-same, perm-each-in, distinct-perm}
 use Rattle.synthesis_laws.specs.Interpreted.{Job, made, made-not-line, Fit, Among, making, lined, no-row, no-row-items, no-row-once}
@@ -277,4 +279,12 @@ synthesis-makes-lines s ok h e =
     record {
       lines = λ x. let l = items-are-lines s ok a x in (λ i. l .0 (perm-in p i), λ i. perm-in (Permᴰ·symm p) (l .1 i));
       once = perm-sorted (λ x y. x ≡ y → ⊥) (λ x y n q. n (sym q)) (Permᴰ·symm p) (items-once s ok a);
+    }
+
+pub items-listed : ItemsListed
+items-listed s o e =
+    let a = accepted-is-tested s (o .readable) .0 (rows-are-tested s o .0 e) in
+    record {
+      lines = record { lines = items-are-lines s (o .readable) a; once = items-once s (o .readable) a };
+      inOrder = items-in-order s (o .readable) a;
     }

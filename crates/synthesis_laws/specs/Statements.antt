@@ -21,6 +21,7 @@ use Rattle.definitions.specs.Synthesis.{firstParents, listedParents, synthesis}
 use Rattle.definitions.specs.Items.{ancestors, inheritedResource, itemsOf}
 use Rattle.definitions.specs.Ancestry.{HasOrder}
 use Rattle.definitions.specs.Lines.{Gives, GivenAbove, AssociatedAbove, DomsAbove, Passes, ParentsAbove, LineOf}
+use Rattle.definitions.specs.ItemOrder.{OnlyInOrder}
 use Rattle.line_laws.specs.Within.{Within}
 use Rattle.line_laws.specs.Statements.{Readable, lineMap, Accepted, anyRefused}
 
@@ -172,6 +173,14 @@ pub record MakesLines (s : Sheet) (l : List Item) : Type 0 where
 
 abbrev pub SynthesisMakesLines : Type 0
 SynthesisMakesLines = (s : Sheet) → Readable s → HasOrder s → synthesis (typeMapOf s) .rows ≡ [] → MakesLines s (synthesis (typeMapOf s) .items)
+
+-- The items that are written: where no row is left, they are the lines, each once, in their order, which no other list has.
+pub record ListsLines (s : Sheet) (l : List Item) : Type 0 where
+  pub lines : MakesLines s l
+  pub inOrder : OnlyInOrder s l
+
+abbrev pub ItemsListed : Type 0
+ItemsListed = (s : Sheet) → Ordered s → synthesis (typeMapOf s) .rows ≡ [] → ListsLines s (itemsOf (lineMap s))
 
 -- ---- bounds (Bounds.antt)
 
