@@ -108,6 +108,10 @@ struct gidzelma_row {
  * 7 bits, their names in order, the count of items in 16 bits, and the items, packed. gidzelma_order
  * gives the order of the types alone: their count and their names.
  *
+ * The items stand in one order: by the name of their type, then by word, then the type's own resources
+ * by their parents, the inherited one, the extension line (docs/FORMAT.md, 5.3). So two sheets that
+ * list the same types and parents in different orders get equal bytes.
+ *
  * A call asks nothing of the values in its slices. Of the slices themselves it asks, as Rust
  * does: no pointer is null, also where its length is 0 (then any pointer will do that is not null and
  * is aligned, and nothing is read or written through it); each pointer is good for its length, `parts`

@@ -137,6 +137,10 @@ type Conversion =
 /// The schedule call: the order of a sheet's types and the items of its access schedule, packed, in a lent
 /// listing. One that is too short is answered with the size that is needed.
 ///
+/// The items stand in one order: by the name of their type, then by word, then the type's own resources by
+/// their parents, the inherited one, the extension line. So two sheets that list the same types and parents
+/// in different orders get equal bytes.
+///
 /// ```
 /// use gidzelma::{schedule, Answer, DIAGNOSIS_LEN};
 /// let sheet = std::fs::read("../examples/base.sheet").unwrap();

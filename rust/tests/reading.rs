@@ -39,6 +39,39 @@ fn the_example() {
     );
 }
 
+/// The bytes of a text of hexadecimal digits.
+fn hex(text: &str) -> Vec<u8> {
+    (0..text.len())
+        .step_by(2)
+        .map(|at| u8::from_str_radix(&text[at..at + 2], 16).unwrap())
+        .collect()
+}
+
+/// `p` nests `q.f`, which has a mark, and `t` under `p` associates `p.f`: both `t.f` have the same parents, and
+/// the own one goes first, however the records and the parents are listed.
+#[test]
+fn one_order() {
+    let sheet = hex(concat!(
+        "1060b305c02e287265736f75726365239b2b63305d0200c0100001401000804002840204",
+        "014020212201010000"
+    ));
+    let relisted = hex(concat!(
+        "1060b305c02e287265736f75726365239b2b63305d020280804021220101005004002010",
+        "00a10081001802000000"
+    ));
+    let packed = schedule_vec(&sheet).unwrap();
+    let words = Words::read(&sheet).unwrap();
+    let lines: Vec<String> = items(&packed)
+        .unwrap()
+        .iter()
+        .map(|item| words.line(item))
+        .collect();
+    let own = "R t.f 0 p.f,resource -";
+    let inherited = "R t.f 0 p.f,resource makelist";
+    assert_eq!(lines, [own, inherited, "E t 00 f"]);
+    assert_eq!(schedule_vec(&relisted).unwrap(), packed);
+}
+
 /// Cut short, with a byte more, or with a bit of the fill.
 #[test]
 fn ends() {
