@@ -3,16 +3,9 @@
 VERDICTS = ("overflow", "timeout", "memory", "panic", "crash")  # what the oracle says instead of an answer
 
 
-def canonical(lines):
-    """T lines and rows in their order, items sorted: their order is free."""
-    return ([line for line in lines if line[:2] not in ("R ", "E ")]
-            + sorted(line for line in lines if line[:2] in ("R ", "E ")))
-
-
 def agree(mode, subject, oracle):
-    """Whether both say the same. An Internal item counts by its place: it is an
-    unknown class or a duplicate, with `--duplicates row` always the former."""
-    subject, oracle = canonical(subject), canonical(oracle)
+    """Whether both say the same, line by line, the oracle's being in order. An Internal item counts by its
+    place: it is an unknown class or a duplicate, with `--duplicates row` always the former."""
     internal = ("D 4",) if mode.endswith("rows") else ("D 4", "D 6")
     return len(subject) == len(oracle) and all(
         mine == theirs or (theirs == "D internal" and mine[:3] in internal)

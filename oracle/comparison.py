@@ -3,8 +3,9 @@
 import collections
 
 import sheetlib
-from answers import agree, canonical, is_verdict, shape
+from answers import agree, is_verdict, shape
 from features import Features
+from ordering import corners, in_order, is_item
 from pairs import pair_lines
 from shrinking import shrink
 
@@ -15,6 +16,10 @@ LEAST = {
     "with a word from two or more ancestors with different doms": 30000,
     "refused 9 with two or more rows": 30000,
     "subject: refused 8": 30000,
+    "order of lines compared": 80000,
+    "order of lines compared, an own and an inherited one with equal parents": 1000,
+    "order of lines compared, two or more own ones of one word": 20000,
+    "order of lines compared, types that go otherwise by name than by round": 60000,
 }
 LARGE = 24  # a map of more types is not shrunk, and shown by its sheet
 
@@ -51,23 +56,30 @@ class Comparison:
     def compare_maps(self, labels, given_maps, untouched=1):
         """Compares on maps, each with its label; with the untouched Rust on each `untouched`th."""
         sheets = [sheetlib.encode(given) for given in given_maps]
-        for label, given, sheet, (mine, theirs) in zip(labels, given_maps, sheets, self.asked(sheets, untouched)):
+        answers = self.asked(sheets, given_maps, untouched)
+        for label, given, sheet, (mine, theirs) in zip(labels, given_maps, sheets, answers):
             features = Features(given)
             self.counts["of " + label] += 1
             self.counts["maps"] += 1
             self.count(mine["schedule"], theirs["01"], features)
+            self.count_order(theirs["01"], given)
             self.compare(mine, theirs, sheet, given, features)
 
     def compare_sheets(self, label, sheets):
         """Compares on sheets that need not be readable."""
-        for sheet, (mine, theirs) in zip(sheets, self.asked(sheets)):
-            given = readable(sheet)
+        given_maps = [readable(sheet) for sheet in sheets]
+        for sheet, given, (mine, theirs) in zip(sheets, given_maps, self.asked(sheets, given_maps)):
             self.counts["of " + label] += 1
             self.counts["sheets, listed or damaged"] += 1
             self.counts["listed or damaged: " + shape(mine["schedule"])] += 1
             self.compare(mine, theirs, sheet, given, Features(given) if given else None)
 
-    def asked(self, sheets, untouched=1):
+    def told(self, mode, sheets, given_maps):
+        """The answers of the oracle, the lines of each in order."""
+        answers = self.oracle.ask(mode, sheets)
+        return answers if mode == "order" else [in_order(*answer) for answer in zip(answers, given_maps)]
+
+    def asked(self, sheets, given_maps, untouched=1):
         """For each sheet the answers of the subject by call, and those of the oracle by mode; with
         `--duplicates row` only where one overflowed or has an Internal item."""
         out = [({}, {}) for _ in sheets]
@@ -75,12 +87,13 @@ class Comparison:
             for (mine, _), lines in zip(out, self.subject.ask(call, sheets)):
                 mine[call] = lines
         for mode, step in (("order", 1), ("01", 1), ("rust", untouched)):
-            for (_, theirs), lines in zip(out[::step], self.oracle.ask(mode, sheets[::step])):
+            for (_, theirs), lines in zip(out[::step], self.told(mode, sheets[::step], given_maps[::step])):
                 theirs[mode] = lines
         for mode in ("01", "rust"):
             want = [at for at, (_, theirs) in enumerate(out)
                     if theirs.get(mode, [])[:1] == ["overflow"] or "D internal" in theirs.get(mode, [])]
-            for at, lines in zip(want, self.oracle.ask(mode + " rows", [sheets[at] for at in want])):
+            again = self.told(mode + " rows", [sheets[at] for at in want], [given_maps[at] for at in want])
+            for at, lines in zip(want, again):
                 out[at][1][mode + " rows"] = lines
         return out
 
@@ -90,6 +103,8 @@ class Comparison:
             own = mine[call_of(mode)]
             what = self.judge(mode, own, answer, features)
             self.counts[f"{mode}: " + ("agree" if what is None else what)] += 1
+            if what is None and any(map(is_item, answer)):
+                self.counts[f"{mode}: agree, with lines in order"] += 1
             if what is None and "D internal" in answer:
                 self.counts[f"{mode}: agree, with Internal items"] += 1
                 what = "Internal items"
@@ -105,7 +120,8 @@ class Comparison:
             return theirs[0] if expected else "disagreement"
         if agree(mode, mine, theirs):
             return None
-        if mode.startswith("rust") and features is not None and features.two_makings:
+        # What the untouched Rust accepts has one making of each T.r, and has to agree.
+        if mode.startswith("rust") and shape(theirs) != "accepted" and features is not None and features.two_makings:
             return "equality by name"
         return "disagreement"
 
@@ -128,12 +144,19 @@ class Comparison:
         if mine[-1:] == ["more"]:
             counts["with more rows than 256"] += 1
 
+    def count_order(self, theirs, given):
+        """Counts what the order of the lines of an accepted map depends on."""
+        if shape(theirs) == "accepted" and any(map(is_item, theirs)):
+            self.counts["order of lines compared"] += 1
+            self.counts.update("order of lines compared, " + what for what in corners(theirs, given))
+
     def relist(self, pairs):
-        """Relisted sheets: the same lines, or the same refusal."""
-        sheets = [sheetlib.encode(given) for pair in pairs for given in pair]
-        for name, side in (("subject", self.subject), ("oracle", self.oracle)):
-            for mode in ("order", "01"):
-                answers = [canonical(lines) for lines in side.ask(mode, sheets)]
+        """Relisted sheets: the same lines in the same order, or the same refusal."""
+        given_maps = [given for pair in pairs for given in pair]
+        sheets = [sheetlib.encode(given) for given in given_maps]
+        for mode in ("order", "01"):
+            for name, answers in (("subject", self.subject.ask(mode, sheets)),
+                                  ("oracle", self.told(mode, sheets, given_maps))):
                 for sheet, left, right in zip(sheets[::2], answers[::2], answers[1::2]):
                     self.judge_relisted(f"{name} {mode}", left, right, sheet)
 
@@ -176,8 +199,8 @@ class Comparison:
                 return "D internal" in answer
             return is_verdict(answer) or not agree(mode, own, answer)
 
-        return lambda sheets: [shows(*answers) for answers in zip(self.subject.ask(call_of(mode), sheets),
-                                                                  self.oracle.ask(mode, sheets))]
+        return lambda sheets: [shows(*answers) for answers in zip(
+            self.subject.ask(call_of(mode), sheets), self.told(mode, sheets, list(map(readable, sheets))))]
 
     def report(self):
         """Prints everything; gives the number of disagreements."""
@@ -202,4 +225,4 @@ class Comparison:
         print("".join("    " + line + "\n" for line in sheetlib.to_text(given).splitlines()), end="")
         sheets = [sheetlib.encode(given)]
         print("  subject: " + "; ".join(self.subject.ask(call_of(key[1]), sheets)[0][:12]))
-        print("  oracle:  " + "; ".join(self.oracle.ask(key[1], sheets)[0][:12]))
+        print("  oracle:  " + "; ".join(self.told(key[1], sheets, [given])[0][:12]))

@@ -1,10 +1,11 @@
 """The oracle's lines as the answer of a call, with the bytes of both slices."""
 
-import collections
 import sys
 
 import model
 import replaying
+import sheetlib
+from ordering import UNFIT, in_order, is_item
 
 
 def name_of(text, words):
@@ -32,13 +33,12 @@ def row_of(line, words):
     return model.Row(int(kind), name_of(subject, words), name_of(other, words) or None, (name_of(word, words) + (None,))[0])
 
 
-def in_order(items, sheet):
-    """The items in the program's order, which the model gives."""
-    types = model.read_sheet(sheet)
-    listed = model.items_of(types, model.organize_type_map(types))[0]
-    if collections.Counter(listed) != collections.Counter(items):
-        sys.exit(f"fixed: the model has other lines for {sheet.hex()}")
-    return listed
+def items_of(lines, sheet, words):
+    """The items of the oracle's lines, in order."""
+    lines = in_order(lines, sheetlib.decode(sheet))
+    if lines and lines[-1].startswith(UNFIT):
+        sys.exit(f"fixed: {lines[-1]}, sheet {sheet.hex()}")
+    return [item_of(line, words) for line in lines if is_item(line)]
 
 
 def answer_of(lines, sheet, call):
@@ -52,8 +52,5 @@ def answer_of(lines, sheet, call):
                             rows + lent * (6 * model.ROWS - len(rows)))
     words = model.sheet_words(sheet)
     names = [name_of(line[2:], words) for line in lines if line[0] == "T"]
-    items = None
-    if call == "schedule":
-        items = in_order([item_of(line, words) for line in lines if line[0] != "T"], sheet)
-    packed = model.pack(names, items)
+    packed = model.pack(names, items_of(lines, sheet, words) if call == "schedule" else None)
     return model.Answer(0, len(packed), 0, 0, packed + lent * 2, lent * (6 * model.ROWS))

@@ -600,7 +600,9 @@ class Generators(unittest.TestCase):
         self.check("5b89a44e404391f7", (encode(flavours.random_map(rng, name)) for name in list(flavours.FLAVOURS) * 2))
 
     def test_small(self):
-        for digest, family in zip(("266c523bbcf61906", "7f3a9e1d1370a11b", "212fd6f395d0f3b9"), small.EXHAUSTIVE.values()):
+        digests = "266c523bbcf61906", "7f3a9e1d1370a11b", "212fd6f395d0f3b9", "21dcd9c7806dd21c"
+        self.assertEqual(len(digests), len(small.EXHAUSTIVE))
+        for digest, family in zip(digests, small.EXHAUSTIVE.values()):
             self.check(digest, (encode(given) for given in itertools.islice(family(), 0, None, 500)))
 
     def test_changed(self):
@@ -1125,8 +1127,8 @@ class Believed(unittest.TestCase):
 
 
 def load_tests(loader, tests, _):
-    """The tests of test_sheets.py besides, where no test is named."""
-    tests.addTests(loader.loadTestsFromName("test_sheets"))
+    """The tests of test_sheets.py and test_oracle.py besides, where no test is named."""
+    tests.addTests(loader.loadTestsFromNames(["test_sheets", "test_oracle"]))
     return tests
 
 

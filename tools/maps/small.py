@@ -2,8 +2,8 @@
 
 import itertools
 
-from maps.records import associate, nest, record
-from sheet_records import DOMAIN, RESOURCE, TypeMap
+from maps.records import associate, name_of, nest, record
+from sheet_records import DOMAIN, RESOURCE, Extension, TypeMap
 
 
 def listings(names, longest):
@@ -61,5 +61,23 @@ def small_diamonds():
                 yield TypeMap(out)
 
 
+def small_parent_lists():
+    """A type under one that gives `f`: its own resources of that word beside the inherited one, which can list the
+    same parents. A capital letter, a digit, `_` and a dot are in the names, whose bytes decide."""
+    looks = list(itertools.product(((), (None,), (7,)), (False, True)))
+    for (parent, child), above in itertools.product((("p", "t"), ("Z", "_t"), ("z", "T0.b")),
+                                                    (nest("q.f"), nest("f"), associate("f"))):
+        passed = parent + ".f"
+        ways = associate("f"), associate("q.f", "g"), associate(passed, "h")
+        for own in itertools.chain.from_iterable(itertools.combinations(ways, size) for size in (1, 2, 3)):
+            for look, other in itertools.product(looks, looks if ways[2] in own else looks[:1]):
+                out = [record(child, DOMAIN, (parent,), own, (), True), record(parent, DOMAIN, (), (above,), (), True)]
+                out += [record(name, RESOURCE, (), (), *look) for name in ("f", "q.f", "g", "h")]
+                if ways[2] in own:
+                    out.append(record(passed, RESOURCE, (), (), *other))
+                for added in ([], [Extension(name_of(child), "f", [("q", "f")])]):
+                    yield TypeMap(out, added)
+
+
 EXHAUSTIVE = {"small orders": small_orders, "small makings": small_makings,
-              "small diamonds": small_diamonds}
+              "small diamonds": small_diamonds, "small parent lists": small_parent_lists}
