@@ -8,6 +8,11 @@ def refused(text):
     return text.startswith(b"refused ")
 
 
+def number_of(text):
+    """The number of a refusal."""
+    return int(text.split()[1])
+
+
 def absent(word):
     """A word of a row, None for `-`."""
     return None if word == "-" else word
@@ -68,6 +73,12 @@ def is_text(sheet):
 
 
 TEXT_AS_SHEET = "the file is a text and no sheet; tools/sheet makes a sheet from the text of a map"
+
+
+def why(text, data, is_a_text=TEXT_AS_SHEET):
+    """The number of a refusal with what it means; where the bytes look like a text, that."""
+    number = number_of(text)
+    return f"{number}: {is_a_text if is_text(data) else refusals.meaning_of(number)}"
 
 
 def explained(text, data, is_a_text=TEXT_AS_SHEET):

@@ -136,6 +136,19 @@ def put_json(value):
     put_out(json.dumps(value).encode() + b"\n")
 
 
+@contextlib.contextmanager
+def trouble_in_json(asked, head):
+    """With --json trouble inside is an object too, led by `head`."""
+    try:
+        yield
+    except NoOutput:
+        raise
+    except Trouble as trouble:
+        if asked:
+            put_json({**head, "status": TROUBLE, "trouble": str(trouble)})
+        raise
+
+
 def write_file(name, data):
     """A file with these bytes, whole or not at all; what is no plain file is written to as it is, and `-`
     is standard output. A file that is replaced keeps its mode."""

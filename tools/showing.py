@@ -11,8 +11,8 @@ import printed
 import proved
 import refusals
 from building import write_error
-from program import (ACCEPTED, REFUSED, ROOT, STDIN, TROUBLE, NoOutput, Once, Parser, Trouble, about, at_terminal, called,
-                     put_json, put_out, read_all, run)
+from program import (ACCEPTED, REFUSED, ROOT, STDIN, Once, Parser, Trouble, about, at_terminal, called, put_json, put_out,
+                     read_all, run, trouble_in_json)
 
 LONGEST = 1 << 18  # bytes of a schedule that the program takes; the longest found has 239,675
 MOST_WIDTH = 65535  # handed over in the place of a W that is larger: both are refused
@@ -62,11 +62,20 @@ def usage():
     return USAGE.format(longest=LONGEST, numbers="\n".join(numbers) + "\n")
 
 
+class Width(Once):
+    """-w W."""
+
+    def __call__(self, parser, namespace, values, option_string=None):
+        super().__call__(parser, namespace, values, option_string)
+        if values < 0:
+            raise Trouble(f"{option_string} {values}: is no number of words")
+
+
 def options(name):
     """The options of the program."""
     out = Parser(name, usage())
     out.add_argument("files", nargs="*")
-    out.add_argument("-w", type=int, dest="width", action=Once)
+    out.add_argument("-w", type=int, dest="width", action=Width)
     for option in ("--explain", "--json"):
         out.add_argument(option, action="store_true")
     return out
@@ -80,8 +89,6 @@ def files_of(args):
         if len(args.files) != 2:
             raise Trouble("a sheet and a schedule are needed, or -w W and a schedule; --help has more")
         return args.files
-    if args.width < 0:
-        raise Trouble(f"-w {args.width}: is no number of words")
     if len(args.files) > 1:
         raise Trouble("-w W takes the place of the sheet: one file, the schedule, is taken beside it")
     if not args.files and os.isatty(0):
@@ -96,6 +103,11 @@ def asked(width, sheet, schedule):
     return b"\1" + len(sheet).to_bytes(3, "big") + sheet + schedule
 
 
+def read_sheet(name):
+    """The bytes of a sheet; None where there is none."""
+    return None if name is None else read_all(name, proved.LONGEST)
+
+
 def read_schedule(name):
     """The bytes of a schedule that the program takes."""
     out = read_all(name, LONGEST + 1)
@@ -104,19 +116,19 @@ def read_schedule(name):
     return out
 
 
-def text_of(args, names, say):
-    """The schedule's bytes, and what the proved program prints; a sheet that it refuses is trouble."""
-    sheet = None if names[0] is None else read_all(names[0], proved.LONGEST)
-    schedule = read_schedule(names[1])
-    program = proved.Each(building.ready(ROOT, building.program(ROOT, "show"), say))
+def ready(say):
+    """The proved program, up to date."""
+    return proved.Each(building.ready(ROOT, building.program(ROOT, "show"), say))
+
+
+def text_of(program, names, width, sheet, schedule):
+    """What the proved program prints for a schedule; a sheet that it refuses is trouble. The names are those of
+    the sheet and of the schedule."""
     with about(names[1]):
-        text = program.text(asked(args.width, sheet, schedule))
-    if printed.refused(text):
-        number = int(text.split()[1])
-        if number not in refusals.OF_SCHEDULES:
-            why = printed.TEXT_AS_SHEET if printed.is_text(sheet) else refusals.meaning_of(number)
-            raise Trouble(f"its words are needed, and the sheet is refused with {number}: {why}", called(names[0]))
-    return schedule, text
+        text = program.text(asked(width, sheet, schedule))
+    if printed.refused(text) and printed.number_of(text) not in refusals.OF_SCHEDULES:
+        raise Trouble(f"its words are needed, and the sheet is refused with {printed.why(text, sheet)}", called(names[0]))
+    return text
 
 
 def explained(text, schedule, has_sheet):
@@ -127,7 +139,8 @@ def explained(text, schedule, has_sheet):
 
 def show(args, names, say):
     """Prints the lines or the refusal; the status."""
-    schedule, text = text_of(args, names, say)
+    sheet, schedule = read_sheet(names[0]), read_schedule(names[1])
+    text = text_of(ready(say), names, args.width, sheet, schedule)
     status = REFUSED if printed.refused(text) else ACCEPTED
     if args.json:
         put_json({"file": names[1], "call": "show", "status": status, **printed.parsed("show", text)})
@@ -143,17 +156,11 @@ def show(args, names, say):
 
 
 def main(name, arguments, say):
-    """The program; with --json trouble too is an object."""
+    """The program."""
     args = options(name).parse(arguments)
     names = files_of(args)
-    try:
+    with trouble_in_json(args.json, {"file": names[1], "call": "show"}):
         return show(args, names, say)
-    except NoOutput:
-        raise
-    except Trouble as trouble:
-        if args.json:
-            put_json({"file": names[1], "call": "show", "status": TROUBLE, "trouble": str(trouble)})
-        raise
 
 
 if __name__ == "__main__":

@@ -478,6 +478,17 @@ class Archive(Folder):
         for name in os.listdir(os.path.join(self.top, "bin")):
             self.assertEqual(self.run_program(name, "--help")[::2], (0, ""), name)
 
+    def test_compare(self):
+        """The schedules of sheets, and packed ones."""
+        stored = text_of("examples", "pool.compare.txt").encode()
+        self.assertEqual(self.run_program("compare", "--differences", "examples/pool.sheet", "examples/pool-next.sheet",
+                                          cwd=self.top), (1, stored, ""))
+        examples = os.path.join(self.top, "examples")
+        self.assertEqual(self.run_program("compare", "-q", "pool.sheet", "pool-relisted.sheet", cwd=examples), (0, b"", ""))
+        for words in (["base.sheet"], ["-w", "4"]):
+            self.assertEqual(self.run_program("compare", "-q", "--packed", *words, *["base.schedule"] * 2, cwd=examples),
+                             (0, b"", ""))
+
     def test_sheet(self):
         """A sheet from a text, and from Cascade's syntax."""
         examples = os.path.join(self.top, "examples")

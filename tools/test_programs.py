@@ -1,5 +1,5 @@
 #!/usr/bin/env python3
-"""Tests of bin/schedule, bin/order and bin/show as people run them. Run: python3 tools/test_programs.py
+"""Tests of bin/schedule, bin/order, bin/show and bin/compare as people run them. Run: python3 tools/test_programs.py
 
 Those that ask the proved programs are skipped where these are not built, those that ask for packed bytes
 where the library is not. How the programs build what is missing is tried in a small copy, with a stand-in
@@ -9,6 +9,7 @@ for rt.
 import json
 import os
 import pty
+import random
 import shlex
 import shutil
 import signal
@@ -33,7 +34,8 @@ import refusals
 import schedule_text
 import sheetlib
 import showing
-from maps import large
+import side_by_side
+from maps import changed, large
 from places import Problems
 
 CALLS = ("schedule", "order")
@@ -63,9 +65,9 @@ def run(call, *args, root=ROOT, given=b"", **more):
 
 
 def shell(line, *args, root=ROOT, **more):
-    """The same of a line of the shell, in which $schedule and $order are the programs, $1 the first
+    """The same of a line of the shell, in which $schedule, $order and $compare are the programs, $1 the first
     argument."""
-    names = "".join(f"{call}={shlex.quote(os.path.join(root, 'bin', call))}; " for call in CALLS)
+    names = "".join(f"{call}={shlex.quote(os.path.join(root, 'bin', call))}; " for call in (*CALLS, "compare"))
     done = subprocess.run(["sh", "-c", names + line, "sh", *args], capture_output=True, check=False,
                           timeout=120, **more)
     return done.returncode, done.stdout, done.stderr.decode()
@@ -805,6 +807,455 @@ class ShowOptions(Folder):
         self.assertEqual(run("show", "--version")[1].split()[0], b"show")
 
 
+# ---------------------------------------------------------------- side by side
+
+def common_length(a, b):
+    """The length of a longest common subsequence, by the table of all beginnings."""
+    row = [0] * (len(b) + 1)
+    for one in a:
+        before, row = row, [0]
+        for at, other in enumerate(b):
+            row.append(before[at] + 1 if one == other else max(before[at + 1], row[at]))
+    return row[-1]
+
+
+class Rows(unittest.TestCase):
+    """Which lines of two schedules stand in one row, and the rows in two columns."""
+
+    def marked(self, a, b):
+        """The rows as texts: A's line, the mark, B's line."""
+        return [f"{row.a or ''} {row.mark} {row.b or ''}".strip() for row in side_by_side.rows_of(a, b)]
+
+    def test_equal(self):
+        lines = BASE_TEXT.decode().splitlines()
+        self.assertEqual(self.marked(lines, lines), [f"{line} = {line}" for line in lines])
+        self.assertEqual(self.marked([], []), [])
+
+    def test_one_side(self):
+        a, b = ["T a", "T b", "E a 00 f"], ["T b", "T c", "E a 00 f", "E c 00 f"]
+        self.assertEqual(self.marked(a, b), ["T a <", "T b = T b", "> T c", "E a 00 f = E a 00 f", "> E c 00 f"])
+        self.assertEqual(self.marked(a, []), [f"{line} <" for line in a])
+        self.assertEqual(self.marked([], b), [f"> {line}" for line in b])
+
+    def test_changed(self):
+        """Lines of one form and name: R lines by their name, E lines by type and word."""
+        a = ["R a.f 0 f,resource -", "E a 00 f", "R b.f 0 f,resource -", "E b 00 f"]
+        b = ["R a.f 1 f,resource -", "E a 10 f", "R b.g 0 f,resource -", "E b 00 g"]
+        self.assertEqual(self.marked(a, b), [f"{a[0]} | {b[0]}", f"{a[1]} | {b[1]}", f"{a[2]} <", f"{a[3]} <",
+                                             f"> {b[2]}", f"> {b[3]}"])
+        # Of several with one name an equal one is taken first; what is left keeps its order.
+        a, b = [f"R a.f 0 {name},resource -" for name in ("x", "y")], ["R a.f 0 y,resource -", "R a.f 1 z,resource -"]
+        self.assertEqual(self.marked(a, b), [f"{a[0]} <", f"{a[1]} = {b[0]}", f"> {b[1]}"])
+
+    def test_parts(self):
+        """Types stand above items, also where neither has a line in common."""
+        self.assertEqual(self.marked(["T a", "E a 00 f"], ["T b", "E b 00 f"]), ["T a <", "> T b", "E a 00 f <", "> E b 00 f"])
+
+    def test_moved(self):
+        """A type at another place has two rows."""
+        self.assertEqual(self.marked(["T a", "T b", "T c"], ["T b", "T c", "T a"]),
+                         ["T a <", "T b = T b", "T c = T c", "> T a"])
+
+    def test_repeated(self):
+        """Lines that stand several times, as in a schedule that is not ours."""
+        self.assertEqual(self.marked(["E a 00 f"] * 3, ["E a 00 f"] * 2), ["E a 00 f = E a 00 f"] * 2 + ["E a 00 f <"])
+
+    def test_refused(self):
+        """The lines of a refusal have rows of their own, above those of a schedule."""
+        a, b = ["refused 8", "D 2 a a -", "more"], ["T a"]
+        self.assertEqual(self.marked(a, b), [f"{line} <" for line in a] + ["> T a"])
+        self.assertEqual(self.marked(b, a), [f"> {line}" for line in a] + ["T a <"])
+        self.assertEqual(self.marked(a, a), [f"{line} <" for line in a] + [f"> {line}" for line in a])
+
+    def test_longest(self):
+        """As many equal lines in one row as can be; down a column stand the lines of its schedule."""
+        rng = random.Random(5)
+        for _ in range(300):
+            a, b = ([f"R a.{name} {rng.randrange(2)} f,resource -" for name in rng.sample("fghijkl", rng.randrange(8))]
+                    for _ in range(2))
+            rows = side_by_side.rows_of(a, b)
+            self.assertEqual(sum(row.mark == side_by_side.SAME for row in rows), common_length(a, b), (a, b))
+            self.assertEqual(([row.a for row in rows if row.a], [row.b for row in rows if row.b]), (a, b))
+            for row in rows:
+                mark = ">" if row.a is None else "<" if row.b is None else "=" if row.a == row.b else "|"
+                self.assertEqual(row.mark, mark)
+
+    def test_columns(self):
+        rows = side_by_side.rows_of(["T a", "E a 00 f"], ["T a", "E a 00 g"])
+        self.assertEqual(list(side_by_side.laid_out(rows)), ["T a        T a", "E a 00 f <", "         > E a 00 g"])
+        rows = side_by_side.rows_of([], ["T a"])
+        self.assertEqual(list(side_by_side.laid_out(rows)), [" > T a"])
+        self.assertEqual(list(side_by_side.laid_out([])), [])
+
+    def test_folded(self):
+        """No letter of a line is lost, and no piece is too wide."""
+        line = "R a.f 0 one,two," + "x" * 40 + ",resource makelist,derive:1"
+        for width in range(8, len(line) + 2):
+            pieces = side_by_side.folded(line, width)
+            self.assertLessEqual(max(map(len, pieces)), width)
+            self.assertEqual(pieces[0] + "".join(piece.removeprefix("  ") for piece in pieces[1:]), line)
+        self.assertEqual(side_by_side.folded(line, 20), ["R a.f 0 one,two,", "  " + "x" * 18, "  " + "x" * 18, "  xxxx,resource ",
+                                                         "  makelist,derive:1"])
+        self.assertEqual(side_by_side.folded(line, len(line)), [line])
+
+    def test_widths(self):
+        """What one column does not need is the other's."""
+        rows = side_by_side.rows_of(["E a 00 f", "R a.f 0 one,two,three,resource -"], ["E a 00 f"])
+        self.assertEqual(list(side_by_side.laid_out(rows, 43)), [
+            "E a 00 f                           E a 00 f", "R a.f 0 one,two,three,resource - <"])
+        self.assertEqual(list(side_by_side.laid_out(rows, 32)), [
+            "E a 00 f                E a 00 f", "R a.f 0 one,two,      <", "  three,resource -"])
+        for most in range(20, 60):
+            lines = list(side_by_side.laid_out(side_by_side.rows_of(["T " + "a" * 31], ["T " + "b" * 31]), most))
+            self.assertLessEqual(max(map(len, lines)), most)
+
+    def test_largest(self):
+        """Schedules of 12,288 lines that have every second one in common, and the most repeats, take no time."""
+        lines = [f"R a.f{at} 0 f,resource -" for at in range(12288)]
+        other = [line.replace("-", "makelist") if at % 2 else line for at, line in enumerate(lines)]
+        began = time.monotonic()
+        marks = [row.mark for row in side_by_side.rows_of(lines, other)]
+        self.assertEqual(marks, ["=", "|"] * 6144)
+        side_by_side.rows_of(lines, lines[::-1])
+        side_by_side.rows_of(lines[:1] * 65535, lines[:1] * 65534)
+        self.assertLess(time.monotonic() - began, 10)
+
+
+POOL, NEXT, RELISTED = (os.path.join(EXAMPLES, f"pool{name}.sheet") for name in ("", "-next", "-relisted"))
+
+
+@built
+class Compare(Folder):
+    """bin/compare: the schedules of two sheets."""
+
+    A = "domain base\n associate file\nresource file : resource\nresource resource"
+    B = "domain base virtual\n associate file\ndomain next : base\nresource file : resource\nresource resource"
+    ROWS = [("T base", " ", "T base"), ("T resource", " ", "T resource"), ("T file", " ", "T file"), ("", ">", "T next"),
+            ("R base.file 0 file,resource -", " ", "R base.file 0 file,resource -"),
+            ("E base 00 file", "|", "E base 10 file"),
+            ("", ">", "R next.file 0 base.file,resource -"), ("", ">", "E next 00 file")]
+
+    def setUp(self):
+        super().setUp()
+        self.a, self.b = self.sheet("a", self.A), self.sheet("b", self.B)
+
+    def sheet(self, name, text):
+        """The name of a sheet in the folder, which is made from a text."""
+        self.write(name, sheetlib.sheet_of(text))
+        return name
+
+    def compare(self, *args, **more):
+        """Runs the program in the folder."""
+        return run("compare", *args, **{"cwd": self.folder, **more})
+
+    def printed(self, rows, names=("a", "b")):
+        """What is printed for rows."""
+        rows = [(f"== {names[0]}", " ", f"== {names[1]}"), *rows]
+        width = max(len(a) for a, _, _ in rows)
+        return "".join(f"{a:{width}} {mark} {b}".rstrip() + "\n" for a, mark, b in rows).encode()
+
+    def test_same(self):
+        rows = [(line, " ", line) for line in BASE_TEXT.decode().splitlines()]
+        self.assertEqual(self.compare("base.sheet", "base.sheet", cwd=EXAMPLES),
+                         (0, self.printed(rows, ["base.sheet"] * 2), ""))
+        none = self.sheet("none", "")
+        self.assertEqual(self.compare(none, none), (0, self.printed([], [none] * 2), ""))
+
+    def test_different(self):
+        self.assertEqual(self.compare("a", "b"), (1, self.printed(self.ROWS), ""))
+        turned = [(b, {"<": ">", ">": "<"}.get(mark, mark), a) for a, mark, b in self.ROWS]
+        self.assertEqual(self.compare("b", "a"), (1, self.printed(turned, "ba"), ""))
+        marked = [row for row in self.ROWS if row[1] != " "]
+        self.assertEqual(self.compare("--differences", "a", "b"), (1, self.printed(marked), ""))
+        self.assertEqual(self.compare("--differences", "a", "a"), (0, b"", ""))
+
+    def test_relisted(self):
+        """Records and parents in any order give the same schedule."""
+        self.assertEqual(run("compare", "--differences", POOL, RELISTED), (0, b"", ""))
+        self.assertEqual(run("compare", "-q", POOL, NEXT), (1, b"", ""))
+        sheets = []
+        for path in (POOL, RELISTED):
+            with open(path, "rb") as source:
+                sheets.append(source.read())
+        self.assertEqual(*map(packed_by_model, sheets))
+        for seed in range(5):
+            other = changed.relisted(random.Random(seed), sheetlib.decode(sheets[0]))
+            path = self.write("relisted", sheetlib.encode(other))
+            self.assertEqual(run("compare", "-q", POOL, path), (0, b"", ""))
+
+    def test_other_words(self):
+        """The lines decide: a word that no line has changes word numbers alone."""
+        more = self.sheet("more", "words a_word\n" + self.A)
+        self.assertNotEqual(*(packed_by_model(self.read(name))[0] for name in ("a", more)))
+        self.assertEqual(self.compare("--differences", "a", more), (0, b"", ""))
+
+    def test_example(self):
+        """The stored comparison of the pool controller with its next model."""
+        with open(os.path.join(EXAMPLES, "pool.compare.txt"), "rb") as source:
+            stored = source.read()
+        self.assertEqual(run("compare", "--differences", "examples/pool.sheet", "examples/pool-next.sheet", cwd=ROOT),
+                         (1, stored, ""))
+
+    def test_cases(self):
+        """What is printed for each listed case, beside itself and beside the next: down a column stand its lines, and
+        no row has a mark exactly if a schedule stands beside the same."""
+        program = proved.Each(building.program(ROOT, "schedule").path)
+        texts = [program.text(sheet).decode() for sheet in listed_sheets().values()]
+        for one, other in zip(texts, texts[1:] + texts[:1]):
+            for a, b in ((one, one), (one, other)):
+                rows = side_by_side.rows_of(a.splitlines(), b.splitlines())
+                self.assertEqual("".join(f"{row.a}\n" for row in rows if row.a), a)
+                self.assertEqual("".join(f"{row.b}\n" for row in rows if row.b), b)
+                self.assertEqual(all(row.mark == side_by_side.SAME for row in rows), a == b and not a.startswith("refused"))
+
+    def test_refused(self):
+        """A sheet without a schedule: status 1, whatever the other is."""
+        loop, said = self.sheet("loop", "domain a : a"), "there is no schedule to compare: refused"
+        line = f"compare: loop: {said} 8: the types have no order\n"
+        refusal = [("refused 8", "<", ""), ("D 2 a a -", "<", "")]
+        rows = [("", ">", line) for _, _, line in self.ROWS if line]
+        self.assertEqual(self.compare(loop, "b"), (1, self.printed(refusal + rows, (loop, "b")), line))
+        again = [("", ">", "refused 8"), ("", ">", "D 2 a a -")]
+        self.assertEqual(self.compare("-", loop, given=self.read(loop)),
+                         (1, self.printed(refusal + again, ("-", loop)), line.replace("loop:", "standard input:") + line))
+        self.assertEqual(self.compare("--quiet", "a", loop), (1, b"", line))
+        text = self.write("text", b"domain a\n")
+        self.assertEqual(self.compare("-q", "a", text)[2], f"compare: {text}: {said} 4: {printed.TEXT_AS_SHEET}\n")
+
+    def test_too_long(self):
+        """What bin/schedule does not print: where to go is said."""
+        self.write("crowd", sheetlib.encode(large.MAPS["crowd"]()))
+        status, out, error = self.compare("crowd", "a")
+        self.assertEqual((status, out.splitlines()[1]), (1, b"refused 10 <"))
+        self.assertEqual(error, f"compare: crowd: there is no schedule to compare: refused 10: {refusals.meaning_of(10)}; "
+                                "bin/schedule --packed writes it, and --packed compares what it has written\n")
+
+    def test_standard_input(self):
+        for args in (["a", "-"], ["--", "a", "-"]):
+            self.assertEqual(self.compare(*args, given=self.read("b")), (1, self.printed(self.ROWS, "a-"), ""))
+        self.assertEqual(self.compare("-", "b", given=self.read("a")), (1, self.printed(self.ROWS, "-b"), ""))
+        with open(self.path("a"), "rb") as source:
+            self.assertEqual(self.compare("-q", "-", "a", stdin=source), (0, b"", ""))
+
+    def test_quiet(self):
+        for option in ("-q", "--quiet"):
+            self.assertEqual(self.compare(option, "a", "a"), (0, b"", ""))
+            self.assertEqual(self.compare(option, "a", "b"), (1, b"", ""))
+
+    def test_json(self):
+        status, out, error = self.compare("--json", "a", "b")
+        rows = [{"mark": mark.replace(" ", "="), "a": a or None, "b": b or None} for a, mark, b in self.ROWS]
+        head = {"files": ["a", "b"], "call": "compare"}
+        self.assertEqual((status, error, out.count(b"\n")), (1, "", 1))
+        self.assertEqual(json.loads(out), {**head, "status": 1, "same": False, "rows": rows})
+        self.assertEqual(json.loads(self.compare("--json", "--differences", "a", "b")[1])["rows"],
+                         [row for row in rows if row["mark"] != "="])
+        value = json.loads(self.compare("--json", "a", "a")[1])
+        self.assertEqual((value["status"], value["same"], "refusals" in value), (0, True, False))
+        self.sheet("loop", "domain a : a")
+        value = json.loads(self.compare("--json", "a", "loop")[1])
+        other = json.loads(self.compare("--json", "loop", "loop")[1])
+        refusal = json.loads(run("schedule", "--json", "loop", cwd=self.folder)[1])["refusal"]
+        self.assertEqual((value["status"], value["same"], value["refusals"]), (1, False, [None, refusal]))
+        self.assertEqual((other["status"], other["same"], other["refusals"]), (1, False, [refusal, refusal]))
+        status, out, error = self.compare("--json", "gone", "a")
+        self.assertEqual((status, error), (2, "compare: gone: no such file or directory\n"))
+        self.assertEqual(json.loads(out), {"files": ["gone", "a"], "call": "compare", "status": 2,
+                                           "trouble": "gone: no such file or directory"})
+
+    def test_width(self):
+        """Folded rows have no more columns than that, and all that is printed without."""
+        whole = self.compare("a", "b")[1]
+        self.assertEqual(self.compare("--width", "200", "a", "b")[1], whole)
+        for width in (20, 33, 64):
+            status, out, _ = self.compare("--width", str(width), "a", "b")
+            self.assertEqual((status, max(map(len, out.splitlines())) <= width), (1, True))
+            self.assertEqual(sorted(b"".join(out.split())), sorted(b"".join(whole.split())))
+
+    def test_terminal(self):
+        """A terminal's width is taken; the last line says what was found."""
+        words = [os.path.join(ROOT, "bin", "compare")]
+        status, shown = at_terminal(words + ["a", "b"], cwd=self.folder, env={**os.environ, "COLUMNS": "40"})
+        *rows, last = shown.splitlines()
+        self.assertEqual((status, max(map(len, rows)), last), (1, 40, "4 of 8 rows differ"))
+        status, shown = at_terminal(words + ["--differences", "a", "a"], cwd=self.folder)
+        self.assertEqual((status, shown), (0, "the schedules are the same\n"))
+        self.assertEqual(at_terminal(words + ["-q", "a", "b"], cwd=self.folder), (1, ""))
+        value = at_terminal(words + ["--json", "a", "b"], cwd=self.folder)[1]
+        self.assertEqual(json.loads(value)["status"], 1)
+
+    def test_names(self):
+        """Names that look like options, that are no text, that hold a line feed; by a link, from another folder."""
+        self.sheet("-q", self.A)
+        self.assertEqual(self.compare("--", "-q", "a"),
+                         (0, self.printed([(a, " ", a) for a in packed_by_model(self.read("a"))[1].decode().splitlines()],
+                                          ("-q", "a")), ""))
+        odd = os.path.join(os.fsencode(self.folder), b"\xff\n")
+        shutil.copy(self.path("a"), odd)
+        self.assertTrue(self.compare(odd, "a")[1].startswith(b"== " + os.fsencode(self.folder) + b"/\xff\\n   == a\nT base"))
+        os.symlink(os.path.join(ROOT, "bin", "compare"), self.path("link"))
+        done = subprocess.run([self.path("link"), self.path("a"), self.path("b"), "-q"], cwd="/", check=False)
+        self.assertEqual(done.returncode, 1)
+
+    def test_outputs(self):
+        """Outputs that are full or closed, or that nobody reads."""
+        for end, said in (("> /dev/full", "no space left on device"), (">&-", "is closed")):
+            line = 'exec $compare "$@" ' + end
+            for args in (["a", "b"], ["--json", "a", "b"], ["--help"]):
+                self.trouble(shell(line, *args, cwd=self.folder), f"compare: standard output: {said}")
+            self.assertEqual(shell(line, "-q", "a", "b", cwd=self.folder), (1, b"", ""))
+        self.assertEqual(shell("exec $compare a b 2>&-", cwd=self.folder), (1, self.printed(self.ROWS), ""))
+        self.trouble(shell("exec $compare a - <&-", cwd=self.folder), "compare: standard input: is closed")
+        ours, theirs = os.pipe()
+        os.close(ours)
+        status, _, error = self.compare("a", "b", stdout=theirs)
+        os.close(theirs)
+        self.assertEqual((status, error), (-signal.SIGPIPE, ""))
+
+
+@shows
+class ComparePacked(Folder):
+    """bin/compare --packed: two packed schedules."""
+
+    PACKED = Show.PACKED
+    NUMBERS = Show.NUMBERS.decode().splitlines()
+
+    def setUp(self):
+        super().setUp()
+        self.sheet = shutil.copy(BASE, self.path("base.sheet"))
+        self.write("a", self.PACKED)
+        self.write("b", packed_lines(b"T 0\nT 2\nT 1\nR 0.1 0 1,2 -\nE 0 00 1\n", 4))
+
+    def rows(self, *args, **more):
+        """Status, and the rows of --json."""
+        status, out, _ = run("compare", "--packed", "--json", *args, **{"cwd": self.folder, **more})
+        return status, [(row["a"], row["mark"], row["b"]) for row in json.loads(out)["rows"]]
+
+    def test_one_sheet(self):
+        lines = BASE_TEXT.decode().splitlines()
+        rows = [(line, "=", line) for line in lines]
+        self.assertEqual(self.rows("base.sheet", "a", "a"), (0, rows))
+        rows[3] = (lines[3], "|", "R base.file 0 file,resource -")
+        self.assertEqual(self.rows("base.sheet", "a", "b"), (1, rows))
+
+    def test_numbers(self):
+        rows = [(line, "=", line) for line in self.NUMBERS]
+        self.assertEqual(self.rows("-w", "4", "a", "a"), (0, rows))
+        rows[3] = (self.NUMBERS[3], "|", "R 0.1 0 1,2 -")
+        self.assertEqual(self.rows("a", "b", "-w4"), (1, rows))
+        status, out, error = run("compare", "--packed", "-w", "4", "--differences", "a", "b", cwd=self.folder)
+        rows = b"== a                   == b\nR 0.1 0 1,2 makelist | R 0.1 0 1,2 -\n"
+        self.assertEqual((status, out, error), (1, rows, ""))
+
+    def test_two_sheets(self):
+        """Each in its own words: other word numbers, and the same lines."""
+        with open(os.path.join(EXAMPLES, "base.txt"), encoding="ascii") as source:
+            sheet = sheetlib.sheet_of("words a_word\n" + source.read())
+        self.write("more.sheet", sheet)
+        self.write("c", packed_by_model(sheet)[0])
+        self.assertNotEqual(self.read("c"), self.PACKED)
+        self.assertEqual(self.rows("base.sheet", "a", "more.sheet", "c")[0], 0)
+        self.assertEqual(self.rows("base.sheet", "b", "more.sheet", "c")[0], 1)
+        self.assertEqual(self.rows("-w", "5", "a", "c")[0], 1)
+
+    def test_standard_input(self):
+        """Any one of the files."""
+        for args in (["base.sheet", "a", "a"], ["base.sheet", "a", "base.sheet", "a"], ["-w", "4", "a", "a"]):
+            for at, name in enumerate(args):
+                if name in ("a", "base.sheet"):
+                    given = [*args[:at], "-", *args[at + 1:]]
+                    self.assertEqual(run("compare", "-q", "--packed", *given, cwd=self.folder, given=self.read(name)),
+                                     (0, b"", ""), given)
+
+    def test_refused(self):
+        """Damaged bytes, as bin/show refuses them."""
+        for data, number in ((self.PACKED[:-1], 11), (b"", 11), (self.PACKED + b"\0", 12), (b"\xff\0" * 8, 12)):
+            self.write("c", data)
+            status, out, error = run("compare", "--packed", "-w", "4", "a", "c", cwd=self.folder)
+            self.assertEqual((status, out.splitlines()[1].split()), (1, [b">", b"refused", b"%d" % number]))
+            self.assertEqual(error, f"compare: c: there is no schedule to compare: refused {number}: "
+                                    f"{refusals.meaning_of(number)}\n")
+            status, out, error = run("compare", "--packed", "--json", "base.sheet", "c", "c", cwd=self.folder)
+            value = json.loads(out)
+            self.assertEqual((status, value["same"], error.count("\n")), (1, False, 2))
+            self.assertEqual([refusal["number"] for refusal in value["refusals"]], [number] * 2)
+        self.write("c", BASE_TEXT)
+        self.assertIn(showing.TEXT_AS_SCHEDULE, run("compare", "--packed", "-q", "base.sheet", "a", "c", cwd=self.folder)[2])
+
+    def test_sheet_refused(self):
+        """Words are needed."""
+        self.write("c", b"")
+        for args in (["c", "a", "b"], ["base.sheet", "a", "c", "b"]):
+            self.trouble(run("compare", "--packed", *args, cwd=self.folder),
+                         f"compare: c: its words are needed, and the sheet is refused with 3: {refusals.meaning_of(3)}")
+
+    def test_troubles(self):
+        self.write("long", bytes((1 << 18) + 1))
+        for args, said in [(["base.sheet", "a", "gone"], "gone: no such file or directory"),
+                           (["gone", "a", "b"], "gone: no such file or directory"),
+                           (["", "a", "b"], "'': no such file or directory"),
+                           (["-w", "4", "a", "."], ".: is a directory"),
+                           (["-w", "4", "a", "long"], "long: longer than 262,144 bytes, which the program takes")]:
+            self.trouble(run("compare", "--packed", *args, cwd=self.folder), f"compare: {said}")
+
+    def test_largest(self):
+        """The largest schedule found, of 12,288 lines, beside one in which every thousandth differs: some seconds."""
+        crowd = sheetlib.encode(large.MAPS["crowd"]())
+        answer, width = model.schedule(crowd, bytes(1 << 18), bytes(1536)), len(model.sheet_words(crowd))
+        self.write("a", answer.listing[:answer.size])
+        lines = run("show", "-w", str(width), self.path("a"))[1].decode().splitlines()
+        for at in range(64, len(lines), 1000):
+            lines[at] = lines[at].replace(" 0 ", " 1 ").replace(" 00 ", " 11 ")
+        self.write("b", packed_lines("\n".join(lines).encode(), width))
+        began = time.monotonic()
+        for words in ([self.write("crowd.sheet", crowd)], ["-w", str(width)]):
+            status, out, error = run("compare", "--packed", *words, "a", "b", cwd=self.folder)
+            self.assertEqual((status, error, out.count(b"\n")), (1, "", 1 + len(lines)))
+            self.assertEqual(out.count(b" | "), len(range(64, len(lines), 1000)))
+        self.assertLess(time.monotonic() - began, 10)
+        self.assertEqual(run("compare", "--packed", "-q", "-w", str(width), "a", "a", cwd=self.folder), (0, b"", ""))
+
+
+class CompareOptions(Folder):
+    """Options of bin/compare that are not known, or make no sense together; --help and --version."""
+
+    def test_refused(self):
+        packed = "--packed needs a sheet and two schedules, or two of each, or -w W and two schedules; --help has more"
+        beside = "-w W takes the place of sheets: two files, the schedules, are taken beside it"
+        for args, said in [
+                ([], "two sheets are needed; --help has more"), (["a"], "two sheets are needed; --help has more"),
+                (["a", "b", "c"], "two sheets are needed; --help has more"), (["-", "-"], "standard input is given twice"),
+                (["--packed", "a", "b"], packed), (["--packed", *"abcde"], packed), (["--packed", "-w", "4", "a"], beside),
+                (["--packed", "-w", "4", *"abc"], beside), (["-w", "4", "a", "b"], "-w is for packed schedules, with --packed"),
+                (["--packed", "-w=-1", "a", "b"], "-w -1: is no number of words"),
+                (["--packed", "-w", "4", "-w", "4", "a", "b"], "-w is given twice"),
+                (["--width", "19", "a", "b"], "--width 19: at least 20 columns are needed"),
+                (["--width", "x", "a", "b"], "argument --width: invalid int value: 'x'; --help has the options"),
+                (["--width", "80", "--width", "80", "a", "b"], "--width is given twice"),
+                (["--json", "--width", "80", "a", "b"], "--width does nothing with --json, which has no columns"),
+                (["-q", "--json", "a", "b"], "--json does nothing with --quiet, which prints nothing"),
+                (["-q", "--differences", "a", "b"], "--differences does nothing with --quiet, which prints nothing"),
+                (["-q", "--width", "80", "a", "b"], "--width does nothing with --quiet, which prints nothing"),
+                (["--brief", "a", "b"], "unrecognized arguments: --brief; --help has the options"),
+                (["gone", BASE], "gone: no such file or directory"), ([BASE, "gone"], "gone: no such file or directory"),
+                ([BASE, "."], ".: is a directory")]:
+            self.trouble(run("compare", *args, cwd=self.folder), f"compare: {said}")
+
+    def test_help(self):
+        for args in (["-h"], ["gone", "--help"]):
+            status, out, error = run("compare", *args)
+            self.assertEqual((status, error), (0, ""))
+            self.assertTrue(out.decode().startswith("Usage: compare "))
+        numbers = [f"{number:2}  {said}" for number, (said, _) in refusals.REFUSALS.items()]
+        for part in ["--packed", "-w W", "--differences", "-q, --quiet", "--width N", "at least 20", "--json",
+                     "Status: 0 the schedules are the same", *numbers]:
+            self.assertIn(part, out.decode())
+        self.assertLess(max(map(len, out.decode().splitlines())), 100)
+
+    def test_version(self):
+        self.assertEqual(run("compare", "--version")[1].split()[0], b"compare")
+
+
 class Examples(unittest.TestCase):
     """The answers that stand beside the sheets in examples/: NAME.CALL.txt is what the program prints,
     NAME.CALL.json the object, NAME.CALL the packed bytes."""
@@ -955,6 +1406,26 @@ class Building(Folder):
         status, out, error = self.ask("-", call="explain", given=b"domain stand_in")
         self.assertEqual((status, out, error.splitlines()[-1].partition(";")[0]),
                          (2, b"", "explain: low NOT PROVED (exit 1, 0 s)"))
+
+    def test_compare(self):
+        """bin/compare has the programs of bin/schedule and bin/show, built where they are missing; files come first."""
+        path = self.write("a", b"")
+        self.trouble(self.ask(path, "gone", call="compare"), "compare: gone: no such file or directory")
+        self.assertEqual(self.runs(), [])
+        self.write("crates.txt", self.read("crates.txt") + b"show: low io\n")
+        self.write("crates/show/src/main.rt", b"fn\n")
+        self.age()
+        for args, crate in ([path, path], "schedule"), (["--packed", "-w", "2", path, path], "show"):
+            status, out, error = self.ask("--json", *args, call="compare")
+            self.assertEqual((status, json.loads(out)["rows"]), (0, [{"mark": "=", "a": "T stand_in", "b": "T stand_in"}]))
+            self.assertTrue(error.startswith("compare: the program is not built: rt proves"), error)
+            self.assertEqual(self.runs(), [f"check {crate}"])
+            self.assertEqual((self.ask("-q", *args, call="compare"), self.runs()), ((0, b"", ""), []))
+        os.utime(self.path("crates/low/src/lib.rt"))
+        self.write("kit/fails", b"")
+        status, out, error = self.ask(path, path, call="compare")
+        self.assertEqual((status, out, error.splitlines()[-1].partition(";")[0]),
+                         (2, b"", "compare: low NOT PROVED (exit 1, 0 s)"))
 
     def test_newer(self):
         """Each source that is newer, also one that is gone; rt is asked once for each change."""
