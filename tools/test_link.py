@@ -765,7 +765,7 @@ class Tables(Folder):
         self.assertTrue(out.decode().endswith("written: target/fuzz/order.md\n"))
         with open(os.path.join(copy, "target", "fuzz", "order.md"), encoding="utf-8") as source:
             row = source.read().splitlines()[-1]
-        self.assertRegex(row, r"^\| order, canaries and guard pages \| 757 \|.*\| 0 \|$")
+        self.assertRegex(row, r"^\| order, canaries and guard pages \| 761 \|.*\| 0 \|$")
         with open(page, encoding="utf-8") as source:
             self.assertEqual(source.read(), before)
         self.assertEqual(ran([*words, "--write"])[0], 0)

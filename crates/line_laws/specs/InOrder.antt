@@ -25,7 +25,7 @@ use Rattle.line_laws.specs.Declarations.{one-type, type-of, declarations
 use Rattle.line_laws.specs.Making.{makes-are}
 use Rattle.line_laws.specs.Associating.{above, made-is}
 use Rattle.line_laws.specs.Lines.{owns, inherits, own-of, inherited-of, line-of, accepted-declared, items-are-lines}
-use Rattle.line_laws.specs.Once.{isMade, at-key, for-type, classes-ascend}
+use Rattle.line_laws.specs.Once.{isMade, isOwn, at-key, for-type, classes-ascend}
 use Rattle.line_laws.specs.Identical.{sameSource, same-source, source-self}
 
 -- ---- lists of names
@@ -45,7 +45,7 @@ names-asymmetric (x ∷ k) (y ∷ l) h g =
     h
 
 -- where all behind the first name is the same, the first names decide
-pub names-by-first : (a b : Name) (l : List Name) → NamesBefore (a ∷ l) (b ∷ l) ↔ (nameBefore a b ≡ true)
+names-by-first : (a b : Name) (l : List Name) → NamesBefore (a ∷ l) (b ∷ l) ↔ (nameBefore a b ≡ true)
 names-by-first a b l = (⊎-elim (λ p. p) (λ p. absurd (names-asymmetric l l (p .1) (p .1))), λ p. inl p)
 
 -- ---- own resources
@@ -84,10 +84,6 @@ one-source s ok a T U p q x t u h g =
       by (sameSource p q) (same-source p q)
           (λ f. absurd (a T t (Refused.identical p q x (λ c. never (subst (λ b. sameSource p b ≡ true) c (source-self p)) f) h k))),
     )
-
-abbrev isOwn : Source → Bool
-isOwn (Source.own i j) = true
-isOwn (Source.inherited r) = false
 
 module _ (s : Sheet) (ok : Readable s) (a : Accepted s) where
   not-both : {C : Type 0} {T U : TypeInfo} {i j r : ℕ} {x : Item} → In T (s .types) → In U (s .types) → OwnMaking s T i j x → InheritedMaking s U r x → C

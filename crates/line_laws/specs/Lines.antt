@@ -4,7 +4,7 @@ use mathlib.Core.List.{List, [], _∷_, map, List·Memᴰ·head, List·Memᴰ·e
 use mathlib.Core.Logic.{⊎-elim, _↔_}
 use mathlib.Core.Path.{_≡_, refl, sym, ap, ap₂, _∙_, subst}
 use Prim.Native.Nat.{ℕ}
-use Rattle.lists.specs.Lists.{In, null, filter, each}
+use Rattle.lists.specs.Lists.{In, null, filter}
 use Rattle.lists.specs.Tests.{by, filter-in, filter-of, each-in, each-of}
 use Rattle.lists.specs.Strict.{asymmetric}
 use Rattle.lists.specs.Sorting.{sorted-unique, sort-is}

@@ -103,7 +103,7 @@ abbrev pub secondPlace : Source → ℕ
 secondPlace (Source.own i j) = j
 secondPlace (Source.inherited r) = zero
 
-abbrev isOwn : Source → Bool
+abbrev pub isOwn : Source → Bool
 isOwn (Source.own i j) = true
 isOwn (Source.inherited r) = false
 
