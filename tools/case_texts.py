@@ -201,13 +201,14 @@ SYNTHESIS = {
     "ownSorted": case("own resources by ascending class name, whichever annotation gives them",
                       "resource f\nresource d.f\nresource g\ndomain a\n  associate f\n  associate d.f g", **SCHEDULE),
     "ownBeforeInherited": case("equal parents: the own resource goes before the inherited one, which the parents do not tell",
-                               "resource p.f\nresource q.f\n  mark makelist\ndomain p\n  nest q.f\ndomain t : p\n  associate p.f", **SCHEDULE),
+                               "resource p.f\nresource q.f\n  mark makelist\ndomain p\n  nest q.f\n"
+                               "domain t : p\n  associate p.f", **SCHEDULE),
     "wordsAndDoms": case("two words, two doms and an inherited word in one type",
                          "resource f\nresource d.f\nresource g\nresource z.g\nresource h\ndomain p\n  associate h g\n"
                          "domain t : p\n  associate f\n  associate z.g d.f", **SCHEDULE),
     "twelveOwn": case("as many own resources of one word as there can be, by ascending class name",
-                      "resource f\n" + "".join(f"resource {d}.f\nresource w{d}\n" for d in "abcdeghijkl") + "domain t\n  associate f"
-                      + "".join(f"\n  associate {d}.f w{d}" for d in "lkjihgedcba"), **SCHEDULE),
+                      "resource f\n" + "".join(f"resource {d}.f\nresource w{d}\n" for d in "abcdeghijkl")
+                      + "domain t\n  associate f" + "".join(f"\n  associate {d}.f w{d}" for d in "lkjihgedcba"), **SCHEDULE),
     "itemsByName": case("items go by the names of the types, which is not the order of the types",
                         "resource f\ndomain a : c\ndomain b : a\ndomain c\n  associate f", **SCHEDULE),
     "virtual": case("virtual: the type and all its classes", "resource f virtual\nresource g\ndomain a virtual trait\n  associate f g\ndomain b\n  associate f", **SCHEDULE),

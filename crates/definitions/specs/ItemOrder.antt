@@ -1,5 +1,5 @@
 -- The order of the items of a schedule, by where each line comes from (FORMAT 5.3). Nothing here computes but the comparison of
--- names.
+-- names, and what is read off an item or a part.
 use mathlib.Core.Bool.{true}
 use mathlib.Core.List.{List, [], _∷_}
 use mathlib.Core.Logic.{_⊎_, _↔_}
@@ -33,7 +33,7 @@ parentsIn (extension n v t r) = []
 pub data Part : Type 0 where
   own inherited line : Part
 
--- Their order: the own resources, then the inherited one, then the extension line (FORMAT 5.3).
+-- Their order: the own resources, behind them the inherited one, and last the extension line (FORMAT 5.3).
 abbrev pub rank : Part → ℕ
 rank Part.own = 0
 rank Part.inherited = 1

@@ -26,7 +26,7 @@ module _ (s : Sheet) where
   by-word : ItemBefore s (line (1 ∷ []) 3) (made (1 ∷ []) 7 [])
   by-word = ItemBefore.word refl (omega arith)
 
-  -- within a word the own resources, then the inherited one, then the extension line, whatever the parents
+  -- within a word by part, whatever the parents
   module _ (ps qs : List Name) where
     own-inherited : PartOf s (made (1 ∷ []) 3 ps) Part.own → PartOf s (made (1 ∷ []) 3 qs) Part.inherited
         → ItemBefore s (made (1 ∷ []) 3 ps) (made (1 ∷ []) 3 qs)

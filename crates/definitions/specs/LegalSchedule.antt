@@ -69,7 +69,7 @@ pub record LegalOrder (W : ℕ) (ns : List Name) : Type 0 where
   pub width : LegalWidth W
   pub names : LegalNames W ns
 
--- a schedule, its items in any order (FORMAT 6.1)
+-- a schedule, its items in any order (FORMAT 6.1, 12.5)
 pub record LegalSchedule (W : ℕ) (s : Schedule) : Type 0 where
   pub width : LegalWidth W
   pub names : LegalNames W (s .order)

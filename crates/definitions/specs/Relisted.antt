@@ -74,7 +74,7 @@ pub record RelistedInputs (i j : Input) : Type 0 where
   pub rightCompared : Compared j
 
 -- What both answers have in common, as a caller sees it: number and size; and where both accept, the bytes written, whatever
--- stood in the lent listings, hence the order and the lines (FORMAT 5.5).
+-- stood in the lent listings, hence the order of the types, and the lines in theirs (FORMAT 5.5).
 pub record Alike (i j : Input) : Type 0 where
   pub number : outcome i .answer .number ≡ outcome j .answer .number
   pub size : outcome i .answer .size ≡ outcome j .answer .size

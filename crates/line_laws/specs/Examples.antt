@@ -1,7 +1,7 @@
 -- For each theorem a concrete sheet, or two, that meet what it asks: no hypothesis here is empty.
 use mathlib.Core.Bool.{true, false, true≢false}
 use mathlib.Core.List.{List, [], _∷_, List·Memᴰ·head, List·Memᴰ·tail, List·Memᴰ·not-nil, List·Memᴰ·eq-of-singleton, head-eq-of-cons-eq, List·Permᴰ·swap}
-use mathlib.Core.Logic.{_↔_}
+use mathlib.Core.Logic.{_⊎_, _↔_}
 use mathlib.Core.Path.{_≡_, refl, sym, ap, _∙_, subst}
 use Prim.Native.Nat.{ℕ, _+_, _*_, _≤_}
 use native.Mathlib.Omega.{arith}
@@ -10,14 +10,14 @@ use Rattle.lists.specs.Lists.{In, repeats, each, setOf}
 use Rattle.lists.specs.Tests.{never}
 use Rattle.lists.specs.Sorting.{Distinct}
 use Rattle.definitions.specs.Records.{Name, Resource, associate, nestAssociate, Annotation, domain, resource, Mark, makelistMark, deriveMark, TypeInfo, Sheet, Item, synthesized, extension}
-use Rattle.definitions.specs.Comparisons.{domBefore}
+use Rattle.definitions.specs.Comparisons.{nameBefore, domBefore}
 use Rattle.definitions.specs.Checks.{resourceBytes, selfBytes}
 use Rattle.definitions.specs.Map.{typeMapOf, lineTypeOf}
 use Rattle.definitions.specs.Making.{sameItem}
 use Rattle.definitions.specs.Items.{parentsOf, ancestors, domsAbove, itemsOf, itemsFor}
 use Rattle.definitions.specs.Ancestry.{Ancestor, direct, further}
-use Rattle.definitions.specs.Lines.{Making, LineOf, Refused}
-use Rattle.definitions.specs.ItemOrder.{parentsIn, ItemBefore, InOrder}
+use Rattle.definitions.specs.Lines.{OwnMaking, Source, Making, LineOf, Refused}
+use Rattle.definitions.specs.ItemOrder.{parentsIn, Part, PartOf, NamesBefore, ItemBefore, InOrder}
 use Rattle.definitions.specs.Relisted.{end, and, Relisted}
 use Rattle.definitions.specs.Bits.{bitsOf}
 use Rattle.definitions.specs.Parse.{done}
@@ -34,7 +34,7 @@ use Rattle.line_laws.specs.Once.{isMade, items-once}
 use Rattle.line_laws.specs.SameItem.{once-tested}
 use Rattle.line_laws.specs.Identical.{identical-is-twice}
 use Rattle.line_laws.specs.Refused.{refused-is-tested, accepted-is-tested, all-declared}
-use Rattle.line_laws.specs.InOrder.{not-both-ways, items-in-order}
+use Rattle.line_laws.specs.InOrder.{own-lists-by-class, one-source, one-part, not-both-ways, each-has-part, one-in-order, items-in-order, one-way, before-all-that-follow}
 use Rattle.line_laws.specs.Within.{Within, CountsWithin, ItemWithin}
 use Rattle.line_laws.specs.Reading.{read-is-within}
 use Rattle.line_laws.specs.Bounds.{items-at-most}
@@ -199,6 +199,33 @@ equal-parents = refl
 inherited-not-first : ItemBefore trap trapInherited trapOwn → ⊥
 inherited-not-first h = not-both-ways trap trap-readable trap-accepted trapInherited trapOwn h own-first
 
+-- so each has one part, and one source
+own-has-part : (p : Part) × PartOf trap trapOwn p
+own-has-part = each-has-part trap trapOwn .0 (trap-in-order .lines trapOwn .0 (List·Memᴰ·head refl))
+
+own-one-part : (p q : Part) → PartOf trap trapOwn p → PartOf trap trapOwn q → p ≡ q
+own-one-part = one-part trap trap-readable trap-accepted trapOwn
+
+own-one-source : (T U : TypeInfo) (p q : Source) → In T (trap .types) → In U (trap .types)
+    → Making trap T p trapOwn → Making trap U q trapOwn → (T ≡ U) × (p ≡ q)
+own-one-source T U p q = one-source trap trap-readable trap-accepted T U p q trapOwn
+
+-- the line goes behind the own one, since it goes behind the inherited one; of any two lines one goes before the other
+own-before-line : ItemBefore trap trapOwn trapLine
+own-before-line =
+    before-all-that-follow trap trap-readable trap-accepted trapOwn trapInherited trapLine
+    (trap-in-order .lines trapOwn .0 (List·Memᴰ·head refl))
+    (trap-in-order .lines trapInherited .0 (List·Memᴰ·tail (List·Memᴰ·head refl)))
+    (trap-in-order .lines trapLine .0 (List·Memᴰ·tail (List·Memᴰ·tail (List·Memᴰ·head refl))))
+    own-first (trap-in-order .sorted .1 .0 trapLine (List·Memᴰ·head refl))
+
+any-two : (x y : Item) → LineOf trap x → LineOf trap y → (x ≡ y) ⊎ (ItemBefore trap x y ⊎ ItemBefore trap y x)
+any-two = one-way trap trap-readable trap-accepted
+
+-- no other list is in order
+trap-only : (l : List Item) → InOrder trap l → l ≡ trapOwn ∷ trapInherited ∷ trapLine ∷ []
+trap-only l h = one-in-order trap trap-readable trap-accepted l (trapOwn ∷ trapInherited ∷ trapLine ∷ []) h trap-in-order
+
 -- so the two exchanged are not in order
 turned-not : InOrder trap (trapInherited ∷ trapOwn ∷ trapLine ∷ []) → ⊥
 turned-not h = inherited-not-first (h .sorted .0 trapOwn (List·Memᴰ·head refl))
@@ -227,6 +254,11 @@ classes-sorted : InOrder classes
     ∷ [])
 unfolding run
 classes-sorted = items-in-order classes classes-readable classes-accepted .ordered
+
+-- its two own resources of `file`, whichever makings they are, ascend as the names of their classes do
+classes-by-name : (x y : Item) (g : OwnMaking classes twoClasses 1 0 x) (h : OwnMaking classes twoClasses 0 0 y)
+    → g .from .word ≡ h .from .word → NamesBefore (parentsIn x) (parentsIn y) ↔ (nameBefore (g .class) (h .class) ≡ true)
+classes-by-name = own-lists-by-class classes classes-readable twoClasses 1 0 0 0
 
 -- ---- bounds
 

@@ -86,7 +86,8 @@ one-source s ok a T U p q x t u h g =
     )
 
 module _ (s : Sheet) (ok : Readable s) (a : Accepted s) where
-  not-both : {C : Type 0} {T U : TypeInfo} {i j r : ℕ} {x : Item} → In T (s .types) → In U (s .types) → OwnMaking s T i j x → InheritedMaking s U r x → C
+  not-both : {C : Type 0} {T U : TypeInfo} {i j r : ℕ} {x : Item} → In T (s .types) → In U (s .types)
+      → OwnMaking s T i j x → InheritedMaking s U r x → C
   not-both {T = T} {U} {i} {j} {r} {x} t u h g =
       never {b = isOwn (Source.own i j)} refl
       (ap isOwn (one-source s ok a T U (Source.own i j) (Source.inherited r) x t u (Making.own i j refl h) (Making.inherited r refl g) .1))
@@ -130,7 +131,8 @@ module _ (s : Sheet) (ok : Readable s) (a : Accepted s) where
   asymmetric-items (ItemBefore.parents e d u v l) (ItemBefore.part f c p′ q′ u′ v′ k) =
       let i : rank q′ ≡ 0 = ap rank (part-is v′ u) in
       omega arith
-  asymmetric-items {x} {y} (ItemBefore.parents e d u v l) (ItemBefore.parents f c u′ v′ k) = names-asymmetric (parentsIn x) (parentsIn y) l k
+  asymmetric-items {x} {y} (ItemBefore.parents e d u v l) (ItemBefore.parents f c u′ v′ k) =
+      names-asymmetric (parentsIn x) (parentsIn y) l k
 
 pub one-part : OnePart
 one-part s ok a x p q h g = part-is s ok a h g
@@ -169,7 +171,8 @@ module _ (s : Sheet) (ok : Readable s) (a : Accepted s) (T : TypeInfo) (t : In T
   none p q x n h g = a T t (Refused.identical p q x n h g)
 
   -- the own resources of a word, by their parents
-  own-sorted : (r : ℕ) → Sorted (λ c d. NamesBefore (parentsIn (ownResource m D r c)) (parentsIn (ownResource m D r d))) (ownClasses D r)
+  own-sorted : (r : ℕ)
+      → Sorted (λ c d. NamesBefore (parentsIn (ownResource m D r c)) (parentsIn (ownResource m D r d))) (ownClasses D r)
   unfolding ownResource createSyntheticResource
   own-sorted r =
       sorted-imp (ownClasses D r) (λ c d _ _ b. names-by-first c d (parentsBehind m D r) .1 b)
@@ -186,7 +189,8 @@ module _ (s : Sheet) (ok : Readable s) (a : Accepted s) (T : TypeInfo) (t : In T
     line-part i = PartOf.line T t (line-of s ok T r w i) refl
 
     -- two items at T and r have one type and one word
-    one-key : {x y : Item} → In x (itemsAt m D (above s ok T) r) → In y (itemsAt m D (above s ok T) r) → (typeOf x ≡ typeOf y) × (wordOf x ≡ wordOf y)
+    one-key : {x y : Item} → In x (itemsAt m D (above s ok T) r) → In y (itemsAt m D (above s ok T) r)
+        → (typeOf x ≡ typeOf y) × (wordOf x ≡ wordOf y)
     one-key i j =
         let p = at-key m D (above s ok T) r i in
         let q = at-key m D (above s ok T) r j in

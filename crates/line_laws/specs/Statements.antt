@@ -150,8 +150,8 @@ EachHasPart = (s : Sheet) (x : Item) → LineOf s x ↔ ((p : Part) × PartOf s 
 
 -- the parent lists of two own resources of a type and a word ascend exactly as the names of their classes do
 abbrev pub OwnListsByClass : Type 0
-OwnListsByClass = (s : Sheet) → Readable s → (T : TypeInfo) (i j k l : ℕ) (x y : Item) (g : OwnMaking s T i j x) (h : OwnMaking s T k l y)
-    → g .from .word ≡ h .from .word → NamesBefore (parentsIn x) (parentsIn y) ↔ (nameBefore (g .class) (h .class) ≡ true)
+OwnListsByClass = (s : Sheet) → Readable s → (T : TypeInfo) (i j k l : ℕ) (x y : Item)
+    → (g : OwnMaking s T i j x) (h : OwnMaking s T k l y) → g .from .word ≡ h .from .word → NamesBefore (parentsIn x) (parentsIn y) ↔ (nameBefore (g .class) (h .class) ≡ true)
 
 -- no two lines of an accepted map go before each other
 abbrev pub NotBothWays : Type 0
@@ -159,7 +159,8 @@ NotBothWays = (s : Sheet) → Readable s → Accepted s → (x y : Item) → Ite
 
 -- of two that differ one goes before the other,
 abbrev pub OneWay : Type 0
-OneWay = (s : Sheet) → Readable s → Accepted s → (x y : Item) → LineOf s x → LineOf s y → (x ≡ y) ⊎ (ItemBefore s x y ⊎ ItemBefore s y x)
+OneWay = (s : Sheet) → Readable s → Accepted s → (x y : Item) → LineOf s x → LineOf s y
+    → (x ≡ y) ⊎ (ItemBefore s x y ⊎ ItemBefore s y x)
 
 -- and what goes before a line goes before all that follow it
 abbrev pub BeforeAllThatFollow : Type 0
@@ -190,7 +191,8 @@ RelistedLines = (s t : Sheet) → Readable s → Readable t → Relisted s t →
 
 -- in the same order: the lists that stand in order are the same
 abbrev pub RelistedInOrder : Type 0
-RelistedInOrder = (s t : Sheet) → Readable s → Readable t → Relisted s t → Accepted s → (l : List Item) → InOrder s l ↔ InOrder t l
+RelistedInOrder = (s t : Sheet) → Readable s → Readable t → Relisted s t → Accepted s
+    → (l : List Item) → InOrder s l ↔ InOrder t l
 
 -- ---- bounds (Reading.antt, Bounds.antt, Counts.antt, Fields.antt, Size.antt)
 

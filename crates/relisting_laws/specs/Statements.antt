@@ -17,12 +17,12 @@ use Rattle.schedule_laws.specs.Statements.{bytesWritten}
 abbrev pub AnswersAlike : Type 0
 AnswersAlike = (i j : Input) → RelistedInputs i j → Alike i j
 
--- The schedules that are packed into these bytes are equal, item by item: so they have one order and one set of lines.
+-- The schedules that are packed into these bytes are equal, item by item: so they have one order, and the same lines in the same
+-- order.
 abbrev pub SchedulesEqual : Type 0
 SchedulesEqual = (i j : Input) → RelistedInputs i j → outcome i .answer .number ≡ 0 → scheduleOf (i .call) (typeMapIn i) ≡ scheduleOf (j .call) (typeMapIn j)
 
--- Hence whoever reads the bytes back finds one schedule, or one list of names: one order and one set of lines, whatever legal
--- schedules the bytes are taken for.
+-- Hence whoever reads the bytes back finds one schedule, or one list of names, whatever legal schedules the bytes are taken for.
 abbrev pub ReadAlike : Type 0
 ReadAlike =
     (i j : Input) → RelistedInputs i j → outcome i .answer .number ≡ 0 → (W W′ : ℕ) (s t : Schedule) → LegalSchedule W s →

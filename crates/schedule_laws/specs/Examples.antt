@@ -18,12 +18,15 @@ use Rattle.definitions.specs.ItemOrder.{InOrder}
 use Rattle.definitions.specs.Answer.{Call, schedule, order, Input, standard, restOf, scheduleOf, outcome}
 use Rattle.definitions.specs.Relisted.{Holds}
 use Rattle.definitions.specs.Cases.{hex, lent, run}
+use Rattle.laws.specs.Order.{order-exists}
+use Rattle.line_laws.specs.Statements.{Readable, isRefused, anyRefused}
+use Rattle.line_laws.specs.Refused.{accepted-is-tested}
 use Rattle.synthesis_laws.specs.Statements.{ListsLines}
 use Rattle.reading_laws.specs.Examples.{worked, workedBytes}
 use Rattle.reading_laws.specs.Parsers.{done-value}
 use Rattle.schedule_laws.specs.Statements.{bytesWritten, NamesInOrder, Listed, OrderListed, ReadToLines}
 use Rattle.schedule_laws.specs.OneToOne.{bytes-determine}
-use Rattle.schedule_laws.specs.Listed.{listed-exactly, order-listed-exactly, bytes-hold-lines, bytes-are-declared}
+use Rattle.schedule_laws.specs.Listed.{listed-exactly, order-listed-exactly, bytes-hold-lines, schedule-is-declared, bytes-are-declared}
 
 -- ---- every construct: a two-word type, a parent of three words, both marks, an extension line
 
@@ -235,3 +238,15 @@ worked-declared ts l o h =
 -- and there are such
 worked-items-in-order : InOrder worked (workedSchedule .items)
 worked-items-in-order = worked-has-lines .inOrder .ordered
+
+-- so is the schedule itself
+worked-readable : Readable worked
+unfolding run
+worked-readable = record { words = refl; once = refl }
+
+worked-as-declared : (ts : List TypeInfo) (l : List Item) → IsOrder worked ts → InOrder worked l
+    → scheduleOf schedule (typeMapOf worked) ≡ record { order = map (λ (T : TypeInfo). T .name) ts; items = l }
+unfolding run anyRefused isRefused
+worked-as-declared =
+    schedule-is-declared worked worked-readable (order-exists worked (record { words = refl; names = refl }) .0 refl)
+    (accepted-is-tested worked worked-readable .0 refl)

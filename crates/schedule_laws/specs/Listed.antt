@@ -14,6 +14,8 @@ use Rattle.definitions.specs.Map.{typeMapOf}
 use Rattle.definitions.specs.Order.{hasOrder, lastPass, organizeTypeMap}
 use Rattle.definitions.specs.Packing.{orderBits, scheduleBits}
 use Rattle.definitions.specs.LegalSchedule.{LegalOrder, LegalSchedule}
+use Rattle.definitions.specs.Ancestry.{IsOrder}
+use Rattle.definitions.specs.ItemOrder.{InOrder, OnlyInOrder}
 use Rattle.definitions.specs.Relisted.{Holds}
 use Rattle.definitions.specs.Answer.{Call, schedule, order, Input, Outcome, sheetOf, scheduleOf, bitsWritten, synthesisRows, lateRefusals, readIn, typeMapIn, sheetRefusals, refusals, accept, firstRefusal, outcome}
 use Rattle.laws.specs.Statements.{WellNamed}
@@ -21,12 +23,13 @@ use Rattle.laws.specs.Comparisons.{names-once}
 use Rattle.laws.specs.Order.{order-exists, order-is-by-round, order-is-one}
 use Rattle.line_laws.specs.Within.{Within}
 use Rattle.line_laws.specs.Reading.{read-is-within}
+use Rattle.line_laws.specs.InOrder.{items-in-order}
 use Rattle.synthesis_laws.specs.Statements.{Ordered, ListsLines}
 use Rattle.synthesis_laws.specs.Rows.{items-listed}
 use Rattle.reading_laws.specs.Statements.{NoneHolds}
 use Rattle.reading_laws.specs.Refusals.{passed, none-front, all-pass}
 use Rattle.reading_laws.specs.Answers.{accepted-exactly, passed-is-held}
-use Rattle.schedule_laws.specs.Statements.{bytesWritten, BytesOf, OrderBytesOf, NamesInOrder, ListedExactly, OrderListedExactly, BytesHoldLines, BytesAreDeclared}
+use Rattle.schedule_laws.specs.Statements.{bytesWritten, BytesOf, OrderBytesOf, NamesInOrder, ListedExactly, OrderListedExactly, BytesHoldLines, ScheduleIsDeclared, BytesAreDeclared}
 use Rattle.schedule_laws.specs.OneToOne.{bytes-determine, order-bytes-determine}
 use Rattle.schedule_laws.specs.Written.{written-is-legal, written-order-is-legal}
 
@@ -124,6 +127,21 @@ bytes-hold-lines i q e =
       items = λ W t h f. subst (λ (c : Schedule). ListsLines (l .s) (c .items)) (sym (l .bytes .only W t h f)) (l .items);
     }
 
+-- a schedule whose names are in order and whose items are the only list in order is known from what is declared
+declared-schedule : (s : Sheet) (c : Schedule) → NamesInOrder s (c .order) → OnlyInOrder s (c .items)
+    → (ts : List TypeInfo) (l : List Item) → IsOrder s ts → InOrder s l → c ≡ record { order = map (λ (T : TypeInfo). T .name) ts; items = l }
+declared-schedule s c n i ts l o h =
+    let e : c .order ≡ map (λ (T : TypeInfo). T .name) ts =
+    n .named ∙ ap (map (λ (T : TypeInfo). T .name)) (order-is-one s (n .types) ts (n .ordered) o) in
+    ap₂ (λ ns (k : List Item). record { order = ns; items = k }) e (sym (i .only l h))
+
+pub schedule-is-declared : ScheduleIsDeclared
+unfolding scheduleOf
+schedule-is-declared s ok o a =
+    let w : WellNamed s = record { words = ok .words; names = names-once s (ok .once) } in
+    let n = names-in-order s (record { readable = ok; order = order-exists s w .1 o }) in
+    declared-schedule s (scheduleOf schedule (typeMapOf s)) n (items-in-order s ok a)
+
 pub bytes-are-declared : BytesAreDeclared
 bytes-are-declared i q e =
     let l = listed-exactly i q e in
@@ -131,8 +149,6 @@ bytes-are-declared i q e =
       s = l .s;
       holds = l .holds;
       bytes = λ ts k o h.
-          let n : map (λ (T : TypeInfo). T .name) ts ≡ scheduleOf schedule (typeMapOf (l .s)) .order =
-          ap (map (λ (T : TypeInfo). T .name)) (order-is-one (l .s) ts (l .names .types) o (l .names .ordered)) ∙ sym (l .names .named) in
           l .bytes .packed
-          ∙ sym (ap₂ (λ ns (k : List Item). pack (scheduleBits (record { order = ns; items = k }))) n (l .items .inOrder .only k h));
+          ∙ ap (λ c. pack (scheduleBits c)) (declared-schedule (l .s) (scheduleOf schedule (typeMapOf (l .s))) (l .names) (l .items .inOrder) ts k o h);
     }

@@ -12,13 +12,13 @@ use Rattle.definitions.specs.Map.{typeMapOf}
 use Rattle.definitions.specs.Items.{itemsOf}
 use Rattle.definitions.specs.Packing.{orderBits, scheduleBits}
 use Rattle.definitions.specs.LegalSchedule.{LegalOrder, LegalSchedule}
-use Rattle.definitions.specs.Ancestry.{IsOrder}
+use Rattle.definitions.specs.Ancestry.{HasOrder, IsOrder}
 use Rattle.definitions.specs.Lines.{LineOf}
 use Rattle.definitions.specs.ItemOrder.{InOrder}
 use Rattle.definitions.specs.Relisted.{Holds}
 use Rattle.definitions.specs.Answer.{schedule, order, Input, scheduleOf, outcome}
 use Rattle.line_laws.specs.Within.{Within}
-use Rattle.line_laws.specs.Statements.{Readable, lineMap}
+use Rattle.line_laws.specs.Statements.{Readable, lineMap, Accepted}
 use Rattle.synthesis_laws.specs.Statements.{ListsLines}
 
 -- ---- the bits and the bytes determine the schedule (OneToOne.antt)
@@ -125,8 +125,14 @@ pub record ReadToLines (i : Input) : Type 0 where
 abbrev pub BytesHoldLines : Type 0
 BytesHoldLines = (i : Input) → i .call ≡ schedule → outcome i .answer .number ≡ 0 → ReadToLines i
 
--- And what is declared leaves nothing open: the bytes written are those of any list of the types in their order and any list of the
--- lines in theirs. No computed list is named here either.
+-- What is declared leaves nothing open: where a sheet has an order and no refused type, its schedule is any list of the types in
+-- their order with any list of the lines in theirs. So its bits, and with them its size, are known from what is declared.
+abbrev pub ScheduleIsDeclared : Type 0
+ScheduleIsDeclared =
+    (s : Sheet) → Readable s → HasOrder s → Accepted s → (ts : List TypeInfo) (l : List Item) → IsOrder s ts → InOrder s l →
+    scheduleOf schedule (typeMapOf s) ≡ record { order = map (λ (T : TypeInfo). T .name) ts; items = l }
+
+-- And the bytes written are those of any such lists. No computed list is named here either.
 pub record WrittenAsDeclared (i : Input) : Type 0 where
   pub s : Sheet
   pub holds : Holds (i .sheet) s

@@ -284,7 +284,4 @@ synthesis-makes-lines s ok h e =
 pub items-listed : ItemsListed
 items-listed s o e =
     let a = accepted-is-tested s (o .readable) .0 (rows-are-tested s o .0 e) in
-    record {
-      lines = record { lines = items-are-lines s (o .readable) a; once = items-once s (o .readable) a };
-      inOrder = items-in-order s (o .readable) a;
-    }
+    record { once = items-once s (o .readable) a; inOrder = items-in-order s (o .readable) a }

@@ -174,11 +174,12 @@ pub record MakesLines (s : Sheet) (l : List Item) : Type 0 where
 abbrev pub SynthesisMakesLines : Type 0
 SynthesisMakesLines = (s : Sheet) → Readable s → HasOrder s → synthesis (typeMapOf s) .rows ≡ [] → MakesLines s (synthesis (typeMapOf s) .items)
 
--- The items that are written: where no row is left, they are the lines, each once, in their order, which no other list has.
+-- l is the lines of the map, each once, in their order, which no other list has
 pub record ListsLines (s : Sheet) (l : List Item) : Type 0 where
-  pub lines : MakesLines s l
+  pub once : Distinct l
   pub inOrder : OnlyInOrder s l
 
+-- where no row is left, the items that are written are that list
 abbrev pub ItemsListed : Type 0
 ItemsListed = (s : Sheet) → Ordered s → synthesis (typeMapOf s) .rows ≡ [] → ListsLines s (itemsOf (lineMap s))
 
