@@ -109,8 +109,8 @@ struct gidzelma_row {
  * gives the order of the types alone: their count and their names.
  *
  * The items stand in one order: by the name of their type, then by word, then the type's own resources
- * by their parents, the inherited one, the extension line (docs/FORMAT.md, 5.3). So two sheets that
- * list the same types and parents in different orders get equal bytes.
+ * by their parents, the inherited one, the extension line (docs/FORMAT.md, 5.3). Where two sheets that
+ * differ only in how they list types and parents are accepted, the bytes written are equal.
  *
  * A call asks nothing of the values in its slices. Of the slices themselves it asks, as Rust
  * does: no pointer is null, also where its length is 0 (then any pointer will do that is not null and

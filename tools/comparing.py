@@ -49,7 +49,8 @@ Between the two lines of a row stands
                   nothing: both schedules have the line
   |               the lines have one form and name, and differ in other fields: R lines
                   by NAME, E lines by TYPE and WORD
-  <, >            the line is in A only, in B only
+  <, >            the line stands there in A only, in B only; a type that has another
+                  place in the order has both
 The items of a schedule have a fixed order; of the lines that both have, as many stand in
 one row as can without one changing its place. What is folded goes on below, indented.
 

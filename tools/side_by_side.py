@@ -3,7 +3,8 @@
 Refusals, types and items are aligned apart, in this order. Of the types, and of the items, as many equal lines
 stand in one row as can without one changing its place: a longest common subsequence, where of lines that stand
 several times the first goes with the first. Between two such rows lines of one form and name stand in one row,
-likewise; what is left has a row of its own, first that of A. The lines of a refusal always have.
+likewise, R lines with the same parents before others; what is left has a row of its own, first that of A. The lines
+of a refusal always have.
 """
 
 from bisect import bisect_left
@@ -22,6 +23,12 @@ INDENT = "  "  # of what is folded; no line of a schedule begins with a blank
 def whole(line):
     """A line by all its fields."""
     return line
+
+
+def with_parents(line):
+    """A line by what it is of and, an R line, by its parents: they tell the resources of one name apart."""
+    parts = line.split(" ")
+    return (*form_and_name(line), parts[3]) if parts[0] == "R" else form_and_name(line)
 
 
 def form_and_name(line):
@@ -76,7 +83,7 @@ def rows_of(a, b):
     """The rows of what a program prints for two schedules, each given as its lines. No row has a mark but SAME
     exactly if the lines are the same and are no refusal."""
     out = []
-    for part, keys in ((REFUSAL, ()), (TYPES, (whole,)), (ITEMS, (whole, form_and_name))):
+    for part, keys in ((REFUSAL, ()), (TYPES, (whole,)), (ITEMS, (whole, with_parents, form_and_name))):
         out += aligned(*([line for line in lines if line[0] in part] for lines in (a, b)), keys)
     return out
 

@@ -847,6 +847,12 @@ class Rows(unittest.TestCase):
         a, b = [f"R a.f 0 {name},resource -" for name in ("x", "y")], ["R a.f 0 y,resource -", "R a.f 1 z,resource -"]
         self.assertEqual(self.marked(a, b), [f"{a[0]} <", f"{a[1]} = {b[0]}", f"> {b[1]}"])
 
+    def test_parents(self):
+        """Of several resources of one name those with the same parents go together."""
+        a = ["R a.f 0 x,resource -", "R a.f 0 y,resource -", "E a 00 f"]
+        b = ["R a.f 0 y,resource makelist", "R a.f 0 z,resource -", "E a 00 f"]
+        self.assertEqual(self.marked(a, b), [f"{a[0]} <", f"{a[1]} | {b[0]}", f"> {b[1]}", f"{a[2]} = {b[2]}"])
+
     def test_parts(self):
         """Types stand above items, also where neither has a line in common."""
         self.assertEqual(self.marked(["T a", "E a 00 f"], ["T b", "E b 00 f"]), ["T a <", "> T b", "E a 00 f <", "> E b 00 f"])

@@ -138,8 +138,8 @@ type Conversion =
 /// listing. One that is too short is answered with the size that is needed.
 ///
 /// The items stand in one order: by the name of their type, then by word, then the type's own resources by
-/// their parents, the inherited one, the extension line. So two sheets that list the same types and parents
-/// in different orders get equal bytes.
+/// their parents, the inherited one, the extension line. Where two sheets that differ only in how they list
+/// types and parents are accepted, the bytes written are equal.
 ///
 /// ```
 /// use gidzelma::{schedule, Answer, DIAGNOSIS_LEN};
