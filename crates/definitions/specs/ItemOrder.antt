@@ -12,24 +12,24 @@ use Rattle.definitions.specs.Lines.{OwnMaking, InheritedMaking, Extensio
 
 -- ---- what an item says of itself
 
--- The name of its type.
+-- The name of its type (FORMAT 5.1).
 abbrev pub typeOf : Item → Name
 typeOf (synthesized n r v ps ms) = n
 typeOf (extension n v t r) = n
 
--- Its resource word.
+-- Its resource word (FORMAT 5.1).
 abbrev pub wordOf : Item → ℕ
 wordOf (synthesized n r v ps ms) = r
 wordOf (extension n v t r) = r
 
--- Its parents; an extension line has none.
+-- Its parents; an extension line has none (FORMAT 5.1).
 abbrev pub parentsIn : Item → List Name
 parentsIn (synthesized n r v ps ms) = ps
 parentsIn (extension n v t r) = []
 
 -- ---- what it does not say
 
--- The parts of what stands at a type and a word.
+-- The parts of what stands at a type and a word (FORMAT 4.3, 4.4, 4.8).
 pub data Part : Type 0 where
   own inherited line : Part
 
@@ -70,7 +70,7 @@ pub record InOrder (s : Sheet) (l : List Item) : Type 0 where
   pub lines : (x : Item) → In x l ↔ LineOf s x
   pub sorted : Sorted (ItemBefore s) l
 
--- The list stands in order, and no other list does: so the order of the items is left to no program.
+-- The list stands in order, and no other list does: so the order of the items is left to no program (FORMAT 5.3).
 pub record OnlyInOrder (s : Sheet) (l : List Item) : Type 0 where
   pub ordered : InOrder s l
   pub only : (k : List Item) → InOrder s k → k ≡ l

@@ -174,7 +174,7 @@ pub record MakesLines (s : Sheet) (l : List Item) : Type 0 where
 abbrev pub SynthesisMakesLines : Type 0
 SynthesisMakesLines = (s : Sheet) → Readable s → HasOrder s → synthesis (typeMapOf s) .rows ≡ [] → MakesLines s (synthesis (typeMapOf s) .items)
 
--- l is the lines of the map, each once, in their order, which no other list has
+-- l is the lines of the map, each once, in their order, which no other list has (FORMAT 5.2, 5.3)
 pub record ListsLines (s : Sheet) (l : List Item) : Type 0 where
   pub once : Distinct l
   pub inOrder : OnlyInOrder s l
