@@ -11,7 +11,7 @@ from maps import changed, large, schedules
 from model_conversion import Going, Packed, Records
 
 CALLS = ("read_schedule", "write_schedule")
-SLICES = 1  # lent besides the parts: records, or the schedule
+OPTIONS = ("-DCONVERSION",)  # of the driver: records, or the schedule, are lent besides the parts
 COLUMNS = {"inputs": None, "accepted": (0,), "refused 11": (11,), "refused 12": (12,), "parts too few": (TOO_FEW_PARTS,)}
 FAR = (1 << 16, 1 << 32, (1 << 32) + 4, 1 << 63, (1 << 64) - 1)
 
@@ -109,7 +109,7 @@ def asked_of(rng, call, subject):
         rooms |= set(range(size + 5))
     asked = [(room, 3) for room in sorted(rooms) if room >= 0]
     for room, parts in [*asked, (rng.choice((0, size)), rng.choice((0, 1, 2, 2, 4, 9)))]:
-        one = Input(w, given, (room,), parts, rng.randrange(251))
+        one = Input(w, (given,), (room,), parts, rng.randrange(251))
         yield one, expected(call, one)
 
 
@@ -118,5 +118,5 @@ def expected(call, asked):
     output, parts = filled(asked.lent[0], asked.seed), filled(4 * asked.parts, asked.seed)
     if asked.parts < 3:
         return TOO_FEW_PARTS, output, parts
-    answer = getattr(model, call)(asked.w, asked.given, output)
+    answer = getattr(model, call)(asked.w, *asked.given, output)
     return answer.number, answer.output, struct.pack("=3I", answer.size, 0, 0) + parts[12:]

@@ -4,11 +4,13 @@
  *   driver          slices end at, then start at, a page that may not be touched
  *   driver malloc   slices are blocks of exactly their size, for valgrind
  *
- * CALL is the call; it takes a sheet, or, with CONVERSION, W and a schedule or records.
+ * CALL is the call; it takes a sheet, or, with CONVERSION, W and a schedule or records, or, with TARIFF, a
+ * tariff, W and a schedule.
  *
  * Standard input is a list of questions, in numbers of the machine's order: W in eight bytes; in four
- * bytes each the lengths of what is given, of the lent slices (listing and diagnosis, or one) and of
- * parts, and a seed; then what is given. The lent bytes are filled by `fill`. For each question standard
+ * bytes each the lengths of what is given (one slice, or tariff and schedule), of the lent slices (listing
+ * and diagnosis, or one, or none) and of parts, and a seed; then what is given. For a sum there are two
+ * parts, which have its eight bytes. The lent bytes are filled by `fill`. For each question standard
  * output gets the number returned, 1 if all else was left alone (else 0), the lent slices and parts as
  * the call left them.
  */
@@ -24,12 +26,15 @@
 #define CALL gidzelma_order
 #endif
 
-/* What is given, what is lent, and the parts; and the most bytes of each. */
-#ifdef CONVERSION
-enum { SLICES = 3 };
+/* What is given, what is lent, and the parts, or the sum; and the most bytes of each. */
+#if defined CONVERSION
+enum { GIVEN = 1, SLICES = 3 };
 static const size_t most[SLICES] = {1 << 20, 1 << 22, 1 << 10};
+#elif defined TARIFF
+enum { GIVEN = 2, SLICES = 3 };
+static const size_t most[SLICES] = {1 << 16, 1 << 20, sizeof(int64_t)};
 #else
-enum { SLICES = 4 };
+enum { GIVEN = 1, SLICES = 4 };
 static const size_t most[SLICES] = {1 << 17, 1 << 19, 1 << 14, 1 << 10};
 #endif
 
@@ -111,13 +116,26 @@ static uint32_t call(struct lent l[SLICES])
     for (int i = 0; i < SLICES; i++)
         if (l[i].size > 0)
             memcpy(l[i].at, l[i].before, l[i].size);
-    uint32_t *parts = (uint32_t *)(void *)l[SLICES - 1].at;
+    void *last = l[SLICES - 1].at;
+#ifdef TARIFF
+    return CALL((const int32_t *)(void *)l[0].at, l[0].size / sizeof(int32_t), (size_t)w, l[1].at, l[1].size, last);
+#else
     size_t parts_len = l[SLICES - 1].size / sizeof(uint32_t);
 #ifdef CONVERSION
-    return CALL((size_t)w, l[0].at, l[0].size, l[1].at, l[1].size, parts, parts_len);
+    return CALL((size_t)w, l[0].at, l[0].size, l[1].at, l[1].size, last, parts_len);
 #else
-    return CALL(l[0].at, l[0].size, l[1].at, l[1].size, l[2].at, l[2].size, parts, parts_len);
+    return CALL(l[0].at, l[0].size, l[1].at, l[1].size, l[2].at, l[2].size, last, parts_len);
 #endif
+#endif
+}
+
+/* Whether what is given is as it was. */
+static int given_left(const struct lent l[SLICES])
+{
+    for (int i = 0; i < GIVEN; i++)
+        if (l[i].size > 0 && memcmp(l[i].at, l[i].before, l[i].size) != 0)
+            return 0;
+    return 1;
 }
 
 /* The call with its slices at the end, or the start, of their regions. */
@@ -128,7 +146,7 @@ static uint32_t guarded_call(struct region r[SLICES], struct lent l[SLICES], int
     uint32_t number = call(l);
     for (int i = 0; i < SLICES; i++)
         *left = *left && margins_left(r[i], l[i].at, l[i].size);
-    *left = *left && (l[0].size == 0 || memcmp(l[0].at, l[0].before, l[0].size) == 0);
+    *left = *left && given_left(l);
     return number;
 }
 
@@ -155,7 +173,7 @@ static void tell(uint32_t number, uint32_t left, const struct lent l[SLICES])
 {
     put(&number, sizeof number);
     put(&left, sizeof left);
-    for (int i = 1; i < SLICES; i++)
+    for (int i = GIVEN; i < SLICES; i++)
         put(l[i].at, l[i].size);
 }
 
@@ -182,8 +200,7 @@ static void run_blocks(struct lent l[SLICES])
     for (int i = 0; i < SLICES; i++)
         l[i].at = block(l[i].size);
     uint32_t number = call(l);
-    int left = l[0].size == 0 || memcmp(l[0].at, l[0].before, l[0].size) == 0;
-    tell(number, (uint32_t)left, l);
+    tell(number, (uint32_t)given_left(l), l);
     for (int i = 0; i < SLICES; i++)
         free(l[i].at);
 }
@@ -206,11 +223,12 @@ int main(int count, char **words)
             if (l[i].size > most[i])
                 stop("a slice over the limits");
             l[i].before = block(l[i].size);
-            for (size_t at = 0; i > 0 && at < l[i].size; at++)
+            for (size_t at = 0; i >= GIVEN && at < l[i].size; at++)
                 l[i].before[at] = fill(at, head[SLICES]);
         }
-        if (!get(l[0].before, l[0].size))
-            stop("a question that ends early");
+        for (int i = 0; i < GIVEN; i++)
+            if (!get(l[i].before, l[i].size))
+                stop("a question that ends early");
         if (blocks)
             run_blocks(l);
         else

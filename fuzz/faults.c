@@ -1,10 +1,46 @@
 /*
  * Libraries with one fault each, to see that fuzz/run finds it. FAULT picks the fault, CALL is the call;
- * with CONVERSION it is one between a schedule and its records.
+ * with CONVERSION it is one between a schedule and its records, with TARIFF the one over a tariff.
  */
 #include "gidzelma.h"
 
-#ifdef CONVERSION
+#if defined TARIFF
+uint32_t faultless(const int32_t *tariff, size_t tariff_len, size_t w, const uint8_t *schedule,
+                   size_t schedule_len, int64_t *total);
+
+uint32_t CALL(const int32_t *tariff, size_t tariff_len, size_t w, const uint8_t *schedule,
+              size_t schedule_len, int64_t *total)
+{
+    int64_t before = *total;
+    uint32_t number = faultless(tariff, tariff_len, w, schedule, schedule_len, total);
+#if FAULT == 1 /* writes behind the sum */
+    if (number == 0)
+        ((uint8_t *)total)[sizeof *total] ^= 1;
+#elif FAULT == 2 /* writes before it */
+    if (number == 12)
+        ((uint8_t *)total)[-1] ^= 1;
+#elif FAULT == 3 /* reads behind the tariff */
+    if (number == 15 && ((const volatile int32_t *)tariff)[tariff_len] == 255)
+        number = 15;
+#elif FAULT == 4 /* reads behind the schedule */
+    if (number == 11 && ((const volatile uint8_t *)schedule)[schedule_len] == 255)
+        number = 11;
+#elif FAULT == 5 /* a refusal that leaves the sum as it was */
+    if (number == 16)
+        *total = before;
+#elif FAULT == 6 /* writes to the tariff */
+    if (number == 0 && tariff_len > 0)
+        ((int32_t *)tariff)[0] ^= 1;
+#elif FAULT == 7 /* a sum of 16 bits */
+    *total = (int16_t)*total;
+#elif FAULT == 8 /* a 16 that comes before a 15 */
+    if (number == 15 && tariff_len > 5 && tariff[0] == tariff[3] && tariff[1] == tariff[4])
+        number = 16;
+#endif
+    (void)before;
+    return number;
+}
+#elif defined CONVERSION
 uint32_t faultless(size_t w, const uint8_t *given, size_t given_len, uint8_t *output, size_t output_len,
                    uint32_t *parts, size_t parts_len);
 

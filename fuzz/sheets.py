@@ -9,7 +9,7 @@ from inputs import TOO_FEW_PARTS, Input, filled
 from maps import changed, drawn, flavours, large, loads
 
 CALLS = ("order", "schedule")
-SLICES = 2  # lent besides the parts: listing and diagnosis
+OPTIONS = ()  # of the driver: a sheet is given, listing and diagnosis are lent besides the parts
 LONGEST = 1 << 18  # above the longest schedule that was found, 239,675 bytes
 COLUMNS = {"sheets": None, "accepted": (0,), "refused 10": (10,), "refused 8": (8,), "refused 9": (9,),
            "other refusals": range(1, 8), "parts too few": (TOO_FEW_PARTS,)}
@@ -80,7 +80,7 @@ def expected(full, asked):
     number, size, rows, flag, packed = 0, 0, 0, 0, b""
     if asked.parts < 3:
         return TOO_FEW_PARTS, listing, diagnosis, parts
-    if len(asked.given) > model.SHEET_LIMIT:
+    if len(asked.given[0]) > model.SHEET_LIMIT:
         number = 1
     elif len(diagnosis) < 6 * model.ROWS:
         number = 2
@@ -100,5 +100,5 @@ def asked_of(rng, call, sheet):
     full = getattr(model, call)(sheet, bytes(LONGEST), bytes(6 * model.ROWS))
     size = full.size if full.number == 0 else rng.choice((0, 3, 64, 700))
     for listing, diagnosis, parts in lengths_lent(rng, size):
-        asked = Input(0, sheet, (listing, diagnosis), parts, rng.randrange(251))
+        asked = Input(0, (sheet,), (listing, diagnosis), parts, rng.randrange(251))
         yield asked, expected(full, asked)

@@ -4,11 +4,13 @@
  * gidzelma_schedule and gidzelma_order turn a sheet (a bit-packed type map) into a bit-packed listing,
  * or answer with one of ten refusals. gidzelma_read_schedule turns a packed schedule into records of
  * two bytes a field, gidzelma_write_schedule records into a packed schedule; they have two refusals of
- * their own. docs/FORMAT.md has the bits and says when each refusal is given; docs/LINKING.md says how
- * to link, and has examples.
+ * their own. gidzelma_tariff sums what a tariff charges for the items of a packed schedule, and has three
+ * more. docs/FORMAT.md has the bits and says when each refusal is given; docs/LINKING.md says how to
+ * link, and has examples.
  *
- * The calls allocate nothing, keep nothing between calls and write nothing but the slices below, so
- * that several threads may call at the same time. Of the C library they need memcpy and memset.
+ * The calls allocate nothing, keep nothing between calls and write nothing but the slices and the sum
+ * below, so that several threads may call at the same time. Of the C library they need memcpy and
+ * memset.
  */
 #ifndef GIDZELMA_H
 #define GIDZELMA_H
@@ -23,8 +25,8 @@ extern "C" {
 #define GIDZELMA_VERSION "0.2.0"
 
 /* What a call returns: 0, a refusal, or 255, which is none of them. Those of a call that takes a sheet
- * are 1 to 10, those of a call between a schedule and its records 11 and 12. Later versions may add
- * numbers. */
+ * are 1 to 10, those of a call between a schedule and its records 11 and 12, those of gidzelma_tariff
+ * 14 to 16, and 11 and 12 of its schedule. Later versions may add numbers. */
 enum gidzelma_number {
     GIDZELMA_ACCEPTED = 0,
     GIDZELMA_SHEET_TOO_LONG = 1,        /* over GIDZELMA_SHEET_MAX bytes */
@@ -42,6 +44,10 @@ enum gidzelma_number {
                                            or of the records */
     GIDZELMA_SCHEDULE_NOT_ALLOWED = 12, /* the number of words, a field or the fill of a schedule is not
                                            allowed, or bytes follow the last field */
+    GIDZELMA_TARIFF_TOO_LONG = 14,      /* over GIDZELMA_TARIFF_MAX numbers */
+    GIDZELMA_TARIFF_NOT_ALLOWED = 15,   /* a sort, a number of parents or a rate is not allowed, or the
+                                           last row is broken */
+    GIDZELMA_TARIFF_TWICE = 16,         /* two rows have one sort and one number of parents */
     GIDZELMA_PARTS_TOO_FEW = 255        /* parts_len is under GIDZELMA_PARTS_LEN */
 };
 
@@ -80,17 +86,28 @@ enum gidzelma_kind {
 #define GIDZELMA_WORDS_MIN 2
 #define GIDZELMA_WORDS_MAX 200
 
-/* In a row: the second word of a name of one word, both words of an absent name, an absent word.
- * Other bytes of names and words are places in the word list of the sheet, counted from 0. */
+/* A tariff: rows of three numbers, each a sort, a number of parents and a rate in hundredths. */
+#define GIDZELMA_TARIFF_ROW_LEN 3       /* numbers of a row */
+#define GIDZELMA_TARIFF_MAX 99          /* numbers that a tariff has at most: 33 rows */
+#define GIDZELMA_RATE_MAX 99999         /* the greatest rate; the least is -GIDZELMA_RATE_MAX, a credit */
+#define GIDZELMA_SORT_REAL 0            /* resources that are not virtual */
+#define GIDZELMA_SORT_VIRTUAL 1         /* resources that are virtual */
+#define GIDZELMA_SORT_LINE 2            /* extension lines */
+#define GIDZELMA_PARENTS_MIN 2          /* the number of parents in a row for resources, at least */
+#define GIDZELMA_PARENTS_MAX 17         /* and at most; in a row for extension lines it is 0 */
+
+/* In a row of the diagnosis: the second word of a name of one word, both words of an absent name, an
+ * absent word. Other bytes of names and words are places in the word list of the sheet, counted from
+ * 0. */
 #define GIDZELMA_ABSENT 255
 
 /*
  * The stack. On the maps that were tried gidzelma_schedule took up to 1.1 MB of it, where it writes
- * rows of refusal 9, and 0.05 MB elsewhere, as gidzelma_order does; gidzelma_read_schedule and
- * gidzelma_write_schedule took less than 0.01 MB (bench/stack.c measures them). No call can tell that
- * there is less: its thread is then ended by a signal. With glibc a thread has 8 MiB as a rule, one
- * that Rust starts 2 MiB, and elsewhere further threads have as little as 128 KiB. Give a thread that
- * calls this many bytes, by pthread_attr_setstacksize or what there is for it.
+ * rows of refusal 9, and 0.05 MB elsewhere, as gidzelma_order does; gidzelma_read_schedule,
+ * gidzelma_write_schedule and gidzelma_tariff took less than 0.01 MB (bench/stack.c measures them). No
+ * call can tell that there is less: its thread is then ended by a signal. With glibc a thread has 8 MiB
+ * as a rule, one that Rust starts 2 MiB, and elsewhere further threads have as little as 128 KiB. Give a
+ * thread that calls this many bytes, by pthread_attr_setstacksize or what there is for it.
  */
 #define GIDZELMA_STACK_LEN 4194304
 
@@ -179,6 +196,39 @@ uint32_t gidzelma_read_schedule(size_t w, const uint8_t *schedule, size_t schedu
 uint32_t gidzelma_write_schedule(size_t w, const uint8_t *records, size_t records_len,
                                  uint8_t *schedule, size_t schedule_len,
                                  uint32_t *parts, size_t parts_len);
+
+/*
+ * gidzelma_tariff sums what a tariff charges for the items of a packed schedule. The tariff is rows of
+ * three numbers: a sort, a number of parents, and a rate in hundredths, below 0 for a credit.
+ * `tariff_len` counts numbers and not rows, and may be 0. `w` is W, as above.
+ *
+ *    sort                      number of parents    charges
+ *    GIDZELMA_SORT_REAL        2 to 17              resources that are not virtual and have at least
+ *                                                   so many parents
+ *    GIDZELMA_SORT_VIRTUAL     2 to 17              virtual resources, likewise
+ *    GIDZELMA_SORT_LINE        0                    extension lines
+ *
+ * Rows add up: a resource of 3 parents is charged by a row for 2 and by one for 3. Their order makes no
+ * difference. The sum is exact: no tariff and no schedule gives more than 104,854,951,440, or less than
+ * -104,854,951,440.
+ *
+ * The tariff is tested first: its length, then the numbers of all its rows, then whether two rows have
+ * one sort and one number of parents. The schedule is then read as gidzelma_read_schedule reads it,
+ * without records, so that 11 is its own end; an empty tariff has it read too.
+ *
+ * What is left, by the number returned:
+ *
+ *    number             *total
+ *    0                  the sum, in hundredths
+ *    14, 15, 16         0
+ *    11, 12             0
+ *
+ * Of its slices the call asks what the others ask, `tariff` being aligned for int32_t. `total` is not
+ * null, is aligned for int64_t, and does not overlap them; it is written in every case.
+ */
+uint32_t gidzelma_tariff(const int32_t *tariff, size_t tariff_len,
+                         size_t w, const uint8_t *schedule, size_t schedule_len,
+                         int64_t *total);
 
 #ifdef __cplusplus
 }

@@ -74,7 +74,8 @@ Side = namedtuple("Side", "name data text")  # a schedule: its file, the bytes, 
 
 def usage():
     """The text of --help."""
-    numbers = ["Refusals:"] + [f"  {number:2}  {said}" for number, (said, _) in refusals.REFUSALS.items()]
+    numbers = ["Refusals:"] + [f"  {number:2}  {said}" for number, (said, _)
+                               in {**refusals.OF_SHEETS, **refusals.OF_SCHEDULES}.items()]
     return USAGE.format(least=LEAST, numbers="\n".join(numbers) + "\n")
 
 

@@ -6,6 +6,7 @@
         packed = library.schedule(sheet)    # bytes to bytes; or library.order(sheet)
         records = library.read_schedule(w, packed)      # w: the number of words of the sheet
         assert library.write_schedule(w, records) == packed
+        total = library.tariff([0, 3, 1250, 2, 0, 100], w, packed)      # hundredths, an int
     except gidzelma.Refused as refused:
         print(refused, refused.rows)
 
@@ -14,6 +15,7 @@ standard library, and refusals.py beside this file. Threads may call at the same
 started where little stack is given needs threading.stack_size(gidzelma.STACK_LEN) before.
 """
 
+import array
 import ctypes
 import ctypes.util
 import os
@@ -34,14 +36,16 @@ CONVERSIONS = ("read_schedule", "write_schedule")   # between a schedule and its
 # What a call answers: its number, the size written or needed, how many rows were written, and whether
 # there are more.
 Answer = namedtuple("Answer", "number size rows more")
+# What the call over a tariff answers: its number, and the sum in hundredths, 0 where it is refused.
+Charge = namedtuple("Charge", "number total")
 # A row of a diagnosis. Names are tuples of one or two words, a word is its place in the sheet's word list;
 # what is absent is None.
 Row = namedtuple("Row", "kind subject other word")
 
 
 class Refused(Exception):
-    """A sheet, a schedule or records that are turned back: the number, the rows after 8 and 9, and whether there
-    are more of them."""
+    """A sheet, a schedule, records or a tariff that are turned back: the number, the rows after 8 and 9, and
+    whether there are more of them."""
 
     def __init__(self, number, rows=(), more=False):
         super().__init__(number, rows, more)
@@ -72,6 +76,12 @@ def lent(data):
     return (ctypes.c_uint8 * len(data)).from_buffer(data) if data else (ctypes.c_uint8 * 1)()
 
 
+def numbers_of(tariff):
+    """The numbers of a tariff as a slice for C, and how many; one that does not fit 32 bits is an OverflowError."""
+    numbers = array.array("i", tariff)
+    return (ctypes.c_int32 * max(1, len(numbers)))(*numbers), len(numbers)
+
+
 class Library:
     """The calls of a shared object."""
 
@@ -80,7 +90,8 @@ class Library:
         library, size = ctypes.CDLL(path), ctypes.c_size_t
         given, slice_ = [ctypes.c_char_p, size], [ctypes.c_void_p, size]
         kinds = {**dict.fromkeys(CALLS, given + 3 * slice_),
-                 **dict.fromkeys(CONVERSIONS, [size] + given + 2 * slice_)}
+                 **dict.fromkeys(CONVERSIONS, [size] + given + 2 * slice_),
+                 "tariff": slice_ + [size] + given + [ctypes.c_void_p]}
         self.calls = {}
         for name, kind in kinds.items():
             try:
@@ -139,6 +150,19 @@ class Library:
     def write_schedule(self, w, records):
         """The packed schedule of records."""
         return self.converted("write_schedule", w, records, len(records))
+
+    def charge(self, tariff, w, schedule):
+        """The call over a tariff, given as its numbers, and a packed schedule; its Charge."""
+        total, schedule = ctypes.c_int64(), bytes(schedule)
+        number = self.calls["tariff"](*numbers_of(tariff), w, schedule, len(schedule), ctypes.byref(total))
+        return Charge(number, total.value)
+
+    def tariff(self, tariff, w, schedule):
+        """What a tariff charges for the items of a packed schedule, in hundredths."""
+        answer = self.charge(tariff, w, schedule)
+        if answer.number:
+            raise Refused(answer.number)
+        return answer.total
 
 
 def places():

@@ -25,14 +25,14 @@ def syntax_of(name, data, cascade=False):
     return SHEET if data[:1] and data[0] < 32 and data[0] not in BLANKS else TEXT
 
 
-def text_in(name, data, problems):
+def text_in(name, data, problems, instead="--decode prints that of a sheet"):
     """The characters of a text file, one a byte; None where it has bytes that no text has."""
     data = data.removeprefix(b"\xef\xbb\xbf")
     found = NO_TEXT.search(data)
     if found:
         before = data[:found.start()].split(b"\n")
         place = Place(called(name), len(before), len(before[-1]) + 1)
-        problems.error(place, f"the byte {found[0][0]:02x} (hexadecimal) is in no text; --decode prints that of a sheet")
+        problems.error(place, f"the byte {found[0][0]:02x} (hexadecimal) is in no text; {instead}")
         return None
     return data.decode("latin-1")
 

@@ -5,11 +5,12 @@ the requests of document 02.
 `schedule` and `order` give the answer and both slices after the call. The
 lines are computed twice: by the synthesis as the Rust does it, and from the
 proper ancestors alone as 01 states them; the two are asserted to agree.
-`read_schedule` and `write_schedule` give the answer and the lent slice.
+`read_schedule` and `write_schedule` give the answer and the lent slice,
+`tariff` the number and the sum.
 
 model_reading.py, model_order.py, model_synthesis.py, model_lines.py,
-model_packing.py and model_conversion.py have the parts, which are brought in
-here, so that one import serves.
+model_packing.py, model_conversion.py and model_tariff.py have the parts, which
+are brought in here, so that one import serves.
 """
 
 import argparse
@@ -22,11 +23,12 @@ from model_order import ROWS, Row, organize_type_map, rounds
 from model_packing import pack, printed, row_bytes, sheet_words
 from model_reading import Refused, read_sheet, words_of
 from model_synthesis import Inherited, Synthesis, dedup_inherited_annotations, difference, intersection
+from model_tariff import Charged, tariff, total_printed
 
-__all__ = ["LISTING_SIZE", "ROWS", "SHEET_LIMIT", "Answer", "Converted", "Inherited", "Line", "Making", "Refused",
-           "Row", "Synthesis", "answer", "dedup_inherited_annotations", "difference", "intersection", "items_of",
-           "order", "organize_type_map", "pack", "printed", "read_schedule", "read_sheet", "records_of", "row_bytes",
-           "schedule", "sheet_words", "words_of", "write_schedule"]
+__all__ = ["LISTING_SIZE", "ROWS", "SHEET_LIMIT", "Answer", "Charged", "Converted", "Inherited", "Line", "Making",
+           "Refused", "Row", "Synthesis", "answer", "dedup_inherited_annotations", "difference", "intersection",
+           "items_of", "order", "organize_type_map", "pack", "printed", "read_schedule", "read_sheet", "records_of",
+           "row_bytes", "schedule", "sheet_words", "tariff", "total_printed", "words_of", "write_schedule"]
 
 SHEET_LIMIT, LISTING_SIZE = 40960, 65536
 Answer = namedtuple("Answer", "number size rowcount flag listing diagnosis")

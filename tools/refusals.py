@@ -31,7 +31,16 @@ OF_SCHEDULES = {
          "1 to 3 words, and of up to 448 marks; fewer than 8 bits may follow the last field, all of them zero"),
 }
 
-REFUSALS = {**OF_SHEETS, **OF_SCHEDULES}
+# Those of a tariff, which the call that sums what it charges has besides those of the schedule.
+OF_TARIFFS = {
+    14: ("the tariff is too long", "it may have 99 numbers, 33 rows of three"),
+    15: ("a row of the tariff is not allowed, or the last one is broken",
+         "three numbers a row: the sort, 0 for real resources, 1 for virtual ones, 2 for extension lines; the number of "
+         "parents, 2 to 17 for sorts 0 and 1, 0 for sort 2; the rate, -99,999 to 99,999 hundredths"),
+    16: ("two rows of the tariff have one sort and one number of parents", ""),
+}
+
+REFUSALS = {**OF_SHEETS, **OF_SCHEDULES, **OF_TARIFFS}
 
 # The kinds of the rows after 8 and 9: the name of the kind, and what a row says.
 KINDS = {

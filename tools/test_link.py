@@ -10,6 +10,7 @@ import hashlib
 import os
 import re
 import shutil
+import struct
 import subprocess
 import sys
 import tarfile
@@ -25,11 +26,12 @@ import building
 import gidzelma
 import model
 import model_conversion
+import model_tariff
 import program
 import refusals
 import sheetlib
 import test_programs as programs
-from maps import large
+from maps import large, tariffs
 from test_programs import BASE, BASE_TEXT, CALLS, Folder
 
 HEADER = os.path.join(ROOT, "include", "gidzelma.h")
@@ -37,8 +39,8 @@ ARCHIVE = building.library(ROOT).path
 STRICT = ["-Wall", "-Wextra", "-Wpedantic", "-Werror"]
 LARGEST = 1 << 18  # above the longest schedule that was found
 PACKED = bytes.fromhex("06000200800080001090140802800010")
-PROGRAMS = ("schedule", "order", "batch", "show")  # of the archive
-EXPORTED = ["gidzelma_" + name for name in ("order", "read_schedule", "schedule", "write_schedule")]
+PROGRAMS = ("schedule", "order", "batch", "show", "charge")  # of the archive
+EXPORTED = ["gidzelma_" + name for name in ("order", "read_schedule", "schedule", "tariff", "write_schedule")]
 
 C_COMPILERS = [name for name in ("gcc", "clang") if shutil.which(name)]
 CXX_COMPILERS = [name for name in ("g++", "clang++") if shutil.which(name)]
@@ -46,7 +48,7 @@ LINKED = building.at_hand(ROOT, building.library(ROOT)) and bool(C_COMPILERS)
 BUILT = LINKED and all(building.at_hand(ROOT, building.program(ROOT, name))
                        for name in PROGRAMS)
 NOT_LINKED = "the library is not built, or older than its sources (rt staticlib exports), or cc is missing"
-NOT_BUILT = "the programs are not built, or older than their sources (rt check schedule order batch show)"
+NOT_BUILT = "the programs are not built, or older than their sources (rt check schedule order batch show charge)"
 NO_CARGO = "cargo is missing"
 NO_PKG_CONFIG = "pkg-config is missing"
 linked = unittest.skipUnless(LINKED, NOT_LINKED)
@@ -117,12 +119,16 @@ uint32_t use(enum gidzelma_number number, enum gidzelma_kind kind, const char *v
     uint8_t sheet[1] = {0}, listing[1] = {0}, records[GIDZELMA_RECORDS_LEN(sizeof listing)] = {0};
     struct gidzelma_row rows[GIDZELMA_ROWS_MAX];
     uint32_t parts[GIDZELMA_PARTS_LEN];
+    int32_t tariff[GIDZELMA_TARIFF_ROW_LEN] = {GIDZELMA_SORT_VIRTUAL, GIDZELMA_PARENTS_MIN, -GIDZELMA_RATE_MAX};
+    int64_t total;
     if (number == GIDZELMA_ACCEPTED && kind == GIDZELMA_KIND_CYCLE && version[0] == GIDZELMA_VERSION[0])
         return gidzelma_order(sheet, 1, listing, 1, (uint8_t *)rows, sizeof rows, parts, 3);
     if (number == GIDZELMA_SCHEDULE_PAST_END)
         return gidzelma_read_schedule(GIDZELMA_WORDS_MAX, listing, 1, records, sizeof records, parts, 3);
     if (number == GIDZELMA_SCHEDULE_NOT_ALLOWED)
         return gidzelma_write_schedule(GIDZELMA_WORDS_MIN, records, sizeof records, listing, 1, parts, 3);
+    if (number == GIDZELMA_TARIFF_NOT_ALLOWED)
+        return gidzelma_tariff(tariff, GIDZELMA_TARIFF_ROW_LEN, GIDZELMA_WORDS_MIN, listing, 1, &total);
     return gidzelma_schedule(sheet, 1, listing, 1, (uint8_t *)rows, sizeof rows, parts, 3);
 }
 """
@@ -163,12 +169,17 @@ class Header(Folder):
             self.assertRegex(page, rf"\b{values[name]:,}\b", name)
         self.assertEqual((values["WORDS_MIN"], values["WORDS_MAX"]), model_conversion.WORDS)
         self.assertEqual((values["RECORD_LEN"], values["RECORDS_PER_BYTE"]), (model_conversion.RECORD, 8 * 2))
+        self.assertEqual((values["TARIFF_ROW_LEN"], values["TARIFF_MAX"]), (model_tariff.ROW, model_tariff.MOST_NUMBERS))
+        self.assertEqual((-values["RATE_MAX"], values["RATE_MAX"]), model_tariff.RATES)
+        self.assertEqual([values[f"SORT_{name}"] for name in ("REAL", "VIRTUAL", "LINE")], list(model_tariff.PARENTS))
+        self.assertEqual((values["PARENTS_MIN"], values["PARENTS_MAX"]), model_tariff.PARENTS[model_tariff.REAL])
         for name in ("DIAGNOSIS_LEN", "ROW_LEN", "ABSENT", "STACK_LEN", "LISTING_TOO_SHORT", "RECORDS_PER_BYTE"):
             self.assertEqual(getattr(gidzelma, name), values[name], name)
         rust = text_of("rust", "src", "lib.rs")
         for name in ("SHEET_MAX", "ROW_LEN", "ROWS_MAX", "ORDER_MAX", "SCHEDULE_MAX", "RECORD_LEN",
-                     "RECORDS_PER_BYTE"):
+                     "RECORDS_PER_BYTE", "TARIFF_ROW_LEN", "TARIFF_MAX"):
             self.assertIn(f"pub const {name}: usize = {values[name]:_};", rust)
+        self.assertIn(f"pub const RATE_MAX: i32 = {values['RATE_MAX']:_};", rust)
 
     def test_words(self):
         """The words of the Rust are those of the tools' table."""
@@ -224,6 +235,21 @@ class Linked(Folder):
         self.assertEqual(ran([example, "4", self.path("gone")])[:2], (2, b""))
         self.assertEqual(ran([example])[:2], (2, b""))
 
+    def test_tariff(self):
+        """examples/tariff.c prints the model's sum, or says its number."""
+        schedule = os.path.join(ROOT, "examples", "base.schedule")
+        for compiler in C_COMPILERS:
+            example = self.build("examples/tariff.c", "-std=c99", *STRICT, compiler=compiler)
+            self.assertEqual(ran([example, "4", schedule, *"0 2 1250 2 0 100".split()]), (0, b"total 13.50\n", ""))
+        for numbers in ([], [2, 0, -5], [2, 0, -105], [0], [0, 2, 1, 0, 2, 2], [0, 2, 100000], 34 * [2, 0, 1]):
+            for w in (4, 0):
+                status, out, error = ran([example, str(w), schedule, *map(str, numbers)])
+                answer = model.tariff(numbers, w, PACKED)
+                said = model.total_printed(answer)
+                self.assertEqual((status, out.decode(), error), (1, "", said) if answer.number else (0, said, ""))
+        for args in ([], ["4"], ["4", self.path("gone")], ["4", schedule, "x"], ["4", schedule, str(1 << 31)]):
+            self.assertEqual(ran([example, *args])[:2], (2, b""))
+
     def test_symbols(self):
         """The library asks for nothing but memcpy and memset, and gives the calls alone."""
         if not shutil.which("nm"):
@@ -259,6 +285,14 @@ class Linked(Folder):
                 number, used = self.used([stack, str(w)], given)
                 self.assertEqual(number, want)
                 self.assertLess(used, 1e6 * least)
+        stack = self.build("bench/stack.c", "-DCALL=gidzelma_tariff", "-DTARIFF", "-pthread")
+        numbers = tariffs.numbers(tariffs.full(tariffs.odd))
+        for tariff, given, want in ((numbers, packed, 0), (numbers, packed[:-2], 11), (numbers, packed + b"\0", 12),
+                                    ([], packed, 0), (numbers[:-1], packed, 15), (2 * numbers[:6], packed, 16)):
+            path = self.write("tariff", struct.pack(f"={len(tariff)}i", *tariff))
+            number, used = self.used([stack, str(w), path], given)
+            self.assertEqual(number, want)
+            self.assertLess(used, 1e6 * least)
 
     def used(self, words, given):
         """The number, and the bytes of stack, that bench/stack.c finds."""
@@ -396,6 +430,20 @@ class Rust(Folder):
         self.assertEqual(self.cargo("run", "--example", "show", "--", BASE, short), (1, b"refused 11\n", ""))
         self.assertEqual(self.cargo("run", "--example", "show", "--", BASE, self.path("gone"))[0], 2)
 
+    def test_tariff(self):
+        """What the example prints beside each line adds up to the sum; lines and sum are the stored ones."""
+        files = [os.path.join(ROOT, "examples", name) for name in ("pool.sheet", "pool.schedule")]
+        rows = ["real:2:1250", "real:3:475", "real:4:200", "virtual:2:-120", "line:0:85"]
+        status, out, error = self.cargo("run", "--example", "tariff", "--", *files, *rows)
+        self.assertEqual((status, error), (0, ""))
+        *lines, total = (line.split(" ", 1) for line in out.decode().splitlines())
+        items = [line for line in text_of("examples", "pool.schedule.txt").splitlines() if not line.startswith("T ")]
+        self.assertEqual([line for _, line in lines], items)
+        self.assertEqual(" ".join(total) + "\n", text_of("examples", "pool.total.txt"))
+        self.assertEqual(sum(int(amount.replace(".", "")) for amount, _ in lines), int(total[1].replace(".", "")))
+        self.assertEqual(self.cargo("run", "--example", "tariff", "--", *files, "line:1:1"), (1, b"refused 15\n", ""))
+        self.assertEqual(self.cargo("run", "--example", "tariff", "--", *files, "line:1")[0], 2)
+
     def test_library(self):
         """GIDZELMA_LIB_DIR: a folder without the library, and one that has it under its own name."""
         more = {"CARGO_TARGET_DIR": self.path("cargo"), "GIDZELMA_LIB_DIR": self.path("lib")}
@@ -488,6 +536,16 @@ class Archive(Folder):
         for words in (["base.sheet"], ["-w", "4"]):
             self.assertEqual(self.run_program("compare", "-q", "--packed", *words, *["base.schedule"] * 2, cwd=examples),
                              (0, b"", ""))
+
+    def test_tariff(self):
+        """A total, and a text with an error."""
+        words = [os.path.join("examples", name) for name in ("rates.txt", "pool.sheet", "pool.schedule")]
+        self.assertEqual(self.run_program("tariff", *words, cwd=self.top),
+                         (0, text_of("examples", "pool.total.txt").encode(), ""))
+        path = self.write("rates", b"line 1 1")
+        self.assertEqual(self.run_program("tariff", path, *words[1:], cwd=self.top),
+                         (2, b"", f"{path}:1:6: error: `1` is no number of parents for `line`: 0\n"
+                                  f"tariff: {path}: 1 error, nothing is charged\n"))
 
     def test_sheet(self):
         """A sheet from a text, and from Cascade's syntax."""

@@ -312,7 +312,7 @@ class Tables(unittest.TestCase):
 
     def test_complete(self):
         self.assertEqual(list(refusals.OF_SHEETS), list(range(1, 11)))
-        self.assertEqual(list(refusals.REFUSALS), list(range(1, 13)))
+        self.assertEqual(list(refusals.REFUSALS), [*range(1, 13), *range(14, 17)])
         self.assertEqual(list(refusals.KINDS), list(range(1, 7)))
 
     def test_limits(self):
@@ -1252,7 +1252,7 @@ class CompareOptions(Folder):
             status, out, error = run("compare", *args)
             self.assertEqual((status, error), (0, ""))
             self.assertTrue(out.decode().startswith("Usage: compare "))
-        numbers = [f"{number:2}  {said}" for number, (said, _) in refusals.REFUSALS.items()]
+        numbers = [f"{number:2}  {refusals.said_of(number)}" for number in range(1, 13)]
         for part in ["--packed", "-w W", "--differences", "-q, --quiet", "--width N", "at least 20", "--json",
                      "Status: 0 the schedules are the same", *numbers]:
             self.assertIn(part, out.decode())
@@ -1432,6 +1432,23 @@ class Building(Folder):
         status, out, error = self.ask(path, path, call="compare")
         self.assertEqual((status, out, error.splitlines()[-1].partition(";")[0]),
                          (2, b"", "compare: low NOT PROVED (exit 1, 0 s)"))
+
+    def test_tariff(self):
+        """bin/tariff has the program charge, built where it is missing; files and errors in the rates come first."""
+        rates, schedule = self.write("rates", b"line 0 1"), self.write("a", b"")
+        self.trouble(self.ask(rates, "-w", "2", "gone", call="tariff"), "tariff: gone: no such file or directory")
+        self.assertEqual(self.ask("-", "-w", "2", schedule, call="tariff", given=b"line")[:2], (2, b""))
+        self.assertEqual(self.runs(), [])
+        self.write("crates.txt", self.read("crates.txt") + b"charge: low io\n")
+        self.write("crates/charge/src/main.rt", b"fn\n")
+        self.write("kit/program", PROGRAM.replace("T stand_in", "total 1.50").encode())
+        self.age()
+        status, out, error = self.ask(rates, "-w", "2", schedule, call="tariff")
+        self.assertEqual((status, out, self.runs()), (0, b"total 1.50\n", ["check charge"]))
+        self.assertTrue(error.startswith("tariff: the program is not built: rt proves"), error)
+        self.assertEqual((self.ask(rates, "-w", "2", schedule, call="tariff"), self.runs()), ((0, b"total 1.50\n", ""), []))
+        self.write("target/bin/charge", b"#!/bin/sh\ncat > /dev/null\n")
+        self.trouble(self.ask(rates, "-w", "2", schedule, call="tariff"), f"tariff: {schedule}: the program gave no answer")
 
     def test_newer(self):
         """Each source that is newer, also one that is gone; rt is asked once for each change."""

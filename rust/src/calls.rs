@@ -129,6 +129,14 @@ extern "C" {
         parts: *mut u32,
         parts_len: usize,
     ) -> u32;
+    fn gidzelma_tariff(
+        tariff: *const i32,
+        tariff_len: usize,
+        w: usize,
+        schedule: *const u8,
+        schedule_len: usize,
+        total: *mut i64,
+    ) -> u32;
 }
 
 type Conversion =
@@ -317,6 +325,43 @@ fn converted(
     };
     match number {
         0 => Ok(parts[0] as usize),
+        _ => Err(Refusal::from(number)),
+    }
+}
+
+/// What a tariff charges for the items of a packed schedule, in hundredths, or why there is no sum. The
+/// tariff is numbers, three a row, as [`TariffRow::numbers`](crate::TariffRow::numbers) has them; `w` is the
+/// number of words of the schedule's sheet.
+///
+/// A row adds its rate for each item of its sort that has at least as many parents as the row names; the order
+/// of the rows makes no difference. The tariff is tested first: 14, 15, 16; then the schedule is read as
+/// [`read_schedule`] reads it, also for an empty tariff: 12, and 11 where it ends early. The sum is exact, and
+/// lies within 104,854,951,440 of 0, whatever the tariff and the schedule.
+///
+/// ```
+/// use gidzelma::{tariff, Refusal};
+/// let packed = std::fs::read("../examples/base.schedule").unwrap();
+/// // 12.50 for a resource of 2 parents or more, 4.00 besides from 3 parents on, 1.00 for an extension line
+/// assert_eq!(tariff(&[0, 2, 1250, 0, 3, 400, 2, 0, 100], 4, &packed), Ok(1350));
+/// assert_eq!(tariff(&[], 4, &packed), Ok(0));
+/// assert_eq!(tariff(&[0, 1, 1250], 4, &packed), Err(Refusal::TariffNotAllowed));
+/// assert_eq!(tariff(&[], 4, &packed[..15]), Err(Refusal::SchedulePastEnd));
+/// ```
+pub fn tariff(tariff: &[i32], w: usize, schedule: &[u8]) -> Result<i64, Refusal> {
+    let mut total = 0;
+    // SAFETY: as in `answer`; `total` is a variable of this function, which no slice overlaps.
+    let number = unsafe {
+        gidzelma_tariff(
+            tariff.as_ptr(),
+            tariff.len(),
+            w,
+            schedule.as_ptr(),
+            schedule.len(),
+            &mut total,
+        )
+    };
+    match number {
+        0 => Ok(total),
         _ => Err(Refusal::from(number)),
     }
 }

@@ -1,10 +1,11 @@
 //! Access schedules of dosing controllers, from Rust: the proved calls behind safe functions.
 //!
 //! A call turns a *sheet* (a bit-packed type map) into a bit-packed listing, or answers with one of ten
-//! refusals; two further calls turn a packed schedule into records of two bytes a field, and back. The
-//! calls are compiled Rattle; what each answers, and what it leaves in the slices that it is lent, is
-//! proved for every input. What this package adds is not proved: the owning calls, and the readers of
-//! words, rows, listings and records, which are tested, and which take any bytes without a panic.
+//! refusals; two further calls turn a packed schedule into records of two bytes a field, and back, and one
+//! sums what a tariff charges for its items. The calls are compiled Rattle; what each answers, and what it
+//! leaves in the slices that it is lent, is proved for every input. What this package adds is not proved: the
+//! owning calls, the rows of a tariff, and the readers of words, rows, listings and records, which are tested,
+//! and which take any bytes without a panic.
 //!
 //! | to have | use |
 //! |---|---|
@@ -12,6 +13,7 @@
 //! | the same without allocation, in lent slices | [`schedule`], [`order`] |
 //! | a schedule tested and read, field by field, and written | [`read_schedule_vec`], [`write_schedule_vec`], and [`read_schedule`], [`write_schedule`] in lent slices |
 //! | what a schedule or its records hold | [`Schedule`], and [`Words`] of the sheet to spell it |
+//! | what a tariff charges for a schedule | [`tariff`], over the numbers of its [`TariffRow`]s |
 //! | why a sheet is turned back | [`Refused`] with its [`Row`]s, or [`Answer::rows`] |
 //!
 //! ```
@@ -58,12 +60,30 @@
 //! # }
 //! ```
 //!
+//! A tariff has rows, which add up: each charges the items of its sort from a number of parents on.
+//!
+//! ```
+//! use gidzelma::{tariff, Sort, TariffRow};
+//!
+//! # fn main() -> Result<(), Box<dyn std::error::Error>> {
+//! let rows = [
+//!     TariffRow { sort: Sort::Real, parents: 2, rate: 1250 },
+//!     TariffRow { sort: Sort::Real, parents: 3, rate: 400 },
+//!     TariffRow { sort: Sort::Line, parents: 0, rate: -5 },
+//! ];
+//! let numbers: Vec<i32> = rows.iter().flat_map(TariffRow::numbers).collect();
+//! let packed = std::fs::read("../examples/base.schedule")?;
+//! assert_eq!(tariff(&numbers, 4, &packed)?, 1245); // in hundredths; 4 is the number of words
+//! # Ok(())
+//! # }
+//! ```
+//!
 //! # Threads
 //!
 //! The calls keep nothing, so that threads may call at the same time. They need stack, on the maps that
 //! were tried up to 1.1 MB for a schedule that is refused with 9, and 0.05 MB for any other and for an order;
-//! less than 0.01 MB between a schedule and its records; a thread that has less is ended by a signal. A
-//! thread of [`std::thread::spawn`] has 2 MiB; this one has more:
+//! less than 0.01 MB between a schedule and its records, and for a tariff; a thread that has less is ended by
+//! a signal. A thread of [`std::thread::spawn`] has 2 MiB; this one has more:
 //!
 //! ```
 //! let sheet = std::fs::read("../examples/base.sheet").unwrap();
@@ -81,15 +101,17 @@ mod listing;
 mod names;
 mod refusal;
 mod rows;
+mod tariff;
 
 pub use calls::{
-    order, order_vec, read_schedule, read_schedule_vec, schedule, schedule_vec, write_schedule,
-    write_schedule_vec, Answer, Refused,
+    order, order_vec, read_schedule, read_schedule_vec, schedule, schedule_vec, tariff,
+    write_schedule, write_schedule_vec, Answer, Refused,
 };
 pub use listing::{read_order, Extension, Item, Items, Malformed, Mark, Resource, Schedule};
 pub use names::{Name, Words};
 pub use refusal::Refusal;
 pub use rows::{Kind, Row, Rows};
+pub use tariff::{Sort, TariffRow};
 
 /// The bytes of the longest sheet that is read; a longer one is refused by 1.
 pub const SHEET_MAX: usize = 40_960;
@@ -116,6 +138,15 @@ pub const RECORD_LEN: usize = 2;
 /// The bytes of records for each byte of a schedule that always suffice: a field has a bit at least. The
 /// records of ordinary maps take three to four times the bytes of the schedule.
 pub const RECORDS_PER_BYTE: usize = 16;
+
+/// The numbers of a row of a tariff.
+pub const TARIFF_ROW_LEN: usize = 3;
+
+/// The numbers that a tariff has at most, those of 33 rows; a longer one is refused by 14.
+pub const TARIFF_MAX: usize = 99;
+
+/// The greatest rate of a row, in hundredths; the least is `-RATE_MAX`.
+pub const RATE_MAX: i32 = 99_999;
 
 /// The bytes of stack that suffice for a call.
 pub const STACK_LEN: usize = 4 << 20;

@@ -3,8 +3,8 @@
 use std::error::Error;
 use std::fmt;
 
-/// Why a sheet is turned back, by 1 to 10, or a schedule or its records, by 11 and 12. `docs/FORMAT.md`,
-/// 7.2 and 12.3, has the condition of each.
+/// Why a sheet is turned back, by 1 to 10, a schedule or its records, by 11 and 12, or a tariff, by 14 to 16.
+/// `docs/FORMAT.md`, 7.2, 12.3 and 13.2, has the condition of each.
 #[derive(Clone, Copy, Debug, PartialEq, Eq, PartialOrd, Ord, Hash)]
 #[non_exhaustive]
 pub enum Refusal {
@@ -33,12 +33,18 @@ pub enum Refusal {
     /// 12: a schedule has a number of words or a field that is not allowed, or does not end where its
     /// last field does.
     ScheduleNotAllowed,
+    /// 14: the tariff has more than [`TARIFF_MAX`](crate::TARIFF_MAX) numbers.
+    TariffTooLong,
+    /// 15: a sort, a number of parents or a rate of the tariff is not allowed, or its last row is broken.
+    TariffNotAllowed,
+    /// 16: two rows of the tariff have one sort and one number of parents.
+    TariffTwice,
     /// A number that this version of the package does not know.
     Other(u32),
 }
 
 impl Refusal {
-    /// The number: 1 to 12, or that of [`Refusal::Other`].
+    /// The number: 1 to 12, 14 to 16, or that of [`Refusal::Other`].
     ///
     /// ```
     /// use gidzelma::Refusal;
@@ -60,11 +66,15 @@ impl Refusal {
             Refusal::ListingTooShort => 10,
             Refusal::SchedulePastEnd => 11,
             Refusal::ScheduleNotAllowed => 12,
+            Refusal::TariffTooLong => 14,
+            Refusal::TariffNotAllowed => 15,
+            Refusal::TariffTwice => 16,
             Refusal::Other(number) => number,
         }
     }
 
-    /// In words.
+    /// In words, a line for each.
+    #[rustfmt::skip]
     fn said(self) -> &'static str {
         match self {
             Refusal::SheetTooLong => "the sheet is too long",
@@ -79,6 +89,9 @@ impl Refusal {
             Refusal::ListingTooShort => "the schedule is longer than the listing",
             Refusal::SchedulePastEnd => "a field, or its record, passes the end",
             Refusal::ScheduleNotAllowed => "no schedule has such a value, or such an end",
+            Refusal::TariffTooLong => "the tariff is too long",
+            Refusal::TariffNotAllowed => "a row of the tariff is not allowed, or the last one is broken",
+            Refusal::TariffTwice => "two rows of the tariff have one sort and one number of parents",
             Refusal::Other(_) => "a number that this version does not know",
         }
     }
@@ -99,6 +112,9 @@ impl From<u32> for Refusal {
             10 => Refusal::ListingTooShort,
             11 => Refusal::SchedulePastEnd,
             12 => Refusal::ScheduleNotAllowed,
+            14 => Refusal::TariffTooLong,
+            15 => Refusal::TariffNotAllowed,
+            16 => Refusal::TariffTwice,
             _ => Refusal::Other(number),
         }
     }

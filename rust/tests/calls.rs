@@ -253,7 +253,7 @@ fn numbers() {
         let refusal = Refusal::from(number);
         assert_eq!(refusal.number(), number);
         let known = !matches!(refusal, Refusal::Other(_));
-        assert_eq!(known, (1..=12).contains(&number));
+        assert_eq!(known, matches!(number, 1..=12 | 14..=16));
         assert!(refusal
             .to_string()
             .starts_with(&format!("refused {number}: ")));

@@ -8,6 +8,7 @@ ghost use Rattle.definitions.specs.Answer.{overwrite};
 ghost use Rattle.answers.specs.Answers.{answerOf, orderInput, scheduleInput};
 ghost use Rattle.access.specs.Lines.{LinesListed};
 ghost use Rattle.definitions.specs.Conversion.{readSchedule, writeSchedule};
+ghost use Rattle.tariff_definitions.specs.Tariff.{charged};
 ghost use Rattle.exports.specs.Exports.{exported};
 ghost use Rattle.exports.specs.Conversions.{exportedConversion};
 ghost use Rattle.exports.specs.Parts.{partsOf, Small};
@@ -141,4 +142,15 @@ pub extern "C" fn gidzelma_write_schedule(
     }
     let answer = schedule_records::write_schedule(w, records, schedule);
     tell(answer, parts)
+}
+
+// What a tariff charges for a packed schedule (FORMAT 13.4). The sum goes to `total`, 0 where the answer is a refusal.
+#[no_mangle]
+pub extern "C" fn gidzelma_tariff(tariff: &[i32], w: usize, schedule: &[u8], total: &mut i64) -> u32
+    ensures { λ r. ⌜ record { number = r; total = now (total .exit) } ≡ charged (now (tariff .entry)) w (now (schedule .entry)) ⌝ }
+{
+    let charged = tariff::total(tariff, w, schedule);
+    let sum = charged.total;
+    *total = sum;
+    charged.number as u32
 }

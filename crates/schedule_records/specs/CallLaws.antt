@@ -5,10 +5,9 @@ use mathlib.Core.Path.{_≡_, refl, sym, ap, ap₂, _∙_, subst}
 use Prim.Native.Nat.{ℕ, _+_, _*_, _/_, _≤_, _<_}
 use native.Mathlib.Decide.{decLe}
 use native.Mathlib.Omega.{arith}
-use borrow.Author.Tests.{lt-ltb, le-ltb}
-use lib.Dec.{ltb}
+use borrow.Author.Tests.{le-ltb}
 use lib.ListN.{length, drop}
-use Rattle.lists.specs.Tests.{never, or-left, or-right}
+use Rattle.lists.specs.Tests.{never}
 use Rattle.definitions.specs.Bits.{bitsOf, size, pack}
 use Rattle.definitions.specs.Parse.{Fault, past, notAllowed, Parsed, done, refused}
 use Rattle.definitions.specs.Checks.{badFill}
@@ -22,10 +21,10 @@ use Rattle.bits.specs.ReadLaws.{isDone}
 use Rattle.bits.specs.Writing.{put}
 use Rattle.bits.specs.WriteLaws.{put-pack}
 use Rattle.answers.specs.declared.Answer.{Answer}
-use Rattle.answers.specs.Answers.{parts, answerOf}
+use Rattle.answers.specs.Answers.{parts}
 use Rattle.answers.specs.Telling.{hasParts, Tells}
 use Rattle.schedule_records.specs.declared.Passed.{Passed}
-use Rattle.schedule_records.specs.Turning.{formOf, mapped, left, whole, filled, told, mostBits, Passes, Converts}
+use Rattle.schedule_records.specs.Turning.{formOf, mapped, left, whole, filled, told, Passes, Converts}
 
 -- a refusal of a schedule comes with its number alone
 pub alone : (f : Fault) → hasParts (scheduleFault f) ≡ false
@@ -109,18 +108,12 @@ module _ (W : ℕ) (reading : Bool) (source lent : List ℕ) where
   -- ---- the answers
 
   -- W that may not be
-  turned-away : (a : Answer) → badWidth W ≡ true → Tells a (parts 12 0 0 false) → Converts a lent due
+  pub turned-away : (a : Answer) → badWidth W ≡ true → Tells a (parts 12 0 0 false) → Converts a lent due
   turned-away a e t = record {
     outcome = ap (λ (x : rules.Answer). record { answer = x; output = lent }) (t .parts) ∙ sym (by-width true e);
     case = t .case;
     small = omega (arith, ap (λ (x : rules.Answer). x .size) (t .parts));
   }
-
-  pub narrow : (a : Answer) → W < 2 → Tells a (parts 12 0 0 false) → Converts a lent due
-  narrow a h t = turned-away a (or-left (ltb mostWords W) (lt-ltb W leastWords h)) t
-
-  pub broad : (a : Answer) → 200 < W → Tells a (parts 12 0 0 false) → Converts a lent due
-  broad a h t = turned-away a (or-right (ltb W leastWords) (lt-ltb mostWords W h)) t
 
   module _ (w : LegalWidth W) (looked : Passed) (lent′ : List ℕ) (l : Passes W reading false source lent lent′ looked) where
     pub unchanged : lent′ ≡ lent

@@ -2,10 +2,10 @@
 use mathlib.Core.Bool.{Bool, true, false, not, cond}
 use mathlib.Core.List.{List, [], _++_}
 use mathlib.Core.Path.{_≡_}
-use Prim.Native.Nat.{ℕ, _+_, _*_, _-_, _%_, _^_, _≤_, _<_, min}
+use Prim.Native.Nat.{ℕ, _+_, _*_, _-_, _%_, _^_, _≤_, _<_}
 use lib.ListN.{length, drop}
 use Rattle.definitions.specs.Bits.{bitsOf}
-use Rattle.definitions.specs.Parse.{Fault, past, notAllowed, Parsed, done, refused, Parser, refuse, choose, between}
+use Rattle.definitions.specs.Parse.{Fault, notAllowed, Parsed, done, refused, Parser}
 use Rattle.definitions.specs.Checks.{badFill}
 use Rattle.definitions.specs.ScheduleFields.{Fields, Form, packed, recorded, readFields, writeFields, scheduleFields}
 use Rattle.definitions.specs.Conversion.{Converted, scheduleFault, turnedAway, written}
@@ -13,20 +13,9 @@ use Rattle.bits.specs.Writing.{put}
 use Rattle.answers.specs.declared.Answer.{Answer}
 use Rattle.answers.specs.Answers.{answerOf, caseOf}
 use Rattle.schedule_fields.specs.declared.Place.{Place}
-use Rattle.schedule_fields.specs.declared.Rule.{Rule}
 use Rattle.schedule_fields.specs.Places.{fieldsAt, fieldsLeft}
-use Rattle.schedule_records.specs.declared.Met.{Met}
+use Rattle.schedule_values.specs.Meeting.{mostBits}
 use Rattle.schedule_records.specs.declared.Passed.{Passed}
-
--- ---- bits
-
--- The most bits that a schedule has in either form: no field has more than a record.
-abbrev pub mostBits : ℕ
-mostBits = 16 * fieldsLeft Place.Names
-
--- The bits of so many bytes, or more than that.
-abbrev pub bitsWithin : ℕ → ℕ
-bitsWithin bytes = 8 * min bytes (2 ^ 28)
 
 -- ---- one field
 
@@ -34,18 +23,6 @@ bitsWithin bytes = 8 * min bytes (2 ^ 28)
 abbrev pub formOf : Bool → Form
 formOf true = packed
 formOf false = recorded
-
--- A field where `short` tells that the other form has no room for it: both ends before its value (FORMAT 12.3).
-abbrev pub head : Bool → ℕ → ℕ → ℕ → Parser ℕ
-head short n least most = choose short (refuse past) (between n least most)
-
--- The field of n bits at p came to r.
-pub record Meets (short : Bool) (n : ℕ) (rule : Rule) (source : List ℕ) (p : ℕ) (r : Met) : Type 0 where
-  pub refused : 0 < r .number
-      → (f : Fault) × (r .number ≡ scheduleFault f) × (head short n (rule .least) (rule .most) (drop p (bitsOf source)) ≡ Parsed.refused f)
-  pub value : r .number ≤ 0
-      → (head short n (rule .least) (rule .most) (drop p (bitsOf source)) ≡ done (r .value) (drop (p + n) (bitsOf source)))
-      × (r .value ≤ rule .most) × (p + n ≤ 8 * length source) × (short ≡ false)
 
 -- A field has a bit at least; a record is two whole bytes (FORMAT 12.2).
 pub record Aligned (packed : Bool) (n p : ℕ) : Type 0 where

@@ -1,31 +1,31 @@
 -- Laws of turning one form of a schedule into the other.
-use mathlib.Core.Bool.{Bool, true, false, not, _&&_, cond, and-false}
+use mathlib.Core.Bool.{Bool, true, false, not, cond}
 use mathlib.Core.List.{List, [], _∷_, _++_, append-assoc, append-nil}
 use mathlib.Core.Path.{_≡_, refl, sym, ap, ap₂, _∙_}
 use Prim.Native.Nat.{ℕ, _+_, _*_, _-_, _/_, _^_, _≤_, _<_}
 use native.Mathlib.Nat.{zero-add, sub-zero}
 use native.Mathlib.Omega.{arith}
-use borrow.Author.Tests.{le-leb, lt-leb, le-ltb, lt-ltb, ltb-true, ltb-false}
-use lib.Dec.{leb, ltb}
+use borrow.Author.Tests.{le-ltb, lt-ltb, ltb-true, ltb-false}
+use lib.Dec.{ltb}
 use lib.ListN.{length, drop, length-append}
 use lib.Pow
 use Rattle.lists.specs.Tests.{by}
-use Rattle.definitions.specs.Bits.{toBits, bitsOf, num}
-use Rattle.definitions.specs.Parse.{past, notAllowed, Parsed, done, refused, next, pure, refuse, choose, allowed, between}
+use Rattle.definitions.specs.Bits.{toBits, bitsOf}
+use Rattle.definitions.specs.Parse.{past, notAllowed, Parsed, done, refused, next, pure, refuse, choose, between}
 use Rattle.definitions.specs.ScheduleFields.{Fields, end, field, Form, readFields, writeFields, scheduleFields}
 use Rattle.definitions.specs.Checks.{badFill}
 use Rattle.definitions.specs.LegalSchedule.{LegalWidth}
-use Rattle.bits.specs.NumberLaws.{length-toBits, length-bitsOf}
+use Rattle.bits.specs.NumberLaws.{length-toBits}
 use Rattle.bits.specs.Writing.{put}
 use Rattle.bits.specs.WriteLaws.{put-append, length-put}
 use Rattle.item_pen.specs.Pen.{Penned}
-use Rattle.sheet_window.specs.WindowLaws.{field-in, field-past}
 use Rattle.schedule_fields.specs.declared.Rule.{Rule}
 use Rattle.schedule_fields.specs.declared.Place.{Place}
 use Rattle.schedule_fields.specs.Places.{widthOf, leastOf, mostOf, followOf, fieldsAt, fieldsLeft, RuleOf, Follows}
 use Rattle.schedule_fields.specs.PlaceLaws.{Sound, sound}
-use Rattle.schedule_records.specs.declared.Met.{Met}
-use Rattle.schedule_records.specs.Turning.{formOf, head, Meets, Aligned, mapped, left, whole, filled, bitsWithin, mostBits, Going, Passes}
+use Rattle.schedule_values.specs.declared.Met.{Met}
+use Rattle.schedule_values.specs.Meeting.{head, Meets, mostBits}
+use Rattle.schedule_records.specs.Turning.{formOf, Aligned, mapped, left, whole, filled, Going, Passes}
 
 -- ---- the fields that are left
 
@@ -65,51 +65,6 @@ left-field from to (field n least most follow) xs room bs h = go (ltb room (to n
     go false = met (between (from n) least most bs)
 
 -- ---- one field
-
--- so few bits pass the end of bytes where they pass the bits that are counted
-pub past-within : (bytes p : ℕ) → p ≤ mostBits → ltb (bitsWithin bytes) p ≡ ltb (8 * bytes) p
-past-within bytes p h = by (ltb (8 * bytes) p)
-    (λ e. lt-ltb (bitsWithin bytes) p (omega (arith, ltb-true (8 * bytes) p e)) ∙ sym e)
-    (λ e. le-ltb (bitsWithin bytes) p (omega (arith, ltb-false (8 * bytes) p e)) ∙ sym e)
-
-module _ (short : Bool) (n : ℕ) (rule : Rule) (source : List ℕ) (p : ℕ) where
-  pub meets-short : short ≡ true → Meets short n rule source p (record { number = 11; value = 0 })
-  meets-short e = record { refused = λ _. (past, refl, rw e refl); value = λ h. absurd (omega arith) }
-
-  pub meets-past : short ≡ false → 0 < n → 8 * length source < p + n → Meets short n rule source p (record { number = 11; value = 0 })
-  unfolding allowed
-  meets-past e h l = record {
-    refused = λ _. (past, refl, rw (e, field-past (bitsOf source) p n h (omega (arith, length-bitsOf source))) refl);
-    value = λ z. absurd (omega arith);
-  }
-
-  -- a field that is there: its value is tested
-  tested : (v : ℕ) → short ≡ false → 0 < n → p + n ≤ 8 * length source → v ≡ num n (drop p (bitsOf source))
-      → head short n (rule .least) (rule .most) (drop p (bitsOf source))
-      ≡ choose (leb (rule .least) v && leb v (rule .most)) (pure v) (refuse notAllowed) (drop (p + n) (bitsOf source))
-  unfolding allowed
-  tested v e h l q = rw (e, field-in (bitsOf source) p n (p + n) h refl (omega (arith, length-bitsOf source)), ← q) refl
-
-  pub meets-below : (v : ℕ) → short ≡ false → 0 < n → p + n ≤ 8 * length source → v ≡ num n (drop p (bitsOf source)) → v < rule .least
-      → Meets short n rule source p (record { number = 12; value = 0 })
-  meets-below v e h l q b = record {
-    refused = λ _. (notAllowed, refl, tested v e h l q ∙ rw (lt-leb (rule .least) v b) refl);
-    value = λ z. absurd (omega arith);
-  }
-
-  pub meets-above : (v : ℕ) → short ≡ false → 0 < n → p + n ≤ 8 * length source → v ≡ num n (drop p (bitsOf source)) → rule .most < v
-      → Meets short n rule source p (record { number = 12; value = 0 })
-  meets-above v e h l q b = record {
-    refused = λ _. (notAllowed, refl, tested v e h l q ∙ rw (lt-leb v (rule .most) b, and-false (leb (rule .least) v)) refl);
-    value = λ z. absurd (omega arith);
-  }
-
-  pub meets-value : (v : ℕ) → short ≡ false → 0 < n → p + n ≤ 8 * length source → v ≡ num n (drop p (bitsOf source)) → rule .least ≤ v
-      → v ≤ rule .most → Meets short n rule source p (record { number = 0; value = v })
-  meets-value v e h l q a b = record {
-    refused = λ z. absurd (omega arith);
-    value = λ _. (tested v e h l q ∙ rw (le-leb (rule .least) v a, le-leb v (rule .most) b) refl, b, l, e);
-  }
 
 -- a field that is not written
 pub laid-up : (down : Bool) (buf : List ℕ) (p n v : ℕ) → down ≡ false → Penned down buf buf p (p + n) (toBits n v)

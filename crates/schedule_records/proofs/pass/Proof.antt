@@ -7,8 +7,10 @@ use lib.ListN.{length}
 use denote.Ref.{now}
 use borrow.Author.Tests.{not-false}
 use Rattle.schedule_fields.specs.Places.{fieldsAt, fieldsLeft, RuleOf}
-use Rattle.schedule_records.specs.Turning.{bitsWithin, mostBits, Meets, Going}
-use Rattle.schedule_records.specs.TurningLaws.{past-within, in-form, going-start, kept-long, ready, record-wide, passes-refused, fits-in, value-lt, going-on, passes-filled, passes-all}
+use Rattle.schedule_values.specs.Meeting.{bitsWithin, mostBits, Meets}
+use Rattle.schedule_values.specs.MeetingLaws.{past-within}
+use Rattle.schedule_records.specs.Turning.{Going}
+use Rattle.schedule_records.specs.TurningLaws.{in-form, going-start, kept-long, ready, record-wide, passes-refused, fits-in, value-lt, going-on, passes-filled, passes-all}
 use borrow.Author.Needs.{needs}
 use Rattle.schedule_records.proofs.pass.Statement.{statement}
 use Rattle.schedule_records.proofs.pass.Tie as tie

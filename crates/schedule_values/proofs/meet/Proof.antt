@@ -1,9 +1,9 @@
 use native.Mathlib.Omega.{arith}
 use denote.Ref.{now}
-use Rattle.schedule_records.specs.TurningLaws.{meets-short, meets-past, meets-below, meets-above, meets-value}
+use Rattle.schedule_values.specs.MeetingLaws.{meets-short, meets-past, meets-below, meets-above, meets-value}
 use borrow.Author.Needs.{needs}
-use Rattle.schedule_records.proofs.meet.Statement.{statement}
-use Rattle.schedule_records.proofs.meet.Tie as tie
+use Rattle.schedule_values.proofs.meet.Statement.{statement}
+use Rattle.schedule_values.proofs.meet.Tie as tie
 
 value-at-requires : tie.Need-value-at-requires
 value-at-requires c κs = search needs

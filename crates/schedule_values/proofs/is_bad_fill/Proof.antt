@@ -6,8 +6,8 @@ use Rattle.definitions.specs.Bits.{bitsOf}
 use Rattle.bits.specs.NumberLaws.{length-bitsOf}
 use Rattle.sheet.specs.SheetLaws.{fill-long}
 use borrow.Author.Needs.{needs}
-use Rattle.schedule_records.proofs.is_bad_fill.Statement.{statement}
-use Rattle.schedule_records.proofs.is_bad_fill.Tie as tie
+use Rattle.schedule_values.proofs.is_bad_fill.Statement.{statement}
+use Rattle.schedule_values.proofs.is_bad_fill.Tie as tie
 
 add-if1 : tie.Need-add-if1
 add-if1 c = search needs

@@ -1,0 +1,6 @@
+pub mod Statements
+pub mod Charged
+pub mod Tariffs
+pub mod Promises
+pub mod Bounds
+pub mod Examples
