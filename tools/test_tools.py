@@ -982,7 +982,7 @@ TRACE = """
 | FORMAT | Definition | Test |
 |---|---|---|
 | 1.1 words | `Reading.word, low` | `D small`, `code: gone, lost` |
-| 1.2 names | `code::read`, `code::Cursor`, `code::Cursor::step` | `C large` |
+| 1.2 names | `code::read`, `code::Cursor`, `code::Cursor::step`, `Tariff.charged` | `C large`, `T cheap` |
 | 2.1 fields | `laws First, Statements.Second, second-law` | `docs/FORMAT.md`, `code` |
 """
 
@@ -994,6 +994,8 @@ TREE = {
         "pub data Kind : Type 0 where\n  low high : Kind\n",
     "crates/definitions/specs/DocumentCases.antt": "abbrev small : ℕ\nsmall = 1\n",
     "crates/definitions/specs/CornerCases.antt": "abbrev large : ℕ\nlarge = 1\n",
+    "crates/tariff_definitions/specs/Tariff.antt": "abbrev pub charged : ℕ\ncharged = 1\n",
+    "crates/tariff_definitions/specs/TariffCases.antt": "abbrev cheap : ℕ\ncheap = 1\n",
     "crates/code/src/lib.rt":
         "// Code, as FORMAT 2.1 says.\npub struct Cursor {\n    at: usize,\n}\n\nimpl Cursor {\n"
         "    pub fn step(self) -> Cursor\n        ensures { a }\n    {\n        self\n    }\n}\n\n"
@@ -1026,6 +1028,8 @@ class CheckTrace(unittest.TestCase):
                 (4, "Reading.word", "Words.word", "no file crates/definitions/specs/Words.antt"),
                 (4, "D small", "D large", "no case large in crates/definitions/specs/DocumentCases.antt"),
                 (4, "gone, lost", "gone, kept", "no edit crates/code/must-fail/kept.edit"),
+                (5, "Tariff.charged", "Tariff.paid", "no definition paid in crates/tariff_definitions/specs/Tariff.antt"),
+                (5, "T cheap", "T dear", "no case dear in crates/tariff_definitions/specs/TariffCases.antt"),
                 (5, "code::read", "code::write", "no function write in crates/code/src"),
                 (5, "Cursor::step", "Cursor::read", "no function Cursor::read in crates/code/src"),
                 (5, "code::read", "none::read", "no function read in crates/none/src"),
@@ -1077,6 +1081,11 @@ BELIEVED = {
         "// The call.\npub fn order() -> Answer\n    ensures { λ r. ⌜ answerOf r ≡ outcome ⌝ }\n    ensures { Promised }\n{\n    helper()\n}\n",
     "crates/exports/src/lib.rt": "fn none() -> u8 {\n    1\n}\n",
     "crates/schedule_records/src/lib.rt": "fn none() -> u8 {\n    1\n}\n",
+    "crates/tariff/src/lib.rt":
+        "// A call.\nghost use Rattle.tariff_definitions.specs.Tariff.{charged};\n\n"
+        "pub fn total() -> u8\n    ensures { λ r. ⌜ r ≡ charged ⌝ }\n{\n    1\n}\n",
+    "crates/tariff_definitions/specs/Tariff.antt":
+        "-- Tariffs.\n\nabbrev pub charged : ℕ\ncharged = 1\n\nabbrev pub unpaid : ℕ\nunpaid = 1\n",
     "README.md": "Before.\n<!-- believed: written by tools/believed --write -->\n<!-- end of believed -->\nAfter.\n",
 }
 
@@ -1098,7 +1107,9 @@ class Believed(unittest.TestCase):
             "| `crates/access/src/lib.rt` | calls | 6 | of it `Answer`, `order` |",
             "| `crates/laws/specs/Statements.antt` | calls | 2 | of it `Once` |",
             "| `crates/lists/specs/Lists.antt` | both | 4 | of it `insert`, `sort` |",
-            "| **all** | | **23** | |",
+            "| `crates/tariff/src/lib.rt` | calls | 2 | of it `total` |",
+            "| `crates/tariff_definitions/specs/Tariff.antt` | computed | 2 | of it `charged` |",
+            "| **all** | | **27** | |",
             "| the declarative half but `Relisted`, with all that it names elsewhere | | 2 | |"])
 
     def test_written_and_checked(self):
@@ -1113,7 +1124,7 @@ class Believed(unittest.TestCase):
             table = self.tool("believed", "--root", root)[1].decode()
             self.assertEqual(text.split("\n")[0::len(text.split("\n")) - 2], ["Before.", "After."])
             self.assertIn(table, text)
-            write_tree(root, {"README.md": text.replace("**23**", "**22**")})
+            write_tree(root, {"README.md": text.replace("**27**", "**26**")})
             self.assertEqual(self.tool("believed", "--root", root, "--check", readme)[0], 1)
             write_tree(root, {"README.md": "No marks.\n"})
             code, _, error = self.tool("believed", "--root", root, "--write", readme)
