@@ -17,8 +17,7 @@ import showing
 import tariff_text
 from building import write_error
 from places import Problems, counted
-from program import (ACCEPTED, REFUSED, ROOT, STDIN, Once, Parser, Trouble, about, at_terminal, called, put_json,
-                     put_out, read_all, read_whole, run, trouble_in_json)
+from program import ROOT, STDIN, Once, Parser, Trouble, about, called, read_all, read_whole, run, trouble_in_json
 
 MOST_NUMBERS = 65535  # of a tariff that the program takes; over 99 are refused
 NUMBER = 4  # bytes
@@ -178,18 +177,9 @@ def charge(args, files, say):
         text = program.text(asked(tariff, width, schedule))
         if not text.startswith((b"total ", b"refused ")):
             raise Trouble("the program gave no answer")
-    status = REFUSED if printed.refused(text) else ACCEPTED
-    if args.json:
-        put_json({"file": files.schedule, "call": "tariff", "status": status, **parsed(text)})
-        return status
-    put_out(text)
-    if status == REFUSED:
-        words = explained(text, files, tariff if args.numbers is not None else b"", schedule)
-        if args.explain:
-            put_out(words)
-        elif at_terminal():
-            write_error(words.decode())
-    return status
+    numbers = tariff if args.numbers is not None else b""
+    return showing.told(args, text, {"file": files.schedule, "call": "tariff"}, parsed,
+                        lambda text: explained(text, files, numbers, schedule))
 
 
 def main(name, arguments, say):

@@ -137,22 +137,28 @@ def explained(text, schedule, has_sheet):
     return out + f"{OTHER_SHEET}\n".encode() if has_sheet else out
 
 
-def show(args, names, say):
-    """Prints the lines or the refusal; the status."""
-    sheet, schedule = read_sheet(names[0]), read_schedule(names[1])
-    text = text_of(ready(say), names, args.width, sheet, schedule)
+def told(args, text, named, parsed, explained):
+    """Prints what a program has answered, and after a refusal what that means where it is asked for; the status."""
     status = REFUSED if printed.refused(text) else ACCEPTED
     if args.json:
-        put_json({"file": names[1], "call": "show", "status": status, **printed.parsed("show", text)})
+        put_json({**named, "status": status, **parsed(text)})
         return status
     put_out(text)
     if status == REFUSED:
-        words = explained(text, schedule, names[0] is not None)
+        words = explained(text)
         if args.explain:
             put_out(words)
         elif at_terminal():
             write_error(words.decode())
     return status
+
+
+def show(args, names, say):
+    """Prints the lines or the refusal; the status."""
+    sheet, schedule = read_sheet(names[0]), read_schedule(names[1])
+    text = text_of(ready(say), names, args.width, sheet, schedule)
+    return told(args, text, {"file": names[1], "call": "show"}, lambda text: printed.parsed("show", text),
+                lambda text: explained(text, schedule, names[0] is not None))
 
 
 def main(name, arguments, say):
