@@ -47,7 +47,7 @@ static int32_t *read_tariff(char **words, size_t count)
     return tariff;
 }
 
-/* Hundredths. The sign stands apart: a sum of -5 has no whole part that could bear it. */
+/* Hundredths. The sign is written by itself: the whole part of -5 hundredths is 0, which has none. */
 static void print_total(int64_t total)
 {
     long long size = total < 0 ? -total : total;

@@ -37,8 +37,8 @@ W is used, how many words it has, as bin/schedule --size prints it. One of the f
   --numbers FILE  the tariff as numbers of 32 bits, in the place of RATES: four bytes each,
                   the least significant first, signed; three numbers a row, which are a sort
                   (0 real, 1 virtual, 2 line), a number of parents and a rate in hundredths
-  --raw           for tariffs that are refused: check of RATES only that its numbers fit
-                  32 bits; a sort may be a number
+  --raw           for tariffs that are refused: check of the numbers in RATES only that
+                  they fit 32 bits; a sort may be a number
   --explain       after a refusal, say in words what its number means
                   (on a terminal that is said anyway, on standard error)
   --json          print the answer as a JSON object on a line

@@ -208,6 +208,8 @@ def named(source, block):
     if "←" in block.text and ">>=" in brought:
         crate, place, name = brought[">>="]
         out.add(((crate, place), name))
+    elif "←" in block.text and ">>=" in own:
+        out.add((None, own[">>="]))
     return out
 
 

@@ -113,8 +113,8 @@ class Tariff(unittest.TestCase):
                           f"left alone: {got[2]}")
         return want
 
-    def test_issue(self):
-        """The cases that the request lists."""
+    def test_listed(self):
+        """The smallest cases of the readings."""
         for numbers, w, schedule, want in [
                 ([0] * 100, 4, WORKED, (14, 0)), ([0] * 98, 4, WORKED, (15, 0)),
                 ([0, 3, 100000, 0, 2, 1, 0, 2, 1], 4, WORKED, (15, 0)), ([0, 2, 1, 0, 2, 1], 4, WORKED, (16, 0)),

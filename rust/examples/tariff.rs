@@ -27,7 +27,7 @@ fn row_of(text: &str) -> Option<TariffRow> {
     parts.next().is_none().then_some(row)
 }
 
-/// Hundredths as they are printed. The sign stands apart: -5 has no whole part that could bear it.
+/// Hundredths as they are printed. The sign is written by itself: the whole part of -5 is 0, which has none.
 fn printed(hundredths: i64) -> String {
     let sign = if hundredths < 0 { "-" } else { "" };
     let size = hundredths.unsigned_abs();

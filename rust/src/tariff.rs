@@ -38,7 +38,7 @@ impl Sort {
 pub struct TariffRow {
     /// Which items it charges.
     pub sort: Sort,
-    /// From how many parents on: 2 to 17 for resources, 0 for extension lines.
+    /// From how many parents on it charges them: 2 to 17; of extension lines, which have none, 0.
     pub parents: u8,
     /// What it charges for each, in hundredths, from `-RATE_MAX` to [`RATE_MAX`](crate::RATE_MAX); below 0
     /// it is a credit.

@@ -139,7 +139,15 @@ RelistedTotals =
 
 -- ---- how great a sum can be (Bounds.antt)
 
+-- 65,535 items, 16 rows for each, and the greatest rate (FORMAT 13.5).
+abbrev pub mostSum : ℕ
+mostSum = 65535 * 16 * 99999
+
 -- At most 16 rows reach an item, so the sum over the items of a schedule is at most 65,535 times 16 times 99,999, charged or
 -- credited (FORMAT 13.5).
 abbrev pub Fits : Type 0
-Fits = (t : List ℤ) (xs : List Item) → tariffNumber t ≡ 0 → length xs ≤ 65535 → natAbs (totalOf (rowsOf t) xs) ≤ 65535 * 16 * 99999
+Fits = (t : List ℤ) (xs : List Item) → tariffNumber t ≡ 0 → length xs ≤ 65535 → natAbs (totalOf (rowsOf t) xs) ≤ mostSum
+
+-- No answer has a greater sum, whatever is given (FORMAT 13.5).
+abbrev pub AnswersFit : Type 0
+AnswersFit = (t : List ℤ) (W : ℕ) (bytes : List ℕ) → Bytes bytes → natAbs (charged t W bytes .total) ≤ mostSum

@@ -16,7 +16,7 @@ use Rattle.schedule_values.specs.declared.Met.{Met}
 abbrev pub mostBits : ℕ
 mostBits = 16 * fieldsLeft Place.Names
 
--- The bits of so many bytes, or more than that.
+-- The bits of so many bytes, or of 2^28, which no schedule has: those of longer slices may be more than a number counts.
 abbrev pub bitsWithin : ℕ → ℕ
 bitsWithin bytes = 8 * min bytes (2 ^ 28)
 

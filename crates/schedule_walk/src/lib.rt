@@ -18,6 +18,9 @@ ghost use Rattle.schedule_walk.specs.Walking.{Ready, Reads, Goes, GoesIt
 // The sort of an extension line; a resource's is 1 where it is virtual, and 0 where it is not (FORMAT 13.1).
 const LINE: usize = 2;
 
+// The bits of the number of items (FORMAT 6.1).
+pub const COUNT_BITS: usize = 16;
+
 // The bit behind what was gone through, or the number of a refusal.
 pub struct Step {
     pub number: usize,

@@ -97,7 +97,7 @@ hundred : Refuses (replicate 100 (pos 0)) 4 base 14
 unfolding answer
 hundred = refl
 
--- a last row of two numbers
+-- a last row of two numbers, or of one
 ninety-eight : Refuses (replicate 98 (pos 0)) 4 base 15
 unfolding answer
 ninety-eight = refl
@@ -105,6 +105,10 @@ ninety-eight = refl
 broken : Refuses (row 0 2 (pos 1) ++ pos 0 ∷ []) 4 base 15
 unfolding answer
 broken = refl
+
+broken-by-one : Refuses (row 0 2 (pos 1) ++ pos 0 ∷ pos 3 ∷ []) 4 base 15
+unfolding answer
+broken-by-one = refl
 
 -- sorts that are none
 sort-3 : Refuses (row 3 2 (pos 1)) 4 base 15
