@@ -134,7 +134,7 @@ class Proved:
         self.batch, self.pair = paths.split(",")
         for path in (self.batch, self.pair):
             if not os.path.exists(path):
-                sys.exit(f"compare: {path} is not there; rt check batch pairs makes it")
+                sys.exit(f"compare: {path} is not there; tools/build batch pairs makes it")
 
     def ask(self, mode, sheets):
         """The answers of `batch`."""

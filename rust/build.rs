@@ -1,5 +1,5 @@
 //! Links the archive of the proved calls: libgidzelma.a of an unpacked archive, or libexports.a, which
-//! `rt staticlib exports` writes. `GIDZELMA_LIB_DIR` names its folder; without it that is the
+//! `tools/build exports` writes. `GIDZELMA_LIB_DIR` names its folder; without it that is the
 //! repository's `target/staticlib`, or `lib` of the unpacked archive that this package stands in.
 
 use std::env;
@@ -44,6 +44,6 @@ fn main() {
             folder.display()
         );
     }
-    eprintln!("run `rt staticlib exports`, or let {VARIABLE} name the folder of libgidzelma.a");
+    eprintln!("run `tools/build exports`, or let {VARIABLE} name the folder of libgidzelma.a");
     exit(1);
 }

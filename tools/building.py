@@ -5,7 +5,9 @@ takes them. Only their times are looked at, so that a run that builds nothing is
 goes by their contents, and proves what has changed. Where there are no sources, as in an unpacked archive,
 the programs stand in libexec/ and the shared object in lib/, and nothing is built.
 
-`rt staticlib exports` writes the archive of the proved calls, and a C compiler links it to a shared object.
+`rt run` in a program's folder proves it, builds it into the folder's out/ and runs it, here on nothing; `rt lib` in that of
+`exports` writes the archive of the proved calls. Both are copied to target/, where everything that runs them looks for them, and a
+C compiler links the archive to a shared object.
 """
 
 import contextlib
@@ -19,9 +21,8 @@ import subprocess
 import time
 from collections import namedtuple
 
-# What is built: its crate, what to call it, the file, the stamp that rt leaves at the end (None: none),
-# and the words of rt that build it.
-Target = namedtuple("Target", "crate what path stamp words")
+# What is built: its crate, what to call it, the file, what rt leaves in the crate's folder, and the words of rt that build it there.
+Target = namedtuple("Target", "crate what path made words")
 
 PARTS = ("src", "specs", "proofs", "stdin", "stdout", "args", "data")  # of a crate, as rt takes them
 SLACK = 20_000_000  # nanoseconds; a file system's clock can be behind by some milliseconds
@@ -48,13 +49,13 @@ def program(root, name):
     """The program of a crate."""
     place = os.path.join("target", "bin") if has_sources(root) else "libexec"
     return Target(name, "program", os.path.join(root, place, name),
-                  os.path.join(root, "target", "stamp", name), ("rt", "check", name))
+                  os.path.join(root, "crates", name, "out", name), ("rt", "run"))
 
 
 def library(root):
     """The archive of the exported calls."""
     return Target("exports", "library", os.path.join(root, "target", "staticlib", "libexports.a"),
-                  None, ("rt", "staticlib", "exports"))
+                  os.path.join(root, "crates", "exports", "out", "libexports.a"), ("rt", "lib"))
 
 
 # ------------------------------------------------------------ the sources
@@ -66,7 +67,7 @@ def crates_below(root, name):
         for line in source:
             crate, colon, crates = line.partition("#")[0].partition(":")
             if colon:
-                below[crate.strip()] = crates.split()
+                below[crate.split()[0] if crate.split() else ""] = crates.split()
     out, waiting = {}, [name]
     while waiting:
         crate = waiting.pop()
@@ -123,8 +124,6 @@ def lacking(root, target):
     """Why a target has to be built, or None."""
     if not usable(target):
         return f"the {target.what} is not built"
-    if target.stamp and not os.path.exists(target.stamp):
-        return f"the {target.what} was not proved to its end"
     source = newer_source(root, target.crate, os.stat(target.path).st_mtime_ns)
     return source and f"{source} is newer than the {target.what}"
 
@@ -140,32 +139,35 @@ class Progress:
     """One line that counts the crates: rewritten in place on a terminal; elsewhere a line for each
     crate that was proved anew."""
 
-    PROVED = re.compile(r"rt: (\w+) proved \((.*)\)$")
-    FAILED = re.compile(r"rt: (\w+ (NOT PROVED|proved, and its run FAILED).*)$")
+    BEGUN = re.compile(r"rt: chose --jobs \d+ for (\w+)$")
+    ENDED = re.compile(r"logic=(proved|not-proved)\b")
 
     def __init__(self, total):
-        self.total, self.count, self.failure, self.last = total, 0, None, None
+        self.total, self.count, self.crate, self.last = total, 0, None, None
         self.live = os.isatty(2)
 
     def take(self, line):
-        """A line of rt's."""
-        proved, failed = self.PROVED.match(line), self.FAILED.match(line)
-        if line.startswith("rt: "):
+        """A line of rt's. It names a crate that it begins to check; one that has not changed it passes over."""
+        begun, ended = self.BEGUN.match(line), self.ENDED.match(line)
+        if begun:
+            self.crate = begun[1]
+        elif line.startswith("rt: "):
             self.last = line
-        if failed:
-            self.failure = self.failure or failed[1]
-        if proved:
+        if ended and ended[1] == "proved" and self.crate:
             self.count += 1
-            unchanged = proved[2].startswith("unchanged")
-            how = "unchanged" if unchanged else f"proved ({proved[2]})"
-            self.show(f"{proved[1]} {how}", passing=unchanged)
+            self.show(f"{self.crate} proved")
+            self.crate = None
 
-    def show(self, text, passing=False):
-        """The count and what happened; what passes is for a terminal only."""
+    def failure(self):
+        """What is to be said where rt did not come to its end, or None."""
+        return f"{self.crate} is not proved" if self.crate else self.last
+
+    def show(self, text):
+        """The count and what happened."""
         line = f"[{self.count}/{self.total}] {text}"
         if self.live:
             write_error(f"\r\033[K{line}")
-        elif not passing:
+        else:
             write_error(line + "\n")
 
     def end(self):
@@ -214,14 +216,14 @@ def prove(root, target, log_path):
     """Runs rt. Its lines go to the log, and a count of them to standard error."""
     progress = Progress(len(crates_below(root, target.crate)))
     try:
-        with open(log_path, "wb") as log, running(target.words, root) as rt:
+        with open(log_path, "wb") as log, running(target.words, os.path.join(root, "crates", target.crate)) as rt:
             for line in rt.stdout:
                 log.write(line)
                 progress.take(line.decode(errors="replace").rstrip("\n"))
     finally:
         progress.end()
     if rt.returncode:
-        failure = progress.failure or progress.last or f"{' '.join(target.words)}: status {rt.returncode}"
+        failure = progress.failure() or f"{' '.join(target.words)}: status {rt.returncode}"
         raise NotBuilt(f"{failure}; {log_path} has what rt said")
 
 
@@ -239,6 +241,15 @@ def alone(root, say):
         yield
 
 
+def take(target, when):
+    """Copies what rt made to its place, under another name first, so that no half of one is run; and dates it."""
+    os.makedirs(os.path.dirname(target.path), exist_ok=True)
+    part = f"{target.path}.{os.getpid()}"
+    shutil.copy(target.made, part)
+    os.utime(part, ns=(when, when))
+    os.replace(part, target.path)
+
+
 def build(root, target, why, say):
     """Has rt prove and build a target, and dates it by the time at which that began."""
     if not shutil.which(target.words[0]):
@@ -250,14 +261,13 @@ def build(root, target, why, say):
         say(f"{why}: rt proves what has changed")
     else:
         say(f"{why}: rt proves and builds it; from nothing that takes some ten minutes")
-        for path in (target.path, target.stamp):  # with its stamp rt takes a program for built
-            if path and os.path.exists(path):
+        for path in (target.path, target.made, target.made + ".stamp"):  # with its stamp rt takes a program for built
+            if os.path.exists(path):
                 os.remove(path)
     prove(root, target, log_path)
-    if not usable(target):
-        raise NotBuilt(f"rt left no {os.path.relpath(target.path, root)}; {log_path} has what it said")
-    # What changed while rt ran is newer than this.
-    os.utime(target.path, ns=(began - SLACK, began - SLACK))
+    if not os.path.exists(target.made):
+        raise NotBuilt(f"rt left no {os.path.relpath(target.made, root)}; {log_path} has what it said")
+    take(target, began - SLACK)  # what changed while rt ran is newer than this
     say(f"the {target.what} is up to date, after {round((time.time_ns() - began) / 1e9)} s")
 
 

@@ -95,8 +95,7 @@ class Answers:
         return self.program
 
     def ready_calls(self):
-        """The exported calls. The program is built first: most crates are in both, and `rt check` proves
-        several at a time."""
+        """The exported calls. The program is built first: most crates are in both."""
         if self.calls is None:
             self.ready_program()
             path = building.shared_object(ROOT, self.say)

@@ -11,8 +11,8 @@ import re
 from dataclasses import dataclass, field
 
 MODIFIERS = ("pub", "abbrev", "unfoldable", "opaque")
-# A path of a `use`: the crate, and the file in its specs; `declared` stands before a name of the crate's code.
-PATH = re.compile(r"Rattle·(\w+?)(?:·specs)?\.specs\.(declared\.)?(\w+)")
+# A path of a `use`: the crate, and the file in its specs; `declared` stands before a name of the crate's code. What std has is not ours.
+PATH = re.compile(r"\bRattle\.(?!std\b|core\b)(\w+)\.specs\.(declared\.)?(\w+)")
 DELIMITERS = re.compile(r"[\s(){}\[\],;⌜⌝«»]+")
 
 
@@ -184,15 +184,15 @@ def is_public(block):
 # ----------------------------------------------------------- what is named
 
 def words_of(text):
-    """The words of code, without projections."""
+    """The words of code."""
     return {word for word in DELIMITERS.split(text) if word and not word.startswith(".")}
 
 
 def named(source, block):
     """The places that a declaration names: pairs of a crate's file and a name, (None, name) for one of the same file."""
     out = set()
-    own = {name.strip("_"): name for name in source.names()}
-    brought = {name.strip("_"): place for name, place in source.brought.items()}
+    own = {name.strip("◌"): name for name in source.names()}
+    brought = {name.strip("◌"): place for name, place in source.brought.items()}
     for word in words_of(block.text):
         first = word.split(".")[0]
         path = PATH.match(word)

@@ -28,7 +28,7 @@ from model_conversion import Packed, Records
 
 LIBRARY = building.library(ROOT)
 LINKED = building.at_hand(ROOT, LIBRARY) and any(map(shutil.which, ("cc", "gcc", "clang")))
-NOT_LINKED = "the library is not built, or older than its sources (rt staticlib exports), or cc is missing"
+NOT_LINKED = "the library is not built, or older than its sources (tools/build exports), or cc is missing"
 linked = unittest.skipUnless(LINKED, NOT_LINKED)
 
 MODEL = {"read_schedule": model.read_schedule, "write_schedule": model.write_schedule}

@@ -47,8 +47,8 @@ CXX_COMPILERS = [name for name in ("g++", "clang++") if shutil.which(name)]
 LINKED = building.at_hand(ROOT, building.library(ROOT)) and bool(C_COMPILERS)
 BUILT = LINKED and all(building.at_hand(ROOT, building.program(ROOT, name))
                        for name in PROGRAMS)
-NOT_LINKED = "the library is not built, or older than its sources (rt staticlib exports), or cc is missing"
-NOT_BUILT = "the programs are not built, or older than their sources (rt check schedule order batch show charge)"
+NOT_LINKED = "the library is not built, or older than its sources (tools/build exports), or cc is missing"
+NOT_BUILT = "the programs are not built, or older than their sources (tools/build schedule order batch show charge)"
 NO_CARGO = "cargo is missing"
 NO_PKG_CONFIG = "pkg-config is missing"
 linked = unittest.skipUnless(LINKED, NOT_LINKED)
@@ -472,8 +472,7 @@ def copy_of_repository(folder):
                     ignore=shutil.ignore_patterns("target"))
     for name in ("crates.txt", "LICENSE", "NOTICE", "VERSION", "CHANGELOG.md", ".gitignore"):
         shutil.copy(os.path.join(ROOT, name), folder)
-    for name in ("target/staticlib/libexports.a", *(f"target/{place}/{crate}" for place in ("bin", "stamp")
-                                                    for crate in PROGRAMS)):
+    for name in ("target/staticlib/libexports.a", *(f"target/bin/{crate}" for crate in PROGRAMS)):
         os.makedirs(os.path.join(folder, os.path.dirname(name)), exist_ok=True)
         shutil.copy(os.path.join(ROOT, name), os.path.join(folder, name))
 
@@ -770,9 +769,13 @@ class Making(Folder):
 
     def test_asks_rt(self):
         """Without --as-built rt is asked for each part, whatever its time; if it fails nothing is written."""
-        self.write("kit/rt", b"#!/bin/sh\necho \"$*\" >> \"${0%/*}/runs\"\n[ \"$1\" = version ] && echo a kit\n"
-                             b"echo rt: low proved '(1 s)'\nexit $(cat \"${0%/*}/status\")\n")
+        self.write("kit/rt", b"#!/bin/sh\nname=${PWD##*/}\n[ \"$1\" = version ] && { echo version >> \"${0%/*}/runs\"; echo a kit; exit 0; }\n"
+                             b"echo \"$1 $name\" >> \"${0%/*}/runs\"\nmkdir -p out\n"
+                             b"if [ $1 = lib ]; then cp ../../target/staticlib/libexports.a out; else cp ../../target/bin/$name out; fi\n"
+                             b"echo rt: chose --jobs 2 for low\necho logic=proved functions=1\nexit $(cat \"${0%/*}/status\")\n")
         os.chmod(self.path("kit", "rt"), 0o755)
+        for name in (*PROGRAMS, "exports"):
+            os.makedirs(os.path.join(self.copy, "crates", name))
         env = {**os.environ, "PATH": self.path("kit") + os.pathsep + os.environ["PATH"]}
         words = [os.path.join(self.copy, "tools", "dist"), "--out-dir", self.path("out")]
         self.write("kit/status", b"1")
@@ -783,7 +786,7 @@ class Making(Folder):
         self.write("kit/runs", b"")
         status, _, error = ran(words, env=env)
         self.assertEqual((status, self.read("kit/runs").decode().splitlines()),
-                         (0, [*(f"check {name}" for name in PROGRAMS), "staticlib exports", "version"]))
+                         (0, [*(f"run {name}" for name in PROGRAMS), "lib exports", "version"]))
         self.assertIn("dist: exports for the archive: rt proves what has changed\n", error)
         with tarfile.open(self.path("out", Archive.NAME + ".tar.gz")) as tar:
             page = tar.extractfile(Archive.NAME + "/PROVENANCE").read().decode()
@@ -841,7 +844,7 @@ class Tables(Folder):
                             ignore=shutil.ignore_patterns("target", "__pycache__"))
         status, out, error = ran([os.path.join(copy, "bench", "run"), "--no-callgrind"])
         self.assertEqual((status, out), (1, b""))
-        self.assertIn("run rt staticlib exports", error)
+        self.assertIn("run tools/build exports", error)
         self.assertFalse(os.path.exists(os.path.join(copy, "target")))
 
 

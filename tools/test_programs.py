@@ -1308,29 +1308,33 @@ class Examples(unittest.TestCase):
 
 # ------------------------------------------------------------- building
 
-# A stand-in for rt. Like rt it takes a program with its stamp for built, whether it is there or not. What
-# it is to do stands in files beside it: `fails`, `waits`, and `program`, which becomes the program.
+# A stand-in for rt, run in a crate's folder. Like rt it takes a program with its stamp for built, whether it is there or not.
+# What it is to do stands in files beside it: `fails`, `waits`, and `program`, which becomes the program.
 RT = r"""#!/bin/sh
 own=$(dirname "$0")
-echo "$*" >> "$own/runs"
-[ "$1" = version ] && { echo "stand-in kit"; exit 0; }
-mkdir -p target/bin target/stamp target/staticlib
+[ "$1" = version ] && { echo version >> "$own/runs"; echo "stand-in kit"; exit 0; }
+name=$(basename "$PWD")
+echo "$1 $name" >> "$own/runs"
+mkdir -p out
 if [ -e "$own/waits" ]; then sleep "$(cat "$own/waits")" & echo $! > "$own/sleeper"; wait; fi
 if [ -e "$own/fails" ]; then
-    echo "low/src/lib.rt:1:1: error"; echo "rt: low NOT PROVED (exit 1, 0 s)"; echo "rt: FAILED: low"
-    rm -f "target/stamp/$2"; exit 1
+    echo "rt: chose --jobs 2 for low"; echo "src/lib.rt:1:1: error"; echo "logic=not-proved"
+    echo "rt: the library low did not build, so nothing above it was checked"
+    rm -f "out/$name.stamp"; exit 1
 fi
-sum=$(cat crates.txt crates/low/src/* "crates/$2/src/"* | cksum)
-echo "rt: low proved (12 s)"
-if [ "$1" = staticlib ]; then
-    echo "no archive" > target/staticlib/libexports.a
-elif [ -e "target/stamp/$2" ] && [ "$(cat "target/stamp/$2")" = "$sum" ]; then
-    echo "rt: $2 proved (unchanged since it was last proved)"
+sum=$(cat ../../crates.txt ../low/src/* src/* | cksum)
+if [ "$1" = run ] && [ -e "out/$name.stamp" ] && [ "$(cat "out/$name.stamp")" = "$sum" ]; then
+    echo "rt: nothing has changed since the last proved build, by out/$name.stamp, so nothing is checked now"
+    exit 0
+fi
+echo "rt: chose --jobs 2 for low"; echo "logic=proved functions=1"
+echo "rt: chose --jobs 2 for $name"; echo "logic=proved functions=2"
+if [ "$1" = lib ]; then
+    echo "no archive" > out/libexports.a
 else
-    cp "$own/program" "target/bin/$2" && echo "$sum" > "target/stamp/$2"
-    echo "rt: $2 proved (3 s)"; echo "rt: $2 ran, and wrote what its file 'stdout' has (0 s)"
+    cp "$own/program" "out/$name" && echo "$sum" > "out/$name.stamp"
+    echo "rt: running out/$name; to give it other input, run that file yourself"
 fi
-echo "rt: ok, 2 crates proved"
 """
 PROGRAM = "#!/bin/sh\ncat > /dev/null\necho T stand_in\n"
 ANSWER = b"T stand_in\n"
@@ -1346,7 +1350,7 @@ class Building(Folder):
         for name in os.listdir(HERE):
             if name == "start" or name.endswith(".py") and not name.startswith("test"):
                 shutil.copy(os.path.join(HERE, name), self.path("tools"))
-        self.write("crates.txt", b"# crates\nlow:\nother:\nschedule: low io\norder: low io\nexports: low\n")
+        self.write("crates.txt", b"# crates\nlow:\nother:\nschedule: low\norder: low\nexports staticlib: low\n")
         for name in ("low/src/lib.rt", "low/must-fail/a.edit", "low/specs/Lib.antt", "other/src/lib.rt",
                      "schedule/src/main.rt", "order/src/main.rt", "exports/src/lib.rt"):
             self.write("crates/" + name, b"fn\n")
@@ -1385,24 +1389,24 @@ class Building(Folder):
 
     def test_missing(self):
         status, out, error = self.ask()
-        self.assertEqual((status, out, self.runs()), (0, ANSWER, ["check schedule"]))
+        self.assertEqual((status, out, self.runs()), (0, ANSWER, ["run schedule"]))
         lines = error.splitlines()
         self.assertEqual(lines[0], "schedule: the program is not built: rt proves and builds it; "
                                    "from nothing that takes some ten minutes")
-        self.assertEqual(lines[1:3], ["[1/2] low proved (12 s)", "[2/2] schedule proved (3 s)"])
+        self.assertEqual(lines[1:3], ["[1/2] low proved", "[2/2] schedule proved"])
         self.assertRegex(lines[3], r"^schedule: the program is up to date, after \d+ s$")
         self.assertEqual((self.ask(), self.runs()), ((0, ANSWER, ""), []))
         self.assertEqual(self.ask(call="order")[:2], (0, ANSWER))
-        self.assertEqual(self.runs(), ["check order"])
+        self.assertEqual(self.runs(), ["run order"])
 
     def test_explain(self):
         """bin/explain has the same program, built where it is missing or older than its sources."""
         line = b"T stand_in <- round 0, no parents (standard input:1)\n"
         for said in ("the program is not built", "crates/low/src/lib.rt is newer than the program"):
             status, out, error = self.ask("-", call="explain", given=b"domain stand_in")
-            self.assertEqual((status, out.split(b"\n", 1)[1], self.runs()), (0, line, ["check schedule"]))
+            self.assertEqual((status, out.split(b"\n", 1)[1], self.runs()), (0, line, ["run schedule"]))
             self.assertTrue(error.startswith(f"explain: {said}: rt proves"), error)
-            self.assertIn("[1/2] low proved (12 s)\n", error)
+            self.assertEqual("[1/2] low proved\n" in error, said == "the program is not built")
             os.utime(self.path("crates/low/src/lib.rt"))
         self.trouble(self.ask("gone", call="explain"), "explain: gone: no such file or directory")
         lines = self.write("lines", ANSWER)
@@ -1411,27 +1415,27 @@ class Building(Folder):
         self.write("kit/fails", b"")
         status, out, error = self.ask("-", call="explain", given=b"domain stand_in")
         self.assertEqual((status, out, error.splitlines()[-1].partition(";")[0]),
-                         (2, b"", "explain: low NOT PROVED (exit 1, 0 s)"))
+                         (2, b"", "explain: low is not proved"))
 
     def test_compare(self):
         """bin/compare has the programs of bin/schedule and bin/show, built where they are missing; files come first."""
         path = self.write("a", b"")
         self.trouble(self.ask(path, "gone", call="compare"), "compare: gone: no such file or directory")
         self.assertEqual(self.runs(), [])
-        self.write("crates.txt", self.read("crates.txt") + b"show: low io\n")
+        self.write("crates.txt", self.read("crates.txt") + b"show: low\n")
         self.write("crates/show/src/main.rt", b"fn\n")
         self.age()
         for args, crate in ([path, path], "schedule"), (["--packed", "-w", "2", path, path], "show"):
             status, out, error = self.ask("--json", *args, call="compare")
             self.assertEqual((status, json.loads(out)["rows"]), (0, [{"mark": "=", "a": "T stand_in", "b": "T stand_in"}]))
             self.assertTrue(error.startswith("compare: the program is not built: rt proves"), error)
-            self.assertEqual(self.runs(), [f"check {crate}"])
+            self.assertEqual(self.runs(), [f"run {crate}"])
             self.assertEqual((self.ask("-q", *args, call="compare"), self.runs()), ((0, b"", ""), []))
         os.utime(self.path("crates/low/src/lib.rt"))
         self.write("kit/fails", b"")
         status, out, error = self.ask(path, path, call="compare")
         self.assertEqual((status, out, error.splitlines()[-1].partition(";")[0]),
-                         (2, b"", "compare: low NOT PROVED (exit 1, 0 s)"))
+                         (2, b"", "compare: low is not proved"))
 
     def test_tariff(self):
         """bin/tariff has the program charge, built where it is missing; files and errors in the rates come first."""
@@ -1439,12 +1443,12 @@ class Building(Folder):
         self.trouble(self.ask(rates, "-w", "2", "gone", call="tariff"), "tariff: gone: no such file or directory")
         self.assertEqual(self.ask("-", "-w", "2", schedule, call="tariff", given=b"line")[:2], (2, b""))
         self.assertEqual(self.runs(), [])
-        self.write("crates.txt", self.read("crates.txt") + b"charge: low io\n")
+        self.write("crates.txt", self.read("crates.txt") + b"charge: low\n")
         self.write("crates/charge/src/main.rt", b"fn\n")
         self.write("kit/program", PROGRAM.replace("T stand_in", "total 1.50").encode())
         self.age()
         status, out, error = self.ask(rates, "-w", "2", schedule, call="tariff")
-        self.assertEqual((status, out, self.runs()), (0, b"total 1.50\n", ["check charge"]))
+        self.assertEqual((status, out, self.runs()), (0, b"total 1.50\n", ["run charge"]))
         self.assertTrue(error.startswith("tariff: the program is not built: rt proves"), error)
         self.assertEqual((self.ask(rates, "-w", "2", schedule, call="tariff"), self.runs()), ((0, b"total 1.50\n", ""), []))
         self.write("target/bin/charge", b"#!/bin/sh\ncat > /dev/null\n")
@@ -1460,7 +1464,7 @@ class Building(Folder):
         for name, change in changes.items():
             change(self.path(name))
             status, out, error = self.ask()
-            self.assertEqual((status, out, self.runs()), (0, ANSWER, ["check schedule"]), name)
+            self.assertEqual((status, out, self.runs()), (0, ANSWER, ["run schedule"]), name)
             self.assertIn(f"schedule: {name} is newer than the program: rt proves what has changed\n", error)
             time.sleep(0.05)
             self.settled()
@@ -1480,16 +1484,18 @@ class Building(Folder):
         self.settled()
         for change in (os.remove, lambda path: open(path, "wb").close(), lambda path: os.chmod(path, 0o644)):
             change(self.path("target/bin/schedule"))
-            self.assertEqual((self.ask()[:2], self.runs()), ((0, ANSWER), ["check schedule"]))
+            self.assertEqual((self.ask()[:2], self.runs()), ((0, ANSWER), ["run schedule"]))
         self.settled()
 
     def test_not_ended(self):
-        """rt linked the program, and did not come to its end."""
+        """rt linked the program, and did not come to its end: what lies in its folder is not taken."""
         self.settled()
-        os.remove(self.path("target/stamp/schedule"))
+        for name in ("target/bin/schedule", "crates/schedule/out/schedule.stamp"):
+            os.remove(self.path(name))
+        self.write("crates/schedule/out/schedule", b"#!/bin/sh\necho no answer\n")
         status, out, error = self.ask()
-        self.assertEqual((status, out, self.runs()), (0, ANSWER, ["check schedule"]))
-        self.assertIn("was not proved to its end", error)
+        self.assertEqual((status, out, self.runs()), (0, ANSWER, ["run schedule"]))
+        self.assertIn("the program is not built", error)
 
     def test_failure(self):
         """The log is named, and no older program answers."""
@@ -1500,7 +1506,7 @@ class Building(Folder):
             status, out, error = self.ask()
             self.assertEqual((status, out), (2, b""))
             log = self.path("target/log/schedule.build")
-            self.assertEqual(error.splitlines()[-1], f"schedule: low NOT PROVED (exit 1, 0 s); {log} has "
+            self.assertEqual(error.splitlines()[-1], f"schedule: low is not proved; {log} has "
                                                      "what rt said")
             self.assertIn(b"error", self.read(log))
         os.remove(self.path("kit/fails"))
@@ -1542,14 +1548,14 @@ class Building(Folder):
         files = [self.write("a", b""), self.write("b", b"")]
         out = b"".join(b"== " + name.encode() + b"\n" + ANSWER for name in files)
         self.assertEqual(self.ask(*files)[:2], (0, out))
-        self.assertEqual(self.runs(), ["check schedule"])
+        self.assertEqual(self.runs(), ["run schedule"])
 
     def test_terminal(self):
         """One line that is rewritten."""
         status, shown = at_terminal([self.path("bin/schedule"), "-"], env=self.env,
                                     preexec_fn=lambda: os.dup2(os.open(os.devnull, os.O_RDONLY), 0))
         self.assertEqual(status, 0)
-        self.assertIn("\r\033[K[1/2] low proved (12 s)\r\033[K[2/2] schedule proved (3 s)\r\033[K", shown)
+        self.assertIn("\r\033[K[1/2] low proved\r\033[K[2/2] schedule proved\r\033[K", shown)
         self.assertTrue(shown.endswith("T stand_in\n"))
 
     def test_two_at_once(self):
@@ -1560,7 +1566,7 @@ class Building(Folder):
                                  stderr=subprocess.PIPE) for _ in range(2)]
         ended = [(process.communicate(timeout=60), process.returncode) for process in both]
         self.assertEqual([(out, status) for (out, _), status in ended], [(ANSWER, 0)] * 2)
-        self.assertEqual(self.runs(), ["check schedule"])
+        self.assertEqual(self.runs(), ["run schedule"])
         self.assertEqual(sum(b"waiting" in error for (_, error), _ in ended), 1)
 
     def test_interrupt(self):
@@ -1621,7 +1627,7 @@ class Building(Folder):
         """The library is built when it is asked for; without a compiler that is said."""
         self.settled()
         status, out, error = self.ask("--size", env={**self.env, "CC": "no-such-compiler"})
-        self.assertEqual((status, out, self.runs()), (2, b"", ["staticlib exports"]))
+        self.assertEqual((status, out, self.runs()), (2, b"", ["lib exports"]))
         self.assertIn("schedule: the library is not built", error)
         self.assertEqual(error.splitlines()[-1], "schedule: the library has to be linked by a C compiler, "
                                                  "and there is none (no-such-compiler)")

@@ -40,8 +40,8 @@ from test_programs import BASE, EXAMPLES, Folder, at_terminal, run
 
 LINKED = building.at_hand(ROOT, building.library(ROOT)) and any(map(shutil.which, ("cc", "gcc", "clang")))
 BUILT = building.at_hand(ROOT, building.program(ROOT, "charge"))
-NOT_LINKED = "the library is not built, or older than its sources (rt staticlib exports), or cc is missing"
-NOT_BUILT = "the program charge is not built, or older than its sources (rt check charge)"
+NOT_LINKED = "the library is not built, or older than its sources (tools/build exports), or cc is missing"
+NOT_BUILT = "the program charge is not built, or older than its sources (tools/build charge)"
 linked = unittest.skipUnless(LINKED, NOT_LINKED)
 built = unittest.skipUnless(BUILT, NOT_BUILT)
 

@@ -992,10 +992,10 @@ TREE = {
     "crates/definitions/specs/Reading.antt":
         "-- Reads. FORMAT 1.1, 1.2\nuse A.B.{other}\n\nunfoldable pub word : ℕ → ℕ\nword n = other n\n\n"
         "pub data Kind : Type 0 where\n  low high : Kind\n",
-    "crates/definitions/specs/DocumentCases.antt": "abbrev small : ℕ\nsmall = 1\n",
-    "crates/definitions/specs/CornerCases.antt": "abbrev large : ℕ\nlarge = 1\n",
+    "crates/definitions/proofs/DocumentCases.antt": "abbrev small : ℕ\nsmall = 1\n",
+    "crates/definitions/proofs/CornerCases.antt": "abbrev large : ℕ\nlarge = 1\n",
     "crates/tariff_definitions/specs/Tariff.antt": "abbrev pub charged : ℕ\ncharged = 1\n",
-    "crates/tariff_definitions/specs/TariffCases.antt": "abbrev cheap : ℕ\ncheap = 1\n",
+    "crates/tariff_definitions/proofs/TariffCases.antt": "abbrev cheap : ℕ\ncheap = 1\n",
     "crates/code/src/lib.rt":
         "// Code, as FORMAT 2.1 says.\npub struct Cursor {\n    at: usize,\n}\n\nimpl Cursor {\n"
         "    pub fn step(self) -> Cursor\n        ensures { a }\n    {\n        self\n    }\n}\n\n"
@@ -1026,10 +1026,10 @@ class CheckTrace(unittest.TestCase):
         for line, old, new, what in [
                 (4, "Reading.word", "Reading.other", "no definition other in crates/definitions/specs/Reading.antt"),
                 (4, "Reading.word", "Words.word", "no file crates/definitions/specs/Words.antt"),
-                (4, "D small", "D large", "no case large in crates/definitions/specs/DocumentCases.antt"),
+                (4, "D small", "D large", "no case large in crates/definitions/proofs/DocumentCases.antt"),
                 (4, "gone, lost", "gone, kept", "no edit crates/code/must-fail/kept.edit"),
                 (5, "Tariff.charged", "Tariff.paid", "no definition paid in crates/tariff_definitions/specs/Tariff.antt"),
-                (5, "T cheap", "T dear", "no case dear in crates/tariff_definitions/specs/TariffCases.antt"),
+                (5, "T cheap", "T dear", "no case dear in crates/tariff_definitions/proofs/TariffCases.antt"),
                 (5, "code::read", "code::write", "no function write in crates/code/src"),
                 (5, "Cursor::step", "Cursor::read", "no function Cursor::read in crates/code/src"),
                 (5, "code::read", "none::read", "no function read in crates/none/src"),
@@ -1062,28 +1062,28 @@ BELIEVED = {
     "crates/definitions/specs/Records.antt":
         "-- The records. More words.\nuse lib.N.{ℕ}\n\n-- a name\nabbrev pub Name : Type 0\nName = ℕ\n",
     "crates/definitions/specs/Answer.antt":
-        "-- The answer.\nuse Rattle·lists.specs.Lists.{sort}\nuse Rattle·definitions·specs.specs.Records.{Name}\n\n"
+        "-- The answer.\nuse Rattle.lists.specs.Lists.{sort}\nuse Rattle.definitions.specs.Records.{Name}\n\n"
         "pub record Input : Type 0 where\n  pub name : Name\n\nabbrev pub outcome : Input → Name\noutcome i =\n    sort i\n",
     "crates/definitions/specs/Cases.antt": "abbrev pub test : ℕ\ntest = 1\n",
     "crates/lists/specs/Lists.antt":
         "-- Lists.\nabbrev pub insert : ℕ\ninsert = 1\n\n-- used\nabbrev pub sort : ℕ → ℕ\nsort n = insert\n\n"
         "abbrev pub unused : ℕ\nunused = 1\n",
     "crates/access/specs/Answers.antt":
-        "-- Answers.\nuse Rattle·definitions.specs.Answer as rules\n"
-        "use Rattle·access·specs.specs.declared.Answer.{Answer}\nuse Rattle·laws.specs.Statements.{Once}\n\n"
+        "-- Answers.\nuse Rattle.definitions.specs.Answer as rules\n"
+        "use Rattle.access.specs.declared.Answer.{Answer}\nuse Rattle.laws.specs.Statements.{Once}\n\n"
         "abbrev pub answerOf : Answer → rules.Input\nanswerOf a = a\n\nabbrev pub private : ℕ\nprivate = 1\n\n"
         "pub record Promised (a : Answer) : Type 0 where\n  pub once : Once\n",
     "crates/laws/specs/Statements.antt": "abbrev pub Once : Type 0\nOnce = ℕ\n\nabbrev pub Law : Type 0\nLaw = ℕ\n",
     "crates/access/src/lib.rt":
-        "// Calls.\nghost use Rattle·definitions.specs.Answer.{outcome};\n"
-        "ghost use Rattle·access·specs.specs.Answers.{answerOf, private, Promised};\n\n"
+        "// Calls.\nghost use Rattle.definitions.specs.Answer.{outcome};\n"
+        "ghost use Rattle.access.specs.Answers.{answerOf, private, Promised};\n\n"
         "pub enum Answer {\n    Yes,\n}\n\nfn helper() -> u8\n    ensures { private }\n{\n    1\n}\n\n"
-        "// The call.\npub fn order() -> Answer\n    ensures { λ r. ⌜ answerOf r ≡ outcome ⌝ }\n    ensures { Promised }\n{\n    helper()\n}\n",
+        "// The call.\npub fn order() -> Answer\n    ensures { answerOf result ≡ outcome }\n    ensures { Promised }\n{\n    helper()\n}\n",
     "crates/exports/src/lib.rt": "fn none() -> u8 {\n    1\n}\n",
     "crates/schedule_records/src/lib.rt": "fn none() -> u8 {\n    1\n}\n",
     "crates/tariff/src/lib.rt":
-        "// A call.\nghost use Rattle·tariff_definitions.specs.Tariff.{charged};\n\n"
-        "pub fn total() -> u8\n    ensures { λ r. ⌜ r ≡ charged ⌝ }\n{\n    1\n}\n",
+        "// A call.\nghost use Rattle.tariff_definitions.specs.Tariff.{charged};\n\n"
+        "pub fn total() -> u8\n    ensures { result ≡ charged }\n{\n    1\n}\n",
     "crates/tariff_definitions/specs/Tariff.antt":
         "-- Tariffs.\n\nabbrev pub charged : ℕ\ncharged = 1\n\nabbrev pub unpaid : ℕ\nunpaid = 1\n",
     "README.md": "Before.\n<!-- believed: written by tools/believed --write -->\n<!-- end of believed -->\nAfter.\n",
