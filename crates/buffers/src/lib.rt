@@ -1,4 +1,6 @@
 // Space that the programs lend, longer than the buffers of `io`.
+#![tactic(auto)]
+
 ghost use Rattle.std.specs.Prelude.{◌≡◌, length};
 
 // For a schedule: the largest that was found has 239,675 bytes (FORMAT 6.4).

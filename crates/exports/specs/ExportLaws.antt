@@ -8,7 +8,7 @@ use Rattle.definitions.specs.Answer.{standard, Input, Answer, Outcome, overwrite
 use Rattle.answers.specs.declared.Answer as held
 use Rattle.answers.specs.Answers.{answer_of, Answered}
 use Rattle.access.specs.Lines.{LinesListed}
-use Rattle.relisting_laws.specs.Alike.{answers-alike, listings-equal}
+use Rattle.relisting_laws.proofs.Alike.{answers-alike, listings-equal}
 use Rattle.answer_laws.specs.Sizes as sizes
 use Rattle.exports.specs.Exports.{flag, too_few_parts, told, exported, Exported}
 use Rattle.exports.specs.Parts.{Small}
@@ -62,8 +62,8 @@ module _ (i : Input) (parts : List ℕ) where
   too_few h = sym (nothing-told (lt-ltb (length parts) 3 h))
 
 -- then no line is promised
-pub none-listed : (s l l' : List ℕ) → LinesListed s l l' too_few_parts
-none-listed s l l' = record { accepted = λ e. absurd (omega (arith, e)) }
+pub none_listed : (s l l' : List ℕ) → LinesListed s l l' too_few_parts
+none_listed s l l' = record { accepted = λ e. absurd (omega (arith, e)) }
 
 module _ (i : Input) (e : i.settings ≡ standard) (a : held.Answer) (l d : List ℕ) (h : Answered a l d (outcome i)) where
   pub small-answer : Small (answer_of a)

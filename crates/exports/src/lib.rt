@@ -1,4 +1,6 @@
 // The calls for C and Rust, for `rt staticlib exports`. See include/gidzelma.h.
+#![tactic(auto)]
+
 ghost use Rattle.std.specs.Prelude.{[], ◌∷◌, ◌≡◌, ◌<◌, ◌≤◌, length};
 ghost use Rattle.definitions.specs.Answer.{overwrite};
 ghost use Rattle.answers.specs.Answers.{answer_of, order_input, schedule_input};
@@ -15,7 +17,7 @@ use answers::Answer;
 const TOO_FEW_PARTS: u32 = 255;
 
 // The parts of an answer: 01's number, the size, how many rows were written, and 1 if there are more.
-#[derive(Drop)]
+#[derive(Clone, Copy)]
 pub struct Parts {
     pub number: u32,
     pub size: u32,
@@ -92,6 +94,7 @@ pub extern "C" fn gidzelma_order(
 }
 
 // The schedule call, likewise; the lines of an accepted map stand in the listing, as `access::schedule` promises.
+#[tactic(auto, using(crate::specs::ExportLaws::too_few, crate::specs::ExportLaws::none_listed))]
 #[unsafe(no_mangle)]
 pub extern "C" fn gidzelma_schedule(
     sheet: &[u8],

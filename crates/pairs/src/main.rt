@@ -2,11 +2,16 @@
 // how many words it has, and for each of these the word and two bytes of its dom set, bit 0 for none; the names of an Inherit
 // stand there as in crates/annotations. A line of output holds both results in the same numbers, or `none`, with a bar
 // between them.
-ghost use Rattle.std.specs.Prelude.{◌<◌, ◌≤◌};
+#![tactic(auto)]
+
+ghost use Rattle.std.specs.Prelude.{◌<◌, ◌≤◌, IfOk};
 ghost use Rattle.annotations.specs.Reading.{Held};
 
 use annotations::{AnnotationInfo, Part};
+use console::Output;
 use rows::Row;
+use std::io;
+use std::io::{Read, Write};
 
 fn at_most(n: u8, most: u8) -> u8
     ensures { result ≤ most }
@@ -29,106 +34,121 @@ fn row_of(high: u8, low: u8) -> Row {
     }
 }
 
-fn read_three() -> [u8; 3] {
+fn read_three<R: Read>(input: &mut R) -> io::Result<[u8; 3]> {
     let mut three = [0u8; 3];
-    io::read_full(0, &mut three);
-    three
+    console::read_full(input, &mut three)?;
+    Ok(three)
 }
 
-fn read_resources(kind: u8, tag: u8, count: usize) -> AnnotationInfo
+fn read_resources<R: Read>(
+    input: &mut R,
+    kind: u8,
+    tag: u8,
+    count: usize,
+) -> io::Result<AnnotationInfo>
     requires { (kind < 7) × (count ≤ 15) }
-    ensures { Held result }
+    ensures { IfOk result (λ x. Held x) }
 {
     let none = rows::empty_row();
     let mut words = [0u8; 15];
     let mut doms = [none; 15];
     let mut i: usize = 0;
     while i < count {
-        let three = read_three();
+        let three = read_three(input)?;
         words[i] = three[0];
         doms[i] = row_of(three[1], three[2]);
         i += 1;
     }
-    AnnotationInfo {
+    Ok(AnnotationInfo {
         kind,
         tag,
         count,
         words,
         doms,
-    }
+    })
 }
 
 // A kind past the last one counts as it, and more than 15 words as 15.
-fn read_annotation(head: [u8; 3]) -> AnnotationInfo
-    ensures { Held result }
+fn read_annotation<R: Read>(input: &mut R, head: [u8; 3]) -> io::Result<AnnotationInfo>
+    ensures { IfOk result (λ x. Held x) }
 {
     let kind = at_most(head[0], 6);
     let count = at_most(head[2], 15);
-    read_resources(kind, head[1], count as usize)
+    read_resources(input, kind, head[1], count as usize)
 }
 
-fn print_number(n: u64) {
-    io::write_all(1, b" ");
-    io::print_decimal(1, n);
+fn print_number<W: Write + Drop>(out: &mut Output<W>, n: u64) -> io::Result<()> {
+    out.put(b' ')?;
+    out.put_decimal(n)
 }
 
-fn print_resource(word: u8, doms: Row) {
-    print_number(word as u64);
-    print_number(doms.a);
+fn print_resource<W: Write + Drop>(out: &mut Output<W>, word: u8, doms: Row) -> io::Result<()> {
+    print_number(out, word as u64)?;
+    print_number(out, doms.a)
 }
 
-fn print_annotation(x: AnnotationInfo) {
-    print_number(x.kind as u64);
-    print_number(x.tag as u64);
-    print_number(x.count as u64);
+fn print_annotation<W: Write + Drop>(out: &mut Output<W>, x: AnnotationInfo) -> io::Result<()> {
+    print_number(out, x.kind as u64)?;
+    print_number(out, x.tag as u64)?;
+    print_number(out, x.count as u64)?;
     let words = x.words;
     let doms = x.doms;
     let mut i: usize = 0;
     while i < 15 {
         if i < x.count {
-            print_resource(words[i], doms[i]);
+            print_resource(out, words[i], doms[i])?;
         }
         i += 1;
     }
+    Ok(())
 }
 
-fn print_part(p: Part) {
+fn print_part<W: Write + Drop>(out: &mut Output<W>, p: Part) -> io::Result<()> {
     if p.some {
-        print_annotation(p.annotation);
+        print_annotation(out, p.annotation)
     } else {
-        io::write_all(1, b" none");
+        out.put_text(b" none")
     }
 }
 
-fn print_both(x: AnnotationInfo, y: AnnotationInfo)
+fn print_both<W: Write + Drop>(
+    out: &mut Output<W>,
+    x: AnnotationInfo,
+    y: AnnotationInfo,
+) -> io::Result<()>
     requires { Held x × Held y }
 {
     let shared = annotations::intersection(x, y);
-    print_part(shared);
-    io::write_all(1, b" |");
+    print_part(out, shared)?;
+    out.put_text(b" |")?;
     let rest = annotations::difference(x, y);
-    print_part(rest);
-    io::write_all(1, b"\n");
+    print_part(out, rest)?;
+    out.put(b'\n')
 }
 
 // The next pair, if there is one.
-fn answer() -> bool {
+fn answer<R: Read, W: Write + Drop>(input: &mut R, out: &mut Output<W>) -> io::Result<bool> {
     let mut head = [0u8; 3];
-    if io::read_full(0, &mut head) < 3 {
-        return false;
+    if console::read_full(input, &mut head)? < 3 {
+        return Ok(false);
     }
-    let x = read_annotation(head);
-    let y = read_annotation(read_three());
-    print_both(x, y);
-    true
+    let x = read_annotation(input, head)?;
+    let second = read_three(input)?;
+    let y = read_annotation(input, second)?;
+    print_both(out, x, y)?;
+    out.send()?;
+    Ok(true)
 }
 
-fn main() {
+fn main(rt: HostRuntime) -> io::Result<()> {
+    let mut input = rt.reader();
+    let mut out = Output::new(io::writer(&rt));
     let mut left: u64 = 1000000000;
     while 0 < left {
-        if !answer() {
+        if !answer(&mut input, &mut out)? {
             break;
         }
         left -= 1;
     }
+    out.send()
 }

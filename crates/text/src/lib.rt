@@ -1,22 +1,19 @@
 // What the programs print, from a schedule's records or the rows of a diagnosis, and the sheet's words. No contract can say
-// what a call of C's writes, so these functions are proved safe and ending. Each takes the bytes that are to be written in
-// `out`, of which the first so many are set, and hands that number back.
+// what a writer does with its bytes, so these functions are proved safe and ending.
+#![tactic(auto)]
+
 ghost use Rattle.std.specs.Prelude.{◌≤◌, ◌<◌};
 
 use bits::{Cursor, Read};
+use console::Output;
+use std::io;
+use std::io::Write;
 
 // A field's value, and the bit or the byte behind it.
-#[derive(Drop)]
+#[derive(Clone, Copy)]
 struct Got {
     value: usize,
     at: usize,
-}
-
-// The bit of a diagnosis or the byte of records that is to be read next, and how many bytes of `out` are set.
-#[derive(Drop)]
-struct Place {
-    at: usize,
-    to: usize,
 }
 
 // Past every sheet, so that nothing is read there. A sheet has 40,960 bytes at most.
@@ -61,52 +58,16 @@ fn next(records: &[u8], at: usize) -> Got {
     }
 }
 
-// ---- bytes to be written
-
-// One byte more. Bytes that fill `out` are written.
-fn put(out: &mut [u8], to: usize, b: u8) -> usize {
-    if to < out.len() {
-        out[to] = b;
-        return to + 1;
-    }
-    io::write_all(1, out);
-    if 0 < out.len() {
-        out[0] = b;
-        return 1;
-    }
-    0
-}
-
-fn flush(out: &[u8], to: usize) {
-    if to <= out.len() {
-        io::write_all(1, &out[..to]);
-    }
-}
-
-fn put_text(out: &mut [u8], to: usize, text: &[u8]) -> usize {
-    let mut k = to;
-    let mut i = 0;
-    while i < text.len() {
-        k = put(out, k, text[i]);
-        i += 1;
-    }
-    k
-}
-
-fn put_decimal(out: &mut [u8], to: usize, v: usize) -> usize {
-    let mut digits = [0u8; 20];
-    let k = io::decimal(v as u64, &mut digits);
-    put_text(out, to, &digits[..k])
-}
+// ---- what is written in several places
 
 // What stands between two of a list, while more than one is left.
-fn put_between(out: &mut [u8], to: usize, left: usize, b: u8) -> usize {
-    if 1 < left { put(out, to, b) } else { to }
+fn put_between<W: Write + Drop>(out: &mut Output<W>, left: usize, b: u8) -> io::Result<()> {
+    if 1 < left { out.put(b) } else { Ok(()) }
 }
 
 // An empty list is printed as `-` (FORMAT 9.2).
-fn put_if_none(out: &mut [u8], to: usize, count: usize) -> usize {
-    if count == 0 { put(out, to, b'-') } else { to }
+fn put_if_none<W: Write + Drop>(out: &mut Output<W>, count: usize) -> io::Result<()> {
+    if count == 0 { out.put(b'-') } else { Ok(()) }
 }
 
 // ---- words
@@ -145,409 +106,466 @@ fn index_words(sheet: &[u8], starts: &mut [usize]) {
 }
 
 // The word that begins at `at`.
-fn put_word_at(out: &mut [u8], to: usize, sheet: &[u8], at: usize) -> usize {
+fn put_word_at<W: Write + Drop>(out: &mut Output<W>, sheet: &[u8], at: usize) -> io::Result<()> {
     let length = get(sheet, at, 5);
-    let mut k = to;
     let mut p = length.at;
     let mut left = length.value;
     while 0 < left {
         let b = get(sheet, p, 8);
-        k = put(out, k, (b.value % 256) as u8);
+        out.put((b.value % 256) as u8)?;
         p = b.at;
         left -= 1;
     }
-    k
+    Ok(())
 }
 
 // Word w; its number where no words are known.
-fn put_word(out: &mut [u8], to: usize, sheet: &[u8], starts: &[usize], w: usize) -> usize {
+fn put_word<W: Write + Drop>(
+    out: &mut Output<W>,
+    sheet: &[u8],
+    starts: &[usize],
+    w: usize,
+) -> io::Result<()> {
     if w < starts.len() {
-        put_word_at(out, to, sheet, starts[w])
+        put_word_at(out, sheet, starts[w])
     } else {
-        put_decimal(out, to, w)
+        out.put_decimal(w as u64)
     }
 }
 
-// ---- a schedule
+// ---- a schedule: each function is given the byte of the records that is to be read next, and hands the one behind it back
 
 // A word field.
-fn put_word_field(
-    out: &mut [u8],
+fn put_word_field<W: Write + Drop>(
+    out: &mut Output<W>,
     sheet: &[u8],
     starts: &[usize],
     records: &[u8],
-    p: Place,
-) -> Place {
-    let w = next(records, p.at);
-    let to = put_word(out, p.to, sheet, starts, w.value);
-    Place { at: w.at, to }
+    at: usize,
+) -> io::Result<usize> {
+    let w = next(records, at);
+    put_word(out, sheet, starts, w.value)?;
+    Ok(w.at)
 }
 
 // A flag, as a digit.
-fn put_flag(out: &mut [u8], records: &[u8], p: Place) -> Place {
-    let v = next(records, p.at);
-    let to = put_decimal(out, p.to, v.value);
-    Place { at: v.at, to }
+fn put_flag<W: Write + Drop>(out: &mut Output<W>, records: &[u8], at: usize) -> io::Result<usize> {
+    let v = next(records, at);
+    out.put_decimal(v.value as u64)?;
+    Ok(v.at)
 }
 
 // A name, with a dot between two words (FORMAT 1.3, 2.5).
-fn put_name(out: &mut [u8], sheet: &[u8], starts: &[usize], records: &[u8], p: Place) -> Place {
-    let q = put_word_field(out, sheet, starts, records, p);
-    let flag = next(records, q.at);
+fn put_name<W: Write + Drop>(
+    out: &mut Output<W>,
+    sheet: &[u8],
+    starts: &[usize],
+    records: &[u8],
+    at: usize,
+) -> io::Result<usize> {
+    let second = put_word_field(out, sheet, starts, records, at)?;
+    let flag = next(records, second);
     if flag.value == 0 {
-        return Place {
-            at: flag.at,
-            to: q.to,
-        };
+        return Ok(flag.at);
     }
-    let to = put(out, q.to, b'.');
-    put_word_field(out, sheet, starts, records, Place { at: flag.at, to })
+    out.put(b'.')?;
+    put_word_field(out, sheet, starts, records, flag.at)
 }
 
 // A `T` line (FORMAT 9.1).
-fn put_type(out: &mut [u8], sheet: &[u8], starts: &[usize], records: &[u8], p: Place) -> Place {
-    let a = put_text(out, p.to, b"T ");
-    let q = put_name(out, sheet, starts, records, Place { at: p.at, to: a });
-    let to = put(out, q.to, b'\n');
-    Place { at: q.at, to }
+fn put_type<W: Write + Drop>(
+    out: &mut Output<W>,
+    sheet: &[u8],
+    starts: &[usize],
+    records: &[u8],
+    at: usize,
+) -> io::Result<usize> {
+    out.put_text(b"T ")?;
+    let end = put_name(out, sheet, starts, records, at)?;
+    out.put(b'\n')?;
+    Ok(end)
 }
 
 // A `T` line for each name, behind their number (FORMAT 6.1).
-fn put_types(out: &mut [u8], sheet: &[u8], starts: &[usize], records: &[u8]) -> Place {
+fn put_types<W: Write + Drop>(
+    out: &mut Output<W>,
+    sheet: &[u8],
+    starts: &[usize],
+    records: &[u8],
+) -> io::Result<usize> {
     let count = next(records, 0);
-    let mut p = Place {
-        at: count.at,
-        to: 0,
-    };
+    let mut at = count.at;
     let mut left = count.value;
     while 0 < left {
-        p = put_type(out, sheet, starts, records, p);
+        at = put_type(out, sheet, starts, records, at)?;
         left -= 1;
     }
-    p
+    Ok(at)
 }
 
 // One of the words of a parent, and a dot if another follows.
-fn put_part(
-    out: &mut [u8],
+fn put_part<W: Write + Drop>(
+    out: &mut Output<W>,
     sheet: &[u8],
     starts: &[usize],
     records: &[u8],
-    p: Place,
+    at: usize,
     left: usize,
-) -> Place {
-    let q = put_word_field(out, sheet, starts, records, p);
-    let to = put_between(out, q.to, left, b'.');
-    Place { at: q.at, to }
+) -> io::Result<usize> {
+    let end = put_word_field(out, sheet, starts, records, at)?;
+    put_between(out, left, b'.')?;
+    Ok(end)
 }
 
 // A parent: its count of words, and so many words (FORMAT 6.2).
-fn put_parent(
-    out: &mut [u8],
+fn put_parent<W: Write + Drop>(
+    out: &mut Output<W>,
+    sheet: &[u8],
+    starts: &[usize],
+    records: &[u8],
+    start: usize,
+) -> io::Result<usize> {
+    let count = next(records, start);
+    let mut at = count.at;
+    let mut left = count.value;
+    while 0 < left {
+        at = put_part(out, sheet, starts, records, at, left)?;
+        left -= 1;
+    }
+    Ok(at)
+}
+
+fn put_one_parent<W: Write + Drop>(
+    out: &mut Output<W>,
     sheet: &[u8],
     starts: &[usize],
     records: &[u8],
     at: usize,
-    to: usize,
-) -> Place {
-    let count = next(records, at);
-    let mut p = Place { at: count.at, to };
-    let mut left = count.value;
-    while 0 < left {
-        p = put_part(out, sheet, starts, records, p, left);
-        left -= 1;
-    }
-    p
-}
-
-fn put_one_parent(
-    out: &mut [u8],
-    sheet: &[u8],
-    starts: &[usize],
-    records: &[u8],
-    p: Place,
     left: usize,
-) -> Place {
-    let q = put_parent(out, sheet, starts, records, p.at, p.to);
-    let to = put_between(out, q.to, left, b',');
-    Place { at: q.at, to }
+) -> io::Result<usize> {
+    let end = put_parent(out, sheet, starts, records, at)?;
+    put_between(out, left, b',')?;
+    Ok(end)
 }
 
 // The parents with commas between them, behind their count (FORMAT 6.2, 9.2).
-fn put_parents(
-    out: &mut [u8],
+fn put_parents<W: Write + Drop>(
+    out: &mut Output<W>,
+    sheet: &[u8],
+    starts: &[usize],
+    records: &[u8],
+    start: usize,
+) -> io::Result<usize> {
+    let count = next(records, start);
+    put_if_none(out, count.value)?;
+    let mut at = count.at;
+    let mut left = count.value;
+    while 0 < left {
+        at = put_one_parent(out, sheet, starts, records, at, left)?;
+        left -= 1;
+    }
+    Ok(at)
+}
+
+// `makelist`, or `derive:` and the tag (FORMAT 9.2).
+fn put_mark<W: Write + Drop>(out: &mut Output<W>, records: &[u8], at: usize) -> io::Result<usize> {
+    let derive = next(records, at);
+    if derive.value == 0 {
+        out.put_text(b"makelist")?;
+        return Ok(derive.at);
+    }
+    let tag = next(records, derive.at);
+    out.put_text(b"derive:")?;
+    out.put_decimal(tag.value as u64)?;
+    Ok(tag.at)
+}
+
+fn put_one_mark<W: Write + Drop>(
+    out: &mut Output<W>,
+    records: &[u8],
+    at: usize,
+    left: usize,
+) -> io::Result<usize> {
+    let end = put_mark(out, records, at)?;
+    put_between(out, left, b',')?;
+    Ok(end)
+}
+
+// The marks with commas between them, behind their count (FORMAT 6.2, 9.2).
+fn put_marks<W: Write + Drop>(
+    out: &mut Output<W>,
+    records: &[u8],
+    start: usize,
+) -> io::Result<usize> {
+    let count = next(records, start);
+    put_if_none(out, count.value)?;
+    let mut at = count.at;
+    let mut left = count.value;
+    while 0 < left {
+        at = put_one_mark(out, records, at, left)?;
+        left -= 1;
+    }
+    Ok(at)
+}
+
+// The name of a resource, T.r.
+fn put_resource_name<W: Write + Drop>(
+    out: &mut Output<W>,
     sheet: &[u8],
     starts: &[usize],
     records: &[u8],
     at: usize,
-    to: usize,
-) -> Place {
-    let count = next(records, at);
-    let start = put_if_none(out, to, count.value);
-    let mut p = Place {
-        at: count.at,
-        to: start,
-    };
-    let mut left = count.value;
-    while 0 < left {
-        p = put_one_parent(out, sheet, starts, records, p, left);
-        left -= 1;
-    }
-    p
-}
-
-// `makelist`, or `derive:` and the tag (FORMAT 9.2).
-fn put_mark(out: &mut [u8], records: &[u8], p: Place) -> Place {
-    let derive = next(records, p.at);
-    if derive.value == 0 {
-        let to = put_text(out, p.to, b"makelist");
-        return Place { at: derive.at, to };
-    }
-    let tag = next(records, derive.at);
-    let a = put_text(out, p.to, b"derive:");
-    let to = put_decimal(out, a, tag.value);
-    Place { at: tag.at, to }
-}
-
-fn put_one_mark(out: &mut [u8], records: &[u8], p: Place, left: usize) -> Place {
-    let q = put_mark(out, records, p);
-    let to = put_between(out, q.to, left, b',');
-    Place { at: q.at, to }
-}
-
-// The marks with commas between them, behind their count (FORMAT 6.2, 9.2).
-fn put_marks(out: &mut [u8], records: &[u8], at: usize, to: usize) -> Place {
-    let count = next(records, at);
-    let start = put_if_none(out, to, count.value);
-    let mut p = Place {
-        at: count.at,
-        to: start,
-    };
-    let mut left = count.value;
-    while 0 < left {
-        p = put_one_mark(out, records, p, left);
-        left -= 1;
-    }
-    p
-}
-
-// The name of a resource, T.r.
-fn put_resource_name(
-    out: &mut [u8],
-    sheet: &[u8],
-    starts: &[usize],
-    records: &[u8],
-    p: Place,
-) -> Place {
-    let a = put_text(out, p.to, b"R ");
-    let q = put_name(out, sheet, starts, records, Place { at: p.at, to: a });
-    let b = put(out, q.to, b'.');
-    put_word_field(out, sheet, starts, records, Place { at: q.at, to: b })
+) -> io::Result<usize> {
+    out.put_text(b"R ")?;
+    let word = put_name(out, sheet, starts, records, at)?;
+    out.put(b'.')?;
+    put_word_field(out, sheet, starts, records, word)
 }
 
 // A space and the virtual flag.
-fn put_virtual(out: &mut [u8], records: &[u8], p: Place) -> Place {
-    let to = put(out, p.to, b' ');
-    put_flag(out, records, Place { at: p.at, to })
+fn put_virtual<W: Write + Drop>(
+    out: &mut Output<W>,
+    records: &[u8],
+    at: usize,
+) -> io::Result<usize> {
+    out.put(b' ')?;
+    put_flag(out, records, at)
 }
 
 // The parents and the marks, to the line's end.
-fn put_lists(out: &mut [u8], sheet: &[u8], starts: &[usize], records: &[u8], p: Place) -> Place {
-    let a = put(out, p.to, b' ');
-    let q = put_parents(out, sheet, starts, records, p.at, a);
-    let b = put(out, q.to, b' ');
-    let r = put_marks(out, records, q.at, b);
-    let to = put(out, r.to, b'\n');
-    Place { at: r.at, to }
+fn put_lists<W: Write + Drop>(
+    out: &mut Output<W>,
+    sheet: &[u8],
+    starts: &[usize],
+    records: &[u8],
+    at: usize,
+) -> io::Result<usize> {
+    out.put(b' ')?;
+    let marks = put_parents(out, sheet, starts, records, at)?;
+    out.put(b' ')?;
+    let end = put_marks(out, records, marks)?;
+    out.put(b'\n')?;
+    Ok(end)
 }
 
 // An `R` line (FORMAT 9.2).
-fn put_resource(out: &mut [u8], sheet: &[u8], starts: &[usize], records: &[u8], p: Place) -> Place {
-    let q = put_resource_name(out, sheet, starts, records, p);
-    let r = put_virtual(out, records, q);
-    put_lists(out, sheet, starts, records, r)
+fn put_resource<W: Write + Drop>(
+    out: &mut Output<W>,
+    sheet: &[u8],
+    starts: &[usize],
+    records: &[u8],
+    at: usize,
+) -> io::Result<usize> {
+    let flag = put_resource_name(out, sheet, starts, records, at)?;
+    let lists = put_virtual(out, records, flag)?;
+    put_lists(out, sheet, starts, records, lists)
 }
 
 // The trait flag and the word, to the line's end.
-fn put_trait_and_word(
-    out: &mut [u8],
+fn put_trait_and_word<W: Write + Drop>(
+    out: &mut Output<W>,
     sheet: &[u8],
     starts: &[usize],
     records: &[u8],
-    p: Place,
-) -> Place {
-    let q = put_flag(out, records, p);
-    let a = put(out, q.to, b' ');
-    let r = put_word_field(out, sheet, starts, records, Place { at: q.at, to: a });
-    let to = put(out, r.to, b'\n');
-    Place { at: r.at, to }
+    at: usize,
+) -> io::Result<usize> {
+    let word = put_flag(out, records, at)?;
+    out.put(b' ')?;
+    let end = put_word_field(out, sheet, starts, records, word)?;
+    out.put(b'\n')?;
+    Ok(end)
 }
 
 // An `E` line (FORMAT 9.3).
-fn put_extension(
-    out: &mut [u8],
+fn put_extension<W: Write + Drop>(
+    out: &mut Output<W>,
     sheet: &[u8],
     starts: &[usize],
     records: &[u8],
-    p: Place,
-) -> Place {
-    let a = put_text(out, p.to, b"E ");
-    let q = put_name(out, sheet, starts, records, Place { at: p.at, to: a });
-    let r = put_virtual(out, records, q);
-    put_trait_and_word(out, sheet, starts, records, r)
+    at: usize,
+) -> io::Result<usize> {
+    out.put_text(b"E ")?;
+    let flag = put_name(out, sheet, starts, records, at)?;
+    let others = put_virtual(out, records, flag)?;
+    put_trait_and_word(out, sheet, starts, records, others)
 }
 
 // An item; its lead bit says which of the two it is (FORMAT 6.2, 6.3).
-fn put_item(out: &mut [u8], sheet: &[u8], starts: &[usize], records: &[u8], p: Place) -> Place {
-    let lead = next(records, p.at);
-    let q = Place {
-        at: lead.at,
-        to: p.to,
-    };
+fn put_item<W: Write + Drop>(
+    out: &mut Output<W>,
+    sheet: &[u8],
+    starts: &[usize],
+    records: &[u8],
+    at: usize,
+) -> io::Result<usize> {
+    let lead = next(records, at);
     if lead.value == 0 {
-        put_resource(out, sheet, starts, records, q)
+        put_resource(out, sheet, starts, records, lead.at)
     } else {
-        put_extension(out, sheet, starts, records, q)
+        put_extension(out, sheet, starts, records, lead.at)
     }
 }
 
 // A line for each item, behind their count (FORMAT 6.1).
-fn put_items(
-    out: &mut [u8],
+fn put_items<W: Write + Drop>(
+    out: &mut Output<W>,
     sheet: &[u8],
     starts: &[usize],
     records: &[u8],
-    at: usize,
-    to: usize,
-) -> usize {
-    let count = next(records, at);
-    let mut p = Place { at: count.at, to };
+    start: usize,
+) -> io::Result<()> {
+    let count = next(records, start);
+    let mut at = count.at;
     let mut left = count.value;
     while 0 < left {
-        p = put_item(out, sheet, starts, records, p);
+        at = put_item(out, sheet, starts, records, at)?;
         left -= 1;
     }
-    p.to
+    Ok(())
 }
 
-// ---- a diagnosis
+// ---- a diagnosis: each function is given the bit that is to be read next, and hands the one behind it back
 
 // A dot and the second word of a name; nothing where it is 255.
-fn put_row_second(out: &mut [u8], to: usize, sheet: &[u8], starts: &[usize], w: usize) -> usize {
+fn put_row_second<W: Write + Drop>(
+    out: &mut Output<W>,
+    sheet: &[u8],
+    starts: &[usize],
+    w: usize,
+) -> io::Result<()> {
     if w == 255 {
-        return to;
+        return Ok(());
     }
-    let a = put(out, to, b'.');
-    put_word(out, a, sheet, starts, w)
+    out.put(b'.')?;
+    put_word(out, sheet, starts, w)
 }
 
 // A space, and the word, or `-` where it is absent (FORMAT 9.4).
-fn put_row_first(
-    out: &mut [u8],
+fn put_row_first<W: Write + Drop>(
+    out: &mut Output<W>,
     sheet: &[u8],
     starts: &[usize],
     diagnosis: &[u8],
-    p: Place,
-) -> Place {
-    let w = get(diagnosis, p.at, 8);
-    let a = put(out, p.to, b' ');
+    at: usize,
+) -> io::Result<usize> {
+    let w = get(diagnosis, at, 8);
+    out.put(b' ')?;
     if w.value == 255 {
-        let none = put(out, a, b'-');
-        return Place { at: w.at, to: none };
+        out.put(b'-')?;
+        return Ok(w.at);
     }
-    let to = put_word(out, a, sheet, starts, w.value);
-    Place { at: w.at, to }
+    put_word(out, sheet, starts, w.value)?;
+    Ok(w.at)
 }
 
 // A name of a row, its two bytes.
-fn put_row_name(
-    out: &mut [u8],
+fn put_row_name<W: Write + Drop>(
+    out: &mut Output<W>,
     sheet: &[u8],
     starts: &[usize],
     diagnosis: &[u8],
-    p: Place,
-) -> Place {
-    let q = put_row_first(out, sheet, starts, diagnosis, p);
-    let w = get(diagnosis, q.at, 8);
-    let to = put_row_second(out, q.to, sheet, starts, w.value);
-    Place { at: w.at, to }
+    at: usize,
+) -> io::Result<usize> {
+    let second = put_row_first(out, sheet, starts, diagnosis, at)?;
+    let w = get(diagnosis, second, 8);
+    put_row_second(out, sheet, starts, w.value)?;
+    Ok(w.at)
 }
 
 // A `D` line (FORMAT 9.4).
-fn put_row(out: &mut [u8], sheet: &[u8], starts: &[usize], diagnosis: &[u8], p: Place) -> Place {
-    let kind = get(diagnosis, p.at, 8);
-    let a = put_text(out, p.to, b"D ");
-    let b = put_decimal(out, a, kind.value);
-    let q = put_row_name(out, sheet, starts, diagnosis, Place { at: kind.at, to: b });
-    let r = put_row_name(out, sheet, starts, diagnosis, q);
-    let s = put_row_first(out, sheet, starts, diagnosis, r);
-    let to = put(out, s.to, b'\n');
-    Place { at: s.at, to }
+fn put_row<W: Write + Drop>(
+    out: &mut Output<W>,
+    sheet: &[u8],
+    starts: &[usize],
+    diagnosis: &[u8],
+    at: usize,
+) -> io::Result<usize> {
+    let kind = get(diagnosis, at, 8);
+    out.put_text(b"D ")?;
+    out.put_decimal(kind.value as u64)?;
+    let second = put_row_name(out, sheet, starts, diagnosis, kind.at)?;
+    let third = put_row_name(out, sheet, starts, diagnosis, second)?;
+    let end = put_row_first(out, sheet, starts, diagnosis, third)?;
+    out.put(b'\n')?;
+    Ok(end)
 }
 
 // A `D` line for each row that was written.
-fn put_rows(
-    out: &mut [u8],
+fn put_rows<W: Write + Drop>(
+    out: &mut Output<W>,
     sheet: &[u8],
     starts: &[usize],
     diagnosis: &[u8],
     rows: usize,
-    to: usize,
-) -> usize {
-    let mut p = Place { at: 0, to };
+) -> io::Result<()> {
+    let mut at = 0;
     let mut left = rows;
     while 0 < left {
-        p = put_row(out, sheet, starts, diagnosis, p);
+        at = put_row(out, sheet, starts, diagnosis, at)?;
         left -= 1;
     }
-    p.to
+    Ok(())
 }
 
 // The line that a refusal begins with (FORMAT 9.4).
-fn put_refused(out: &mut [u8], number: usize) -> usize {
-    let a = put_text(out, 0, b"refused ");
-    let b = put_decimal(out, a, number);
-    put(out, b, b'\n')
+fn put_refused<W: Write + Drop>(out: &mut Output<W>, number: usize) -> io::Result<()> {
+    out.put_text(b"refused ")?;
+    out.put_decimal(number as u64)?;
+    out.put(b'\n')
 }
 
 // A last line where more rows exist than were written (FORMAT 9.4).
-fn put_more(out: &mut [u8], to: usize, more: bool) -> usize {
+fn put_more<W: Write + Drop>(out: &mut Output<W>, more: bool) -> io::Result<()> {
     if more {
-        put_text(out, to, b"more\n")
+        out.put_text(b"more\n")
     } else {
-        to
+        Ok(())
     }
 }
 
-// ---- whole answers
+// ---- whole answers, which are written before the call returns
 
-fn print_lines(sheet: &[u8], starts: &[usize], records: &[u8]) {
-    let mut out = io::buffer();
-    let p = put_types(&mut out, sheet, starts, records);
-    let to = put_items(&mut out, sheet, starts, records, p.at, p.to);
-    flush(&out, to);
+fn print_lines<W: Write + Drop>(
+    out: &mut Output<W>,
+    sheet: &[u8],
+    starts: &[usize],
+    records: &[u8],
+) -> io::Result<()> {
+    let items = put_types(out, sheet, starts, records)?;
+    put_items(out, sheet, starts, records, items)?;
+    out.send()
 }
 
 // The `T`, `R` and `E` lines of a schedule's records, in the words of a sheet.
-pub fn print_schedule(sheet: &[u8], records: &[u8]) {
+pub fn print_schedule<W: Write + Drop>(
+    out: &mut Output<W>,
+    sheet: &[u8],
+    records: &[u8],
+) -> io::Result<()> {
     let mut starts = [0usize; 256];
     index_words(sheet, &mut starts);
-    print_lines(sheet, &starts, records);
+    print_lines(out, sheet, &starts, records)
 }
 
 // The same with the numbers of the words.
-pub fn print_numbers(records: &[u8]) {
+pub fn print_numbers<W: Write + Drop>(out: &mut Output<W>, records: &[u8]) -> io::Result<()> {
     let starts = [0usize; 0];
-    print_lines(b"", &starts, records);
+    print_lines(out, b"", &starts, records)
 }
 
 // A refusal, its `D` rows and `more`.
-pub fn print_refusal(sheet: &[u8], diagnosis: &[u8], number: usize, rows: usize, more: bool) {
+pub fn print_refusal<W: Write + Drop>(
+    out: &mut Output<W>,
+    sheet: &[u8],
+    diagnosis: &[u8],
+    number: usize,
+    rows: usize,
+    more: bool,
+) -> io::Result<()> {
     let mut starts = [0usize; 256];
     index_words(sheet, &mut starts);
-    let mut out = io::buffer();
-    let a = put_refused(&mut out, number);
-    let b = put_rows(&mut out, sheet, &starts, diagnosis, rows, a);
-    let c = put_more(&mut out, b, more);
-    flush(&out, c);
+    put_refused(out, number)?;
+    put_rows(out, sheet, &starts, diagnosis, rows)?;
+    put_more(out, more)?;
+    out.send()
 }

@@ -2,7 +2,13 @@
 // byte is 0 for a schedule's records in the numbers of the words, 1 in the words of a sheet, else a refusal with a diagnosis;
 // then a refusal's number, the flag, and two bytes each for the rows and the length of the sheet. The sheet follows, and behind
 // it the records or the diagnosis.
+#![tactic(auto)]
+
 ghost use Rattle.std.specs.Prelude.{◌<◌};
+
+use console::Output;
+use std::io;
+use std::io::Write;
 
 fn wide(b: u8) -> usize
     ensures { result < 256 }
@@ -15,14 +21,20 @@ fn two(high: u8, low: u8) -> usize {
     wide(high) * 256 + wide(low)
 }
 
-fn show(head: [u8; 7], sheet: &[u8], rest: &[u8]) {
+fn show<W: Write + Drop>(
+    out: &mut Output<W>,
+    head: [u8; 7],
+    sheet: &[u8],
+    rest: &[u8],
+) -> io::Result<()> {
     if head[0] == 0 {
-        return text::print_numbers(rest);
+        return text::print_numbers(out, rest);
     }
     if head[0] == 1 {
-        return text::print_schedule(sheet, rest);
+        return text::print_schedule(out, sheet, rest);
     }
     text::print_refusal(
+        out,
         sheet,
         rest,
         wide(head[1]),
@@ -31,17 +43,20 @@ fn show(head: [u8; 7], sheet: &[u8], rest: &[u8]) {
     )
 }
 
-fn split(head: [u8; 7], all: &[u8]) {
+fn split<W: Write + Drop>(out: &mut Output<W>, head: [u8; 7], all: &[u8]) -> io::Result<()> {
     let n = two(head[5], head[6]);
     if n <= all.len() {
-        show(head, &all[..n], &all[n..]);
+        show(out, head, &all[..n], &all[n..])?;
     }
+    Ok(())
 }
 
-fn main() {
+fn main(rt: HostRuntime) -> io::Result<()> {
+    let mut input = rt.reader();
+    let mut out = Output::new(io::writer(&rt));
     let mut head = [0u8; 7];
-    io::read_full(0, &mut head);
-    let mut rest = io::large_buffer();
-    let n = io::read_full(0, &mut rest);
-    split(head, &rest[..n]);
+    console::read_full(&mut input, &mut head)?;
+    let mut rest = console::large_buffer();
+    let n = console::read_full(&mut input, &mut rest)?;
+    split(&mut out, head, &rest[..n])
 }

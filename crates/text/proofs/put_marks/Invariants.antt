@@ -1,0 +1,4 @@
+use Rattle.text.proofs.put_marks.Given as goal
+
+abbrev pub decreases-loop-left : goal.decreases-loop-left
+decreases-loop-left g l = l.left
