@@ -15,7 +15,7 @@ use Rattle.line_laws.specs.Within.{Within}
 use Rattle.line_laws.specs.Reading.{read-is-within}
 use Rattle.line_laws.specs.Size.{schedule-at-most}
 use Rattle.reading_laws.specs.Statements.{NoneHolds}
-use Rattle.reading_laws.specs.Answers.{passed-is-held}
+use Rattle.reading_laws.proofs.Answers.{passed-is-held}
 
 -- the largest size that is proved: 7 + 64 × 17 + 16 bits and 37,120 items of 4,515 bits
 abbrev pub most : ℕ

@@ -1,4 +1,6 @@
 // What a call answers, and what of it needs no map: tests 1 and 2, and the answer that a report or a listing comes to.
+#![tactic(auto)]
+
 ghost use Rattle.std.specs.Prelude.{false, cond, ◌≡◌};
 ghost use Rattle.answers.specs.Answers.{parts};
 ghost use Rattle.answers.specs.Telling.{has_parts, Tells, Early};
@@ -13,7 +15,7 @@ pub const DIAGNOSIS: usize = 6 * ROWS;
 
 // What a call answers: the size written; the number of a refusal; its number, how many rows were
 // written and whether there are more; the size that the listing lacks.
-#[derive(Drop)]
+#[derive(Clone, Copy)]
 pub enum Answer {
     Accepted(usize),
     Refused(usize),

@@ -10,7 +10,7 @@ use Rattle.definitions.specs.Checks.{self_bytes, bad_words}
 use Rattle.definitions.specs.Map.{number_of}
 use Rattle.definitions.specs.Legal.{WithinLimits}
 use Rattle.reading_laws.specs.Rules.{words-exactly}
-use Rattle.reading_laws.specs.RoundTrip.{read-exactly}
+use Rattle.reading_laws.proofs.RoundTrip.{read-exactly}
 
 -- ---- words that passed 5
 

@@ -1,4 +1,6 @@
 // What decoding a sheet comes to, and the numbers of its faults.
+#![tactic(auto)]
+
 ghost use Rattle.std.specs.Prelude.{◌≡◌};
 ghost use Rattle.definitions.specs.Answer.{sheet_fault};
 ghost use Rattle.fields.specs.Fields.{fault_of};

@@ -25,7 +25,3 @@ pub mod ScheduleFields
 pub mod Conversion
 pub mod Values
 pub mod Cases
-pub mod DocumentCases
-pub mod CornerCases
-pub mod ConversionCases
-pub mod ItemOrderCases

@@ -1,2 +1,4 @@
 // What document 01 means. There is no code here: see specs/.
+#![tactic(auto)]
+
 pub const VERSION: u8 = 1;

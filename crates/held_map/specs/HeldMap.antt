@@ -1,6 +1,6 @@
 -- The map of a sheet that none of 3 to 8 refuses, as the synthesis finds it: the annotations of each type where they stand in the
 -- bits of the sheet, and the parents by places.
-use Rattle.std.specs.Prelude.{Bool, true, List, ◌≡◌, ℕ, ◌<◌, length, get_or}
+use Rattle.std.specs.Prelude.{Bool, true, List, ◌≡◌, ℕ, ◌<◌, get_or}
 use Rattle.definitions.specs.Records.{Sheet}
 use Rattle.definitions.specs.Map.{type_map_of}
 use Rattle.definitions.specs.Order.{has_order}

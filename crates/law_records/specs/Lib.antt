@@ -1,8 +1,4 @@
 pub mod Statements
 pub mod Walks
 pub mod Grammar
-pub mod Exactly
-pub mod Refused
-pub mod Faults
-pub mod RoundTrips
 pub mod Examples

@@ -1,6 +1,2 @@
 pub mod Statements
-pub mod Charged
-pub mod Tariffs
-pub mod Promises
-pub mod Bounds
 pub mod Examples

@@ -1,10 +1,8 @@
 pub mod Comparisons
 pub mod Passes
 pub mod Statements
-pub mod Spelling
 pub mod Self
 pub mod Rounds
-pub mod Order
 pub mod Diagnosis
 pub mod Relisting
 pub mod Alike

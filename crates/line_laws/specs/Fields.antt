@@ -10,7 +10,7 @@ use Rattle.lists.specs.Lists.{In, At, here, later, filter, each}
 use Rattle.lists.specs.Tests.{never, cons-elim, each_of, filter-of}
 use Rattle.lists.specs.Sorting.{Distinct, sorted-imp, sorted_filter}
 use Rattle.lists.specs.Counting.{pigeonhole}
-use Rattle.definitions.specs.Records.{Name, Dom, Mark, TypeInfo, Sheet, Item, extension}
+use Rattle.definitions.specs.Records.{Name, Dom, Mark, TypeInfo, Sheet, Item}
 use Rattle.definitions.specs.Comparisons.{same_name, look_up, dotted}
 use Rattle.definitions.specs.Map.{LineType, line_type_of}
 use Rattle.definitions.specs.Making.{declared, class_names, extension_parents, marks_of, create_synthetic_resource, extension_line}

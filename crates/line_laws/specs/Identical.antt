@@ -11,7 +11,7 @@ use Rattle.std.proofs.lemmas.Bool.{not-true}
 use Rattle.lists.specs.Lists.{In, At, here, later, Sorted, any, keep, filter, each}
 use Rattle.lists.specs.Tests.{by, never, not_so, and_left, and_right, and_both, cons-elim, any_of, any-not, filter-in, filter-of, each_in, each_of, at_in}
 use Rattle.lists.specs.Sorting.{Distinct, sorted-across, sorted-imp, perm-sorted, sort-perm}
-use Rattle.definitions.specs.Records.{Name, Resource, make_list, associate, nest_associate, alias, inherit, derive, no_derive, Annotation, resource, TypeInfo, Sheet, Item}
+use Rattle.definitions.specs.Records.{Name, Resource, make_list, associate, nest_associate, alias, inherit, derive, no_derive, Annotation, TypeInfo, Sheet, Item}
 use Rattle.definitions.specs.Comparisons.{name_before, dotted}
 use Rattle.definitions.specs.Map.{LineType, LineMap, line_type_of}
 use Rattle.definitions.specs.Making.{extension_line, same_item}

@@ -9,12 +9,9 @@ pub mod Lines
 pub mod Once
 pub mod SameItem
 pub mod Identical
-pub mod Refused
 pub mod InOrder
-pub mod Relisting
 pub mod Bounds
 pub mod Counts
 pub mod Fields
 pub mod Reading
 pub mod Size
-pub mod Examples

@@ -7,7 +7,7 @@ use Rattle.std.proofs.Math.Path.{sym, ap, subst}
 use Rattle.std.proofs.Common.{ap₂, ◌∙◌, eq-eqb, eqb-true}
 use Rattle.std.proofs.lemmas.Bool.{not-false}
 use Rattle.std.proofs.Math.Dec.{eqb}
-use Rattle.lists.specs.Lists.{In, At, Sorted, any, all, null, filter, each, ascends, same_list}
+use Rattle.lists.specs.Lists.{In, At, Sorted, any, all, null, filter, ascends, same_list}
 use Rattle.lists.specs.Tests.{by, never, not_so, same_test, and_left, and_right, and_both, or-false-left, or-false-right, cons-elim, all_in, all_of, filter-in, filter-of, null-in, null-not, place_at}
 use Rattle.lists.specs.Sorting.{sorted-imp, repeats-not, one_key, one_place}
 use Rattle.lists.specs.Lexicographic.{same_numbers}

@@ -20,7 +20,7 @@ sorted-at R (x ∷ l) h = (
   sorted-at R l (λ i j a b p q k. h (suc i) (suc j) a b (later p) (later q) (omega arith)),
 )
 
-pub at-sorted : {A : Type 0} (R : A → A → Type 0) {l : List A} {i j : ℕ} {x y : A} → Sorted R l → At x i l → At y j l → i < j → R x y
+pub at-sorted : {A : Type 0} (R : A → A → Type 0) {x y : A} {i j : ℕ} {l : List A} → Sorted R l → At x i l → At y j l → i < j → R x y
 at-sorted R {y = y} s here here h = absurd (omega arith)
 at-sorted R {y = y} s here (later q) h = s.0 y (at_in q)
 at-sorted R s (later p) here h = absurd (omega arith)
@@ -113,7 +113,7 @@ pub each-sorted : {A B : Type 0} (R : B → B → Type 0) (f : A → List B) (l 
 each-sorted R f [] s = tt
 each-sorted R f (x ∷ l) s = (λ y i a b j k. sorted-across R (f x) (each f l) s a b j (each_in f i k), each-sorted R f l (sorted-right R (f x) (each f l) s))
 
-pub each-sorted-in : {A B : Type 0} (R : B → B → Type 0) (f : A → List B) {l : List A} {x : A} → Sorted R (each f l) → In x l → Sorted R (f x)
+pub each-sorted-in : {A B : Type 0} (R : B → B → Type 0) (f : A → List B) {x : A} {l : List A} → Sorted R (each f l) → In x l → Sorted R (f x)
 each-sorted-in R f s (Memᴰ.head {x = y} {xs = l} e) = subst (λ z. Sorted R (f z)) (sym e) (sorted-left R (f y) (each f l) s)
 each-sorted-in R f s (Memᴰ.tail {x = y} {xs = l} i) = each-sorted-in R f (sorted-right R (f y) (each f l) s) i
 

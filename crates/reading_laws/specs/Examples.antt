@@ -1,21 +1,19 @@
--- Maps that are legal, so that the theorems speak of something: the smallest one by hand, two more because they are read.
+-- Maps on which the theorems are tried. The smallest is legal by hand; that the others are, because they are read: proofs/Examples.antt.
 use Rattle.std.specs.Prelude.{true, false, List, [], ◌∷◌, ◌++◌, map, ◌≡◌, refl, ℕ, zero, suc, ◌+◌, ◌/◌, ◌%◌, replicate}
 use mathlib.Core.List.Memᴰ
 use Rattle.std.proofs.Common.{ap, arith}
-use Rattle.lists.specs.Lists.{set_of, include}
 use Rattle.lists.specs.Tests.{cons-elim}
 use Rattle.definitions.specs.Bits.{odd, to_bits, bits_of, num, pack_to, pack}
 use Rattle.definitions.specs.Parse.{done, field_onto, allowed, repeat_onto, counted}
 use Rattle.definitions.specs.Records.{Resource, TypeInfo, Extension, make_list, associate, nest_associate, alias, inherit, derive, no_derive, domain, resource, other, makelist_mark, derive_mark, Sheet}
 use Rattle.definitions.specs.Comparisons.{bytes_before}
 use Rattle.definitions.specs.Reading.{is_word_byte, word, word_field, word_if_flag, name, associated, associated_list, kinds, annotation, mark, variant, type_info, extension, sheet}
-use Rattle.definitions.specs.Checks.{resource_bytes, self_bytes, bad_words, names_twice, keys_twice, words_twice, same_annotation, annotations_twice, something_twice}
+use Rattle.definitions.specs.Checks.{resource_bytes, self_bytes}
 use Rattle.definitions.specs.Legal.{lower, LegalWord, Legal}
 use Rattle.definitions.specs.Packing.{name_bits, mark_bits}
 use Rattle.definitions.specs.Encoding.{word_bits, resource_bits, content_bits, annotation_bits, variant_bits, type_bits, extension_bits, sheet_bits, encode}
 use Rattle.definitions.specs.Cases.{hex}
-use Rattle.reading_laws.specs.Packed.{fill, pack-bytes}
-use Rattle.reading_laws.specs.RoundTrip.{fill-good, nothing-illegal-is-read}
+use Rattle.reading_laws.specs.Packed.{fill}
 
 -- ---- the two words that every sheet has, and nothing else
 
@@ -91,20 +89,12 @@ unfolding odd to_bits num pack_to pack name_bits mark_bits word_bits resource_bi
 worked-bytes = refl
 
 -- the bytes of a map are read to it, nothing behind it but the fill
-abbrev ReadBack : Sheet → Type 0
+abbrev pub ReadBack : Sheet → Type 0
 ReadBack s = sheet (bits_of (encode s)) ≡ done s (replicate (fill (sheet_bits s)) false)
 
-read-legal : (s : Sheet) → ReadBack s → bad_words s.words ≡ false → something_twice s ≡ false → Legal s
-unfolding encode
-read-legal s e w t = (nothing-illegal-is-read (encode s) s (replicate (fill (sheet_bits s)) false) (pack-bytes (sheet_bits s)) e (fill-good (sheet_bits s)) w t).0
-
-worked-read : ReadBack worked
+pub worked-read : ReadBack worked
 unfolding odd to_bits bits_of num pack_to pack name_bits mark_bits word_bits resource_bits content_bits annotation_bits variant_bits type_bits extension_bits sheet_bits encode field_onto allowed repeat_onto counted is_word_byte word word_field word_if_flag name associated associated_list kinds annotation mark variant type_info extension sheet
 worked-read = refl
-
-pub worked-legal : Legal worked
-unfolding set_of include bad_words bytes_before names_twice keys_twice words_twice same_annotation annotations_twice something_twice
-worked-legal = read-legal worked worked-read refl refl
 
 -- ---- every construct: each kind, a two-word type, each variant, both marks, an extension
 
@@ -138,13 +128,9 @@ everything = record {
   extensions = record { name = 1 ∷ 2 ∷ []; word = 4; parents = (0 ∷ []) ∷ [] } ∷ record { name = 1 ∷ []; word = 4; parents = (0 ∷ []) ∷ (4 ∷ 4 ∷ []) ∷ [] } ∷ [];
 }
 
-everything-read : ReadBack everything
+pub everything-read : ReadBack everything
 unfolding odd to_bits bits_of num pack_to pack name_bits mark_bits word_bits resource_bits content_bits annotation_bits variant_bits type_bits extension_bits sheet_bits encode field_onto allowed repeat_onto counted is_word_byte word word_field word_if_flag name associated associated_list kinds annotation mark variant type_info extension sheet
 everything-read = refl
-
-pub everything-legal : Legal everything
-unfolding set_of include bad_words bytes_before names_twice keys_twice words_twice same_annotation annotations_twice something_twice
-everything-legal = read-legal everything everything-read refl refl
 
 -- ---- every count at its limit: 200 words, one of 31 bytes; 64 types, one with 8 parents, 12 annotations and 7 marks; 32
 -- extensions, one with 8 parents
@@ -190,10 +176,6 @@ at_limits = record {
   extensions = record { name = 0 ∷ []; word = 0; parents = names_from 0 8 } ∷ map plain_extension (from 1 31);
 }
 
-at_limits-read : ReadBack at_limits
+pub at_limits-read : ReadBack at_limits
 unfolding odd to_bits bits_of num pack_to pack name_bits mark_bits word_bits resource_bits content_bits annotation_bits variant_bits type_bits extension_bits sheet_bits encode field_onto allowed repeat_onto counted is_word_byte word word_field word_if_flag name associated associated_list kinds annotation mark variant type_info extension sheet
 at_limits-read = refl
-
-pub at_limits-legal : Legal at_limits
-unfolding set_of include bad_words bytes_before names_twice keys_twice words_twice same_annotation annotations_twice something_twice
-at_limits-legal = read-legal at_limits at_limits-read refl refl

@@ -4,7 +4,5 @@ pub mod Parsers
 pub mod Constructs
 pub mod Sizes
 pub mod Rules
-pub mod RoundTrip
 pub mod Refusals
-pub mod Answers
 pub mod Examples

@@ -139,15 +139,18 @@ same-equal no_derive b e = rw (same-form no_derive b e) two_no_derive
 contents-same : {x y : List (List ℕ)} → x ≡ y → same_list (same_list eqb) x y ≡ true
 contents-same {x} e = rw (← e) (same_self (same_list eqb) (λ l. numbers-same {l = l} refl) x)
 
-equal-same : (a b : Annotation) → Equal a b → same_annotation a b ≡ true
+same-of : {a b : Annotation} → Equal a b → same_annotation a b ≡ true
 unfolding same_annotation
-equal-same make_list make_list two_make_list = refl
-equal-same (associate rs) (associate qs) (two_associate h) = contents-same (ap (λ l. l ∷ []) (sets-equal number-strict (words_of rs) (words_of qs) h))
-equal-same (nest_associate rs) (nest_associate qs) (two_nest_associate h) = contents-same (ap (λ l. l ∷ []) (sets-equal number-strict (words_of rs) (words_of qs) h))
-equal-same (alias w) (alias v) (two_alias e) = contents-same (ap (λ n. (n ∷ []) ∷ []) e)
-equal-same (inherit ns) (inherit ms) (two_inherit e) = contents-same e
-equal-same (derive t) (derive u) (two_derive e) = contents-same (ap (λ n. (n ∷ []) ∷ []) e)
-equal-same no_derive no_derive two_no_derive = refl
+same-of two_make_list = refl
+same-of (two_associate {rs = rs} {qs = qs} h) = contents-same (ap (λ l. l ∷ []) (sets-equal number-strict (words_of rs) (words_of qs) h))
+same-of (two_nest_associate {rs = rs} {qs = qs} h) = contents-same (ap (λ l. l ∷ []) (sets-equal number-strict (words_of rs) (words_of qs) h))
+same-of (two_alias e) = contents-same (ap (λ n. (n ∷ []) ∷ []) e)
+same-of (two_inherit e) = contents-same e
+same-of (two_derive e) = contents-same (ap (λ n. (n ∷ []) ∷ []) e)
+same-of two_no_derive = refl
+
+equal-same : (a b : Annotation) → Equal a b → same_annotation a b ≡ true
+equal-same a b e = same-of e
 
 -- ---- refusal 6
 

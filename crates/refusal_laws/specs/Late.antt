@@ -9,7 +9,7 @@ use Rattle.definitions.specs.Order.{has_order}
 use Rattle.definitions.specs.Answer.{Input, Outcome, schedule_of, bits_written, Refusal, synthesis_rows, late_refusals, type_map_in, sheet_refusals, refusals, first_refusal, outcome}
 use Rattle.reading_laws.specs.Statements.{PastSeven}
 use Rattle.reading_laws.specs.Refusals.{Numbered, answered, none-answered, all_pass}
-use Rattle.reading_laws.specs.Answers.{held-passes}
+use Rattle.reading_laws.proofs.Answers.{held-passes}
 
 -- what a call writes, in bytes, and whether the synthesis leaves no row, where the call asks for it
 module _ (i : Input) where

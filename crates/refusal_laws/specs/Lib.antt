@@ -1,4 +1,2 @@
 pub mod Statements
 pub mod Late
-pub mod Exactly
-mod Examples

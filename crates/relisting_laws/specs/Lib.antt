@@ -1,3 +1,1 @@
 pub mod Statements
-pub mod Alike
-pub mod Examples

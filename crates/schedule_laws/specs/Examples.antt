@@ -1,29 +1,21 @@
 -- Legal schedules, so that the theorems speak of something; schedules past the limits that share their bits; and the worked
 -- example, from its bytes.
-use Rattle.std.specs.Prelude.{true, false, List, [], ◌∷◌, map, ◌≡◌, refl, ℕ, zero, suc, ◌≤◌, replicate}
-use Rattle.std.proofs.Common.{sym, ap, ◌∙◌, subst, zero-le, arith}
+use Rattle.std.specs.Prelude.{true, false, List, [], ◌∷◌, ◌≡◌, refl, ℕ, zero, suc, ◌≤◌, replicate}
+use Rattle.std.proofs.Common.{sym, zero-le, arith}
 use Rattle.std.proofs.lemmas.List.{length-replicate}
 use Rattle.definitions.specs.Bits.{odd, to_bits, bits_of, num, pack_to, pack}
-use Rattle.definitions.specs.Records.{Name, makelist_mark, derive_mark, TypeInfo, Sheet, Item, synthesized, extension, Schedule}
+use Rattle.definitions.specs.Records.{Name, makelist_mark, derive_mark, Sheet, Item, synthesized, extension, Schedule}
 use Rattle.definitions.specs.Reading.{sheet}
 use Rattle.definitions.specs.Packing.{name_bits, parent_bits, mark_bits, item_bits, order_bits, schedule_bits}
 use Rattle.definitions.specs.Legal.{Every, Counted}
 use Rattle.definitions.specs.LegalSchedule.{most_names, most_items, least_parents, most_parents, most_marks, LegalItem, LegalOrder, LegalSchedule}
-use Rattle.definitions.specs.Map.{type_map_of}
-use Rattle.definitions.specs.Ancestry.{IsOrder}
-use Rattle.definitions.specs.ItemOrder.{InOrder}
-use Rattle.definitions.specs.Answer.{Call, schedule, order, Input, standard, rest_of, schedule_of, outcome}
+use Rattle.definitions.specs.Answer.{Call, schedule, order, Input, standard, rest_of, outcome}
 use Rattle.definitions.specs.Relisted.{Holds}
 use Rattle.definitions.specs.Cases.{hex, lent, run}
-use Rattle.laws.specs.Order.{order-exists}
-use Rattle.line_laws.specs.Statements.{Readable, is_refused, any_refused}
-use Rattle.line_laws.specs.Refused.{accepted-is-tested}
-use Rattle.synthesis_laws.specs.Statements.{ListsLines}
+use Rattle.line_laws.specs.Statements.{Readable}
 use Rattle.reading_laws.specs.Examples.{worked, worked_bytes}
 use Rattle.reading_laws.specs.Parsers.{done-value}
-use Rattle.schedule_laws.specs.Statements.{bytes_written, NamesInOrder, Listed, OrderListed, ReadToLines}
-use Rattle.schedule_laws.specs.OneToOne.{bytes-determine}
-use Rattle.schedule_laws.specs.Listed.{listed-exactly, order-listed-exactly, bytes-hold-lines, schedule-is-declared, bytes-are-declared}
+use Rattle.schedule_laws.specs.Statements.{bytes_written}
 
 -- ---- every construct: a two-word type, a parent of three words, both marks, an extension line
 
@@ -65,17 +57,13 @@ everything-legal = record {
   };
 }
 
-abbrev everything_bytes : List ℕ
+abbrev pub everything_bytes : List ℕ
 everything_bytes = hex 22 0x04000080800140202820020209160002088180ffeff8
 
 -- its 22 bytes, computed
-everything-bytes : pack (schedule_bits everything) ≡ everything_bytes
+pub everything-bytes : pack (schedule_bits everything) ≡ everything_bytes
 unfolding odd to_bits num pack_to pack name_bits parent_bits mark_bits item_bits order_bits schedule_bits
 everything-bytes = refl
-
--- no other legal schedule has them
-everything-only : (W : ℕ) (t : Schedule) → LegalSchedule W t → pack (schedule_bits t) ≡ everything_bytes → t ≡ everything
-everything-only W t h e = bytes-determine W 5 t everything h everything-legal (e ∙ sym everything-bytes)
 
 -- its names alone
 everything-order-legal : LegalOrder 5 everything.order
@@ -141,28 +129,19 @@ third-word = refl
 
 -- ---- the worked example, from its bytes
 
-abbrev asked : Call → Input
+abbrev pub asked : Call → Input
 asked c = record { settings = standard; call = c; sheet = worked_bytes; listing = lent 18; diagnosis = lent 1536 }
 
 -- both calls accept it
-accepted : ((outcome (asked schedule)).answer.number ≡ 0) × ((outcome (asked order)).answer.number ≡ 0)
+pub accepted : ((outcome (asked schedule)).answer.number ≡ 0) × ((outcome (asked order)).answer.number ≡ 0)
 unfolding run
 accepted = (refl, refl)
 
-worked-listed : Listed (asked schedule)
-worked-listed = listed-exactly (asked schedule) refl accepted.0
-
-worked-order-listed : OrderListed (asked order)
-worked-order-listed = order-listed-exactly (asked order) refl accepted.1
-
-worked-lines : ReadToLines (asked schedule)
-worked-lines = bytes-hold-lines (asked schedule) refl accepted.0
-
-abbrev listed_bytes : List ℕ
+abbrev pub listed_bytes : List ℕ
 listed_bytes = hex 16 0x06000200800080001090140802800010
 
 -- what the calls have written, computed
-worked-written : (bytes_written (asked schedule) ≡ listed_bytes) × (bytes_written (asked order) ≡ hex 5 0x0600020080)
+pub worked-written : (bytes_written (asked schedule) ≡ listed_bytes) × (bytes_written (asked order) ≡ hex 5 0x0600020080)
 unfolding run
 worked-written = (refl, refl)
 
@@ -173,11 +152,11 @@ worked_schedule = record {
   items = synthesized (0 ∷ []) 1 false ((1 ∷ []) ∷ (2 ∷ []) ∷ []) (makelist_mark ∷ []) ∷ extension (0 ∷ []) false false 1 ∷ [];
 }
 
-worked-bytes : pack (schedule_bits worked_schedule) ≡ listed_bytes
+pub worked-bytes : pack (schedule_bits worked_schedule) ≡ listed_bytes
 unfolding odd to_bits num pack_to pack name_bits parent_bits mark_bits item_bits order_bits schedule_bits
 worked-bytes = refl
 
-worked-legal : LegalSchedule 4 worked_schedule
+pub worked-legal : LegalSchedule 4 worked_schedule
 worked-legal = record {
   width = record { enough = omega arith; few = omega arith };
   names = record { enough = omega arith; few = omega arith; every = ((omega arith, tt), ((omega arith, tt), ((omega arith, tt), tt))) };
@@ -204,46 +183,11 @@ worked-legal = record {
 }
 
 -- the bytes hold the worked sheet and no other
-worked-sheet : (s : Sheet) → Holds worked_bytes s → s ≡ worked
+pub worked-sheet : (s : Sheet) → Holds worked_bytes s → s ≡ worked
 unfolding run
 worked-sheet s h = done-value s worked h.rest (rest_of (sheet (bits_of worked_bytes))) (sym h.read)
 
--- so what is listed is this schedule, and it holds the worked map's order and lines
-worked-schedule : worked_schedule ≡ schedule_of schedule (type_map_of worked)
-worked-schedule =
-    worked-listed.bytes.only 4 worked_schedule worked-legal (worked-written.0 ∙ sym worked-bytes)
-    ∙ ap (λ s. schedule_of schedule (type_map_of s)) (worked-sheet worked-listed.s worked-listed.holds)
-
-worked-has-order : NamesInOrder worked worked_schedule.order
-worked-has-order =
-    subst (λ s. NamesInOrder s worked_schedule.order) (worked-sheet worked-lines.s worked-lines.holds)
-    (worked-lines.names 4 worked_schedule worked-legal (worked-written.0 ∙ sym worked-bytes))
-
-worked-has-lines : ListsLines worked worked_schedule.items
-worked-has-lines =
-    subst (λ s. ListsLines s worked_schedule.items) (worked-sheet worked-lines.s worked-lines.holds)
-    (worked-lines.items 4 worked_schedule worked-legal (worked-written.0 ∙ sym worked-bytes))
-
--- the bytes are those of any types in order and any lines in order
-worked-declared : (ts : List TypeInfo) (l : List Item) → IsOrder worked ts → InOrder worked l
-    → listed_bytes ≡ pack (schedule_bits (record { order = map (λ (T : TypeInfo). T.name) ts; items = l }))
-worked-declared ts l o h =
-    let d = bytes-are-declared (asked schedule) refl accepted.0 in
-    let e = sym (worked-sheet d.s d.holds) in
-    sym worked-written.0 ∙ d.bytes ts l (subst (λ s. IsOrder s ts) e o) (subst (λ s. InOrder s l) e h)
-
--- and there are such
-worked-items-in-order : InOrder worked worked_schedule.items
-worked-items-in-order = worked-has-lines.in_order.ordered
-
 -- so is the schedule itself
-worked-readable : Readable worked
+pub worked-readable : Readable worked
 unfolding run
 worked-readable = record { words = refl; once = refl }
-
-worked-as-declared : (ts : List TypeInfo) (l : List Item) → IsOrder worked ts → InOrder worked l
-    → schedule_of schedule (type_map_of worked) ≡ record { order = map (λ (T : TypeInfo). T.name) ts; items = l }
-unfolding run any_refused is_refused
-worked-as-declared =
-    schedule-is-declared worked worked-readable ((order-exists worked (record { words = refl; names = refl })).0 refl)
-    ((accepted-is-tested worked worked-readable).0 refl)

@@ -23,12 +23,12 @@ use Rattle.definitions.specs.Ancestry.{HasOrder}
 use Rattle.definitions.specs.Lines.{Refused}
 use Rattle.definitions.specs.Cases.{hex, run}
 use Rattle.laws.specs.Comparisons.{name-strict, dom-strict}
-use Rattle.laws.specs.Order.{order-exists}
+use Rattle.laws.proofs.Order.{order-exists}
 use Rattle.line_laws.specs.Statements.{line_map, Accepted, is_refused, any_refused}
 use Rattle.lists.specs.Members.{map-sorted}
 use Rattle.lists.specs.Strict.{number-strict}
 use Rattle.line_laws.specs.Reading.{read-is-within}
-use Rattle.line_laws.specs.Refused.{refused-is-tested}
+use Rattle.line_laws.proofs.Refused.{refused-is-tested}
 use Rattle.synthesis_laws.specs.Statements.{is_plain, Parted, IsAssociate, AllAssociates, Deduped, words_given, Ordered, HandsOn, Inherits, inherited_by, MakesLines}
 use Rattle.synthesis_laws.specs.Annotations.{parted}
 use Rattle.synthesis_laws.specs.Dedup.{dedup-merges}

@@ -11,7 +11,7 @@ use Prim.Native.Nat.{ℕ, zero, suc}
 use borrow.Author.Tests.{eq-eqb, not-true}
 use Rattle.std.proofs.Math.Dec.{eqb}
 use Rattle.lists.specs.Lists.{In, Sorted, any, null, repeats, filter, each, sort}
-use Rattle.lists.specs.Tests.{by, never, and_left, and_right, or-false-left, or-false-right, null-in, any-not, filter-in, filter-of, each_in, each_of}
+use Rattle.lists.specs.Tests.{never, and_left, and_right, or-false-left, or-false-right, null-in, any-not, filter-in, filter-of, each_in, each_of}
 use Rattle.lists.specs.Sorting.{one_key, sorted-imp, repeats-not, sort-is, sort_sorted}
 use Rattle.definitions.specs.Records.{Name, Dom, Resource, AssociatedResource, make_list, associate, nest_associate, alias, inherit, derive, no_derive, Annotation, AnnotationInfo, TypeInfo, Sheet}
 use Rattle.definitions.specs.Comparisons.{dom_before}

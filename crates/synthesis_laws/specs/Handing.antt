@@ -18,7 +18,7 @@ use Rattle.laws.specs.Comparisons.{dom-strict}
 use Rattle.line_laws.specs.Statements.{line_map}
 use Rattle.synthesis_laws.specs.Statements.{Ordered, HandsOn, EachHandsOn, HandedStep, Inherits, EachInherits}
 use Rattle.lists.specs.Appending.{each-each, each_same}
-use Rattle.synthesis_laws.specs.Entries.{as_inherited, word}
+use Rattle.synthesis_laws.specs.Entries.{as_inherited}
 use Rattle.synthesis_laws.specs.Merged.{words-from, words_of, doms-from, doms_from}
 use Rattle.synthesis_laws.specs.Dedup.{all-associates, words-given, doms-given}
 use Rattle.synthesis_laws.specs.Handed.{listed-is, Deep, all-deep, deep-same, hands_of, hands-is, hands-parent, hands-ascending, handed-says, left_word, left-doms, left-parents}

@@ -30,7 +30,7 @@ use Rattle.line_laws.specs.Statements.{Readable, line_map}
 use Rattle.line_laws.specs.Associating.{word-is, has_word_lem, associated-above, doms-are, names_passing, parents-above-is, parents-above-are}
 use Rattle.lists.specs.Appending.{each_append, map-append, map_each, each_map, each_same, map_same, map-map, each-filter, each-one}
 use Rattle.lists.specs.Permutations.{apart_of, sorted-each, sorted-map, perm-append, perm-map, perm_same, perm-each, perm-each-in, perm-filter, distinct-perm, split-perm, group-perm}
-use Rattle.synthesis_laws.specs.Entries.{Entry, as_inherited, merged, dedup_is, word, has_in, has_of, Ascending}
+use Rattle.synthesis_laws.specs.Entries.{Entry, as_inherited, merged, dedup_is, has_in, has_of, Ascending}
 use Rattle.synthesis_laws.specs.Merged.{merged-apart, merged-ascending}
 use Rattle.synthesis_laws.specs.Handed.{hands_of, hands-is, heard, heard-ascending, left_word, left-doms, left-parents, above_cases}
 use Rattle.synthesis_laws.specs.Interpreted.{Job, job_of, jobs_in, jobs_of, made}

@@ -14,7 +14,7 @@ use Rattle.definitions.specs.Annotations.{has_associated_word, doms_in, shared, 
 use Rattle.definitions.specs.Inherited.{to_list}
 use Rattle.laws.specs.Comparisons.{name-strict, dom-strict}
 use Rattle.lists.specs.Permutations.{apart_of}
-use Rattle.synthesis_laws.specs.Entries.{Entry, entry, unless_none, rest_of, common_of, merge_one, merge_onto, merged, dom, parent, Fact, word, GivesDom, Says, has_in, has_of, says-word, doms-is, SaysIn, says-more, says-append, says_none, one_in, one_of, NoWordShared, one_apart, Ascending, AllAscending, one-ascending}
+use Rattle.synthesis_laws.specs.Entries.{Entry, unless_none, rest_of, common_of, merge_one, merge_onto, merged, dom, parent, Fact, word, GivesDom, Says, has_in, has_of, says-word, doms-is, SaysIn, says-more, says-append, says_none, one_in, one_of, NoWordShared, one_apart, Ascending, AllAscending, one-ascending}
 
 -- ---- all newcomers
 

@@ -21,7 +21,7 @@ use Rattle.definitions.specs.Items.{owned, given, of_word, associate_word, ances
 use Rattle.definitions.specs.Ancestry.{HasOrder}
 use Rattle.definitions.specs.ItemOrder.{word_of}
 use Rattle.laws.specs.Comparisons.{dom-strict, types-is, names-once}
-use Rattle.laws.specs.Order.{order-exists}
+use Rattle.laws.proofs.Order.{order-exists}
 use Rattle.line_laws.specs.Statements.{Readable, line_map, classes_of, is_refused, any_refused}
 use Rattle.lists.specs.Members.{distinct-map, sorted-left}
 use Rattle.line_laws.specs.Declarations.{type-in, type-of}
@@ -30,7 +30,7 @@ use Rattle.line_laws.specs.SameItem.{once-tested, tested-once}
 use Rattle.line_laws.specs.Lines.{items-are-lines}
 use Rattle.line_laws.specs.Once.{items-once}
 use Rattle.line_laws.specs.InOrder.{items-in-order}
-use Rattle.line_laws.specs.Refused.{accepted-is-tested}
+use Rattle.line_laws.proofs.Refused.{accepted-is-tested}
 use Rattle.synthesis_laws.specs.Statements.{RowsAreTested, RowsAreRefusals, SynthesisMakesItems, SynthesisMakesLines, ItemsListed}
 use Rattle.lists.specs.Appending.{each_map}
 use Rattle.lists.specs.Permutations.{perm-map, perm_same, perm-each-in, distinct-perm}

@@ -1,5 +1,4 @@
 pub mod Decoded
 pub mod Tariff
-pub mod TariffCases
 pub mod DecodedLaws
 pub mod SumLaws

@@ -1,6 +1,6 @@
 -- A trail that another goes on from: what is added has no name that was seen. So the result of a call that was told stays
 -- until the trail ends.
-use Rattle.std.specs.Prelude.{true, false, ◌||◌, not, List, [], ◌∷◌, ◌++◌, ◌≡◌, refl}
+use Rattle.std.specs.Prelude.{true, false, ◌||◌, List, [], ◌∷◌, ◌++◌, ◌≡◌, refl}
 use Rattle.std.proofs.Common.{append-nil, append_assoc, sym, ap, ◌∙◌, subst}
 use Rattle.lists.specs.Tests.{by, never, or_left, or-false-left, or-false-right}
 use Rattle.lists.specs.Appending.{any_append}

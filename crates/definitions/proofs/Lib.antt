@@ -1,0 +1,4 @@
+pub mod CornerCases
+pub mod DocumentCases
+pub mod ConversionCases
+pub mod ItemOrderCases

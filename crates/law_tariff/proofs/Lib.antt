@@ -1,0 +1,5 @@
+pub mod Charged
+pub mod Tariffs
+pub mod Promises
+pub mod Bounds
+pub mod Examples

@@ -1,0 +1,3 @@
+pub mod Spelling
+pub mod Order
+pub mod Examples

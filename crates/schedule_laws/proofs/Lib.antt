@@ -1,0 +1,4 @@
+pub mod OneToOne
+pub mod Written
+pub mod Listed
+pub mod Examples

@@ -1,0 +1,2 @@
+pub mod TariffCases
+pub mod DecodedLaws
