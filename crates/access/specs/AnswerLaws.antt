@@ -20,7 +20,7 @@ use Rattle.definitions.specs.Answer.{Call, Input, Outcome, sheet_fault, refused_
 use Rattle.definitions.specs.Answer.{most_row_bytes}
 use Rattle.bits.specs.NumberLaws.{length-pack_to}
 use Rattle.reading_laws.specs.Refusals.{rejected, all_pass}
-use Rattle.reading_laws.specs.Answers.{held-passes}
+use Rattle.reading_laws.proofs.Answers.{held-passes}
 use Rattle.decoding.specs.Decoding.{turned_back, decoded}
 use Rattle.decoding.specs.Statements.{Why, unread, fill, words, twice}
 use Rattle.decoding.specs.DecodingLaws.{turned-back-why}

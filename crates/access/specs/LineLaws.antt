@@ -14,7 +14,7 @@ use Rattle.definitions.specs.Answer.{schedule, Input, Outcome, sheet_of, schedul
 use Rattle.synthesis_laws.specs.Rows.{items-listed}
 use Rattle.reading_laws.specs.Statements.{NoneHolds}
 use Rattle.reading_laws.specs.Refusals.{passed, none-front, all_pass}
-use Rattle.reading_laws.specs.Answers.{accepted-exactly, passed-is-held}
+use Rattle.reading_laws.proofs.Answers.{accepted-exactly, passed-is-held}
 use Rattle.answers.specs.declared.Answer.{Answer}
 use Rattle.answers.specs.Answers.{answer_of, Answered, schedule_input}
 use Rattle.access.specs.Lines.{Lists, LinesListed}

@@ -13,7 +13,7 @@ use Rattle.definitions.specs.Checks.{names_twice, something_twice}
 use Rattle.definitions.specs.Map.{type_map_of}
 use Rattle.definitions.specs.Legal.{Every, LegalName, LegalType}
 use Rattle.definitions.specs.Relisted.{Holds}
-use Rattle.laws.specs.Spelling.{every_in}
+use Rattle.laws.proofs.Spelling.{every_in}
 use Rattle.reading_laws.specs.Rules.{repeats-none}
 use Rattle.ordering.specs.Lists.{same-list-sym}
 use Rattle.ordering.specs.Reading.{no_type, is_name}

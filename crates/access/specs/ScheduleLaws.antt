@@ -157,7 +157,7 @@ module _ (bytes d entries t : List ℕ) (n : Decoding) (w : Whole bytes d entrie
       accepted = sym refused-is ∙ e;
       placed = tables.placed-in bytes d entries t n w u places r o f;
       names =
-          tables.names_in bytes d entries t n w u places r o f v
+          tables.names_in_lem bytes d entries t n w u places r o f v
           (λ a h.
           let l : a < length (line_map s).types = omega (arith, rows.count-is s (bits_of bytes) d entries n.count (tables.drawn bytes d entries t n w)) in
           (catalogued.listed.entry a l).name ∙ rows.name-of-listed s (bits_of bytes) d entries n.count (tables.drawn bytes d entries t n w) a h);

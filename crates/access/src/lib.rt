@@ -1,4 +1,6 @@
 // The public calls.
+#![tactic(auto)]
+
 ghost use Rattle.std.specs.Prelude.{◌≡◌, ◌≤◌, length};
 ghost use Rattle.definitions.specs.Records.{Sheet};
 ghost use Rattle.definitions.specs.Answer.{most_row_bytes, outcome};
@@ -60,7 +62,7 @@ fn take(
 }
 
 // What is known of the order: whether there is one, how many words are the last of a name, and the types that are a parent.
-#[derive(Drop)]
+#[derive(Clone, Copy)]
 struct Placing {
     found: bool,
     words: usize,

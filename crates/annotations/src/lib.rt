@@ -1,4 +1,6 @@
 // `AnnotationInfo::intersection` and `difference`, after annotations.rs.
+#![tactic(auto)]
+
 ghost use Rattle.std.specs.Prelude.{◌≡◌, ◌++◌, [], ◌<◌, ◌≤◌, ltb, get_or};
 ghost use Rattle.lists.specs.Lists.{set_of};
 ghost use Rattle.definitions.specs.Comparisons.{dom_before};
@@ -10,7 +12,7 @@ use rows::Row;
 // An annotation by value (01: 'a kind beside flat arrays'): the kind's number, the word of an Alias or the tag of a Derive,
 // and the resources of an associate, words ascending, each with its dom set as a row of bits: 0 is none, d + 1 the word d.
 // The names of an Inherit stand there as well, `a.b` as the word b with the dom a.
-#[derive(Drop)]
+#[derive(Clone, Copy)]
 pub struct AnnotationInfo {
     pub kind: u8,
     pub tag: u8,
@@ -20,14 +22,14 @@ pub struct AnnotationInfo {
 }
 
 // What is left of an annotation, or what two share, if there is any.
-#[derive(Drop)]
+#[derive(Clone, Copy)]
 pub struct Part {
     pub some: bool,
     pub annotation: AnnotationInfo,
 }
 
 // What two annotations have in common: nothing; the whole, if they are equal; the resources of equal words.
-#[derive(Drop)]
+#[derive(Clone, Copy)]
 pub enum Overlap {
     Nothing,
     Whole,

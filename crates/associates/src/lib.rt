@@ -1,4 +1,6 @@
 // One word of an annotation, which `interpret_associate` of compile.rs goes through.
+#![tactic(auto)]
+
 ghost use Rattle.std.specs.Prelude.{true, false, ◌≡◌};
 ghost use Rattle.lists.specs.Lists.{null};
 ghost use Rattle.interpretation.specs.Judged.{unknown_doms};
@@ -9,7 +11,7 @@ use synth_classes::{Origin, Site};
 
 // How far an annotation is: whether a row 5 or 6 stands, whether it ended, the count of rows, and that of the makings of its
 // type.
-#[derive(Drop)]
+#[derive(Clone, Copy)]
 pub struct Progress {
     pub failed: bool,
     pub ended: bool,

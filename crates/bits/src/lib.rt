@@ -1,17 +1,19 @@
 // Fields of bits in a list of bytes; the first bit of a byte or of a field is its most significant one (FORMAT 2.1).
+#![tactic(auto)]
+
 ghost use Rattle.std.specs.Prelude.{◌≡◌, ◌+◌, ◌*◌, ◌%◌, ◌^◌, ◌≤◌, ◌<◌, length, drop, get_or};
 ghost use Rattle.definitions.specs.Bits.{bits_of, num, to_bits};
 ghost use Rattle.bits.specs.Reading.{read_at};
 ghost use Rattle.bits.specs.Writing.{put, Wrote};
 
 // A bit position (01: 'travels as a value'): each method hands back the position behind what it read or wrote.
-#[derive(Drop)]
+#[derive(Clone, Copy)]
 pub struct Cursor {
     pub at: usize,
 }
 
 // A field's value and the cursor behind it, or that the field passes the end.
-#[derive(Drop)]
+#[derive(Clone, Copy)]
 pub enum Read {
     Value(usize, Cursor),
     Past,

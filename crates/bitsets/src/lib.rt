@@ -1,4 +1,6 @@
 // Sets of numbers below 64, one number each: k stands in the set where bit k is 1.
+#![tactic(auto)]
+
 ghost use Rattle.std.specs.Prelude.{◌≡◌, ◌<◌};
 ghost use Rattle.bitsets.specs.Bitsets.{Lowest, Rest, more, less, first_bits};
 ghost use Rattle.rows.specs.Rows.{has_bit};

@@ -23,8 +23,8 @@ abbrev pub parents_at : List ℕ → ℕ → ℕ
 parents_at t a = get_or t (256 + a) 0
 
 -- The set of the classes of a type's own Associates.
-abbrev pub field_own : List ℕ → ℕ → ℕ
-field_own t a = get_or t (320 + a) 0
+abbrev pub own_at : List ℕ → ℕ → ℕ
+own_at t a = get_or t (320 + a) 0
 
 -- The set of the classes that a type has from above.
 abbrev pub above_at : List ℕ → ℕ → ℕ

@@ -1,5 +1,7 @@
 // The catalogue of a map: one lent table of numbers, by the places of the types in name order. This crate alone knows where what
 // stands in it.
+#![tactic(auto)]
+
 ghost use Rattle.std.specs.Prelude.{◌≡◌, ◌+◌, ◌<◌, set, replicate};
 ghost use Rattle.catalogue.specs.Layout.{key_at, head_at, marks_at, tally_at, parents_at, own_at, above_at, passed_at, word_at};
 ghost use Rattle.catalogue.specs.Layout.{mask_at, owner_at, extension_key_at, extension_count_at, extension_parent_at, first_at};

@@ -3,7 +3,7 @@ use Rattle.std.specs.Prelude.{Bool, true, false, cond, List, [], map, ◌≡◌,
 use Rattle.std.proofs.Math.Option.{Option, some}
 use Rattle.lists.specs.Lists.{ascends}
 use Rattle.rows.specs.declared.Row.{Row}
-use Rattle.rows.specs.Rows.{has, either, none, empty, has_bit}
+use Rattle.rows.specs.Rows.{has, either, empty, has_bit}
 use Rattle.rows.specs.Lists.{below}
 use Rattle.definitions.specs.Records.{Name, AssociatedResource}
 use Rattle.definitions.specs.Comparisons.{name_before}

@@ -1,4 +1,6 @@
 // What a type inherits: `InheritedAnnotation` and its dedup, after compile.rs.
+#![tactic(auto)]
+
 ghost use Rattle.std.specs.Prelude.{◌≡◌, [], ◌∷◌, map, ◌<◌, ◌≤◌, length};
 ghost use Rattle.dedup.specs.Entries.{overlap_at, shared_by, left_by, inter, diff, unless_empty, merge, join_all, entries_of, Sound, Apart};
 ghost use Rattle.dedup.specs.EntryLaws.{SameWords, SearchFrom};
@@ -9,7 +11,7 @@ use rows::Row;
 
 // An inherited annotation: the number of its kind, its words as a row of bits, and the types that it is inherited from, by their
 // places in name order.
-#[derive(Drop)]
+#[derive(Clone, Copy)]
 pub struct Entry {
     pub kind: u8,
     pub words: Row,
@@ -17,14 +19,14 @@ pub struct Entry {
 }
 
 // The first `count` entries stand. No two share a word, so there are at most 200; one place is to spare.
-#[derive(Drop)]
+#[derive(Clone, Copy)]
 pub struct Entries {
     pub count: usize,
     pub items: [Entry; 201],
 }
 
 // What a type inherits. Since entries share no word, a dom set belongs to its word, whatever the entry.
-#[derive(Drop)]
+#[derive(Clone, Copy)]
 pub struct Inherited {
     pub list: Entries,
     pub doms: [Row; 200],

@@ -1,5 +1,7 @@
 // Why a map has no order: `find_cycles_or_bad_types` and the rows of kinds 1, 2 and 3, over the table of the compact form. A type
 // is its place in name order.
+#![tactic(auto)]
+
 ghost use Rattle.std.specs.Prelude.{◌≡◌, ◌&&◌, not, ◌<◌, ◌≤◌, ◌*◌, ◌+◌, length};
 ghost use Rattle.lists.specs.Lists.{null, place_of};
 ghost use Rattle.ordering.specs.Reading.{Valid, parent_at, listed};
@@ -14,7 +16,7 @@ ghost use Rattle.diagnosis.specs.Reported.{Reported};
 use emitting::Row;
 
 // How many rows were written, and whether there are more.
-#[derive(Drop)]
+#[derive(Clone, Copy)]
 pub struct Report {
     pub rows: usize,
     pub more: bool,

@@ -1,4 +1,6 @@
 // Whether a making is a duplicate: the type T.r is declared, or the same resource was made before (FORMAT 4.9).
+#![tactic(auto)]
+
 ghost use Rattle.std.specs.Prelude.{◌+◌, ◌≤◌, ◌<◌};
 ghost use Rattle.duplicates.specs.Held.{makings_in, Keeps, Declared, Made, Repeated};
 

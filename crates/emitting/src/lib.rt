@@ -1,10 +1,12 @@
 // Rows of a diagnosis written into a lent slice.
+#![tactic(auto)]
+
 ghost use Rattle.std.specs.Prelude.{◌≡◌, ◌*◌, ◌≤◌, length};
 ghost use Rattle.emitting.specs.Emitting.{emit_bytes};
 ghost use Rattle.emitting.specs.Row.{bytes_of};
 
 // A row as its six bytes: the kind, the subject, the other name, the resource word; 255 for an absent word (FORMAT 8.1).
-#[derive(Drop)]
+#[derive(Clone, Copy)]
 pub struct Row {
     pub kind: u8,
     pub first: u8,

@@ -1,5 +1,7 @@
 // The fields of a sheet: counts, words, names and lists of names. A function at a cursor answers what its parser in the
 // definitions gives for the bits from there on, its faults included.
+#![tactic(auto)]
+
 ghost use Rattle.std.specs.Prelude.{false, [], ◌∷◌, ◌++◌, ◌≡◌, ◌+◌, ◌*◌, ◌≤◌, ◌<◌, drop};
 ghost use Rattle.definitions.specs.Bits.{bits_of};
 ghost use Rattle.definitions.specs.Parse.{refused, field, between, repeat, counted};
@@ -10,41 +12,41 @@ ghost use Rattle.fields.specs.Fields.{of_field, of_byte, of_word_if_flag, name_o
 use bits::{Cursor, Read};
 
 // What can be wrong with a field: it passes the end, or its value is not allowed (FORMAT 2.1).
-#[derive(Drop)]
+#[derive(Clone, Copy)]
 pub enum Fault {
     Past,
     NotAllowed,
 }
 
 // A field's value and the cursor behind it, or its fault.
-#[derive(Drop)]
+#[derive(Clone, Copy)]
 pub enum Field {
     At(usize, Cursor),
     Refused(Fault),
 }
 
 // A field of 8 bits: a word, a tag, or 255 where there is no word.
-#[derive(Drop)]
+#[derive(Clone, Copy)]
 pub enum ByteRead {
     At(u8, Cursor),
     Refused(Fault),
 }
 
 // A name (FORMAT 1.3). The second word is 255 where there is none: a word is below W, at most 200.
-#[derive(Drop)]
+#[derive(Clone, Copy)]
 pub struct Name {
     pub first: u8,
     pub second: u8,
 }
 
-#[derive(Drop)]
+#[derive(Clone, Copy)]
 pub enum NameRead {
     At(Name, Cursor),
     Refused(Fault),
 }
 
 // The first count names of the arrays.
-#[derive(Drop)]
+#[derive(Clone, Copy)]
 pub struct Names {
     pub count: usize,
     pub first: [u8; 15],
@@ -52,7 +54,7 @@ pub struct Names {
 }
 
 // ok: the names and the cursor behind them. Else a fault.
-#[derive(Drop)]
+#[derive(Clone, Copy)]
 pub struct NamesRead {
     pub ok: bool,
     pub fault: Fault,

@@ -1,5 +1,7 @@
 // What a type inherits from its listed parents: from each its own associates, then what it inherits itself, which is kept in
 // a store of all types.
+#![tactic(auto)]
+
 ghost use Rattle.std.specs.Prelude.{◌≡◌, ◌<◌};
 ghost use Rattle.bits.specs.Reading.{Addressable};
 ghost use Rattle.definitions.specs.Bits.{bits_of};

@@ -1,5 +1,7 @@
 // Which listings of a type hand on what their parent has. A listing at which the parent is reached for the first time, and
 // fails, hands on nothing, and the type itself fails; listed again, the parent hands on everything (FORMAT 8.6).
+#![tactic(auto)]
+
 ghost use Rattle.std.specs.Prelude.{◌&&◌, ◌||◌, not, ◌≡◌, ◌<◌};
 ghost use Rattle.rows.specs.Rows.{has_bit};
 ghost use Rattle.ordering.specs.Reading.{Valid};
@@ -8,7 +10,7 @@ ghost use Rattle.parent_laws.specs.Placed.{ParentsBelow};
 ghost use Rattle.hearing.specs.Hearing.{WithFlag, FlagsOf, WithOk};
 
 // Bit i is set if listing i hands on; `all` if each does.
-#[derive(Drop)]
+#[derive(Clone, Copy)]
 pub struct Flags {
     pub row: u64,
     pub all: bool,

@@ -1,5 +1,7 @@
 // What a type inherits from one parent: the parent's own associates, then what the parent itself inherits, after
 // `inherit_annotations`.
+#![tactic(auto)]
+
 ghost use Rattle.std.specs.Prelude.{◌≡◌, ◌<◌, ◌≤◌};
 ghost use Rattle.dedup.specs.Reading.{Good};
 ghost use Rattle.inheritance.specs.Own.{Own, WordsOf, inherited_kind, DomsWith, JoinsOwn, AllOwn, JoinsOwns, JoinsParent};

@@ -1,4 +1,6 @@
 // What a word's classes come to, and the rows of kinds 4, 5 and 6, after `interpret_associate` of compile.rs.
+#![tactic(auto)]
+
 ghost use Rattle.std.specs.Prelude.{◌&&◌, not, [], ◌∷◌, map, ◌≡◌, ◌*◌, ◌<◌, ◌≤◌, ltb, length};
 ghost use Rattle.rows.specs.Next.{First};
 ghost use Rattle.definitions.specs.Answer.{most_rows};

@@ -81,7 +81,7 @@ pub record Ground (T limit : ℕ) (b : List ℕ) : Type 0 where
   pub few : limit ≤ most_rows
 
 pub record TypeReady (T : ℕ) (o : OwnAssociates) (h : Inherited) (limit : ℕ) (b : List ℕ) : Type 0 where
-  pub ground : Ground T limit b
+  pub on_ground : Ground T limit b
   pub own : AllOwn o.items o.count
   pub inherited : Good h
 

@@ -126,7 +126,7 @@ inherited-good =
 
 -- a slice for four rows
 pub ready : TypeReady 0 owns inherited 4 (replicate 24 0)
-ready = record { ground = record { place = omega arith; slice = omega arith; few = omega arith }; own = owns-own; inherited = inherited-good }
+ready = record { on_ground = record { place = omega arith; slice = omega arith; few = omega arith }; own = owns-own; inherited = inherited-good }
 
 -- ---- one word and one annotation, with as many makings as there can be before them
 

@@ -1,4 +1,6 @@
 // What the annotations of one type come to, after `interpret_associate` and `interpret_inherited_annotations` of compile.rs.
+#![tactic(auto)]
+
 ghost use Rattle.std.specs.Prelude.{◌&&◌, not, [], ◌∷◌, ◌≡◌, ◌+◌, ◌≤◌, ◌<◌};
 ghost use Rattle.rows.specs.Rows.{has};
 ghost use Rattle.dedup.specs.Reading.{inherited_of, no_doms, Good};
@@ -16,14 +18,14 @@ use rows::Row;
 use synth_classes::{Origin, Site};
 
 // A type's turn: its place, and how many rows there can be.
-#[derive(Drop)]
+#[derive(Clone, Copy)]
 pub struct Turn {
     pub place: usize,
     pub limit: usize,
 }
 
 // How far a type is: whether it added no row, the count of rows, and that of its makings.
-#[derive(Drop)]
+#[derive(Clone, Copy)]
 pub struct Told {
     pub clean: bool,
     pub rows: usize,
@@ -31,7 +33,7 @@ pub struct Told {
 }
 
 // What a type came to: the count of rows, and whether it added none.
-#[derive(Drop)]
+#[derive(Clone, Copy)]
 pub struct Interpreted {
     pub rows: usize,
     pub clean: bool,
@@ -145,7 +147,7 @@ fn interpret_own(
     made: &mut [u64; 2280],
     buf: &mut [u8],
 ) -> Told
-    requires ground { Ground turn.place turn.limit buf.old }
+    requires on_ground { Ground turn.place turn.limit buf.old }
     requires own { Own a × (s.made + 15 ≤ 380) }
     ensures { Added t.now turn.place turn.limit (λ ns. plain_of (a ∷ [])) 15 (type_reached s made.old) buf.old (type_reached result made.new) buf.new }
 {
@@ -172,7 +174,7 @@ fn interpret_owns(
     made: &mut [u64; 2280],
     buf: &mut [u8],
 ) -> Told
-    requires ground { Ground turn.place turn.limit buf.old }
+    requires on_ground { Ground turn.place turn.limit buf.old }
     requires all_own { AllOwn own.items own.count × (s.made + 180 ≤ 380) }
     ensures { Added t.now turn.place turn.limit (λ ns. own_entries_in own) 180 (type_reached s made.old) buf.old (type_reached result made.new) buf.new }
 {
@@ -197,7 +199,7 @@ fn interpret_extra(
     made: &mut [u64; 2280],
     buf: &mut [u8],
 ) -> Told
-    requires ground { Ground turn.place turn.limit buf.old }
+    requires on_ground { Ground turn.place turn.limit buf.old }
     requires good { Good h × (s.made + 200 ≤ 380) }
     ensures { Added t.now turn.place turn.limit (λ ns. inherited_of ns h) 200 (type_reached s made.old) buf.old (type_reached result made.new) buf.new }
 {

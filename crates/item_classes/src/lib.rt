@@ -1,9 +1,11 @@
 // The classes of a type's annotations, as sets of types: those of its own Associates, and those that it gives at all.
+#![tactic(auto)]
+
 ghost use Rattle.std.specs.Prelude.{true, false, eqb};
 ghost use Rattle.item_classes.specs.Classes.{GathersMore};
 
 // The classes found so far. `wrong`: an own class is no declared resource, or stands twice. `missing`: a given class is none.
-#[derive(Drop)]
+#[derive(Clone, Copy)]
 pub struct Classes {
     pub own: u64,
     pub given: u64,

@@ -24,7 +24,7 @@ use Rattle.line_laws.specs.Within.{WordsWithin, ResourceWithin}
 use Rattle.ordering.specs.Lists.{tab, tab-get_d, any-tab-same, below, below-same}
 use Rattle.ordering.specs.Reading as reading
 use Rattle.law_classes.specs.Sets.{some, own_set, given_set, type_at, no_type, SetIs}
-use Rattle.law_classes.specs.SetLaws.{below_of}
+use Rattle.law_classes.proofs.SetLaws.{below_of}
 use Rattle.law_classes.specs.Refusal.{has_child, lost_class, own_twice}
 use Rattle.item_spread.specs.Spread.{Ordered, Starts, Right}
 use Rattle.sheet_draft.specs.Draft as draft

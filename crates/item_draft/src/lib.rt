@@ -1,5 +1,7 @@
 // The catalogue of a map, out of its draft and its sheet, where the names, the parents, the extension records and the order
 // stand already.
+#![tactic(auto)]
+
 ghost use Rattle.std.specs.Prelude.{◌≡◌, ◌≤◌, ◌<◌, length};
 ghost use Rattle.definitions.specs.Bits.{bits_of};
 ghost use Rattle.bits.specs.Reading.{Addressable};
@@ -10,7 +12,7 @@ use item_sets::Numbers;
 
 // What is known besides: how many types, last words and extension records there are, the number of the word `resource`, the
 // types that are a parent, and how many words the sheet has.
-#[derive(Drop)]
+#[derive(Clone, Copy)]
 pub struct Known {
     pub count: usize,
     pub words: usize,

@@ -1,4 +1,6 @@
 // The names of the types in the catalogue, out of the entries of a draft in name order: an entry is a key times 64, and a row.
+#![tactic(auto)]
+
 ghost use Rattle.std.specs.Prelude.{◌≡◌, ◌≤◌, length};
 ghost use Rattle.item_names.specs.Names.{KeysPut, SetsPut, NoSets, NamesPut};
 ghost use Rattle.item_entries.specs.Entries.{firsts_of, seconds_of, KeysFit, SetsCleared};

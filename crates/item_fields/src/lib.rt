@@ -1,4 +1,6 @@
 // The fields of an item that stand together, each made as one number out of keys of names (FORMAT 2.5, 6.2, 6.3).
+#![tactic(auto)]
+
 ghost use Rattle.std.specs.Prelude.{◌∷◌, [], ◌++◌, ◌≡◌, ◌+◌, ◌*◌, ◌/◌, ◌≤◌, length};
 ghost use Rattle.lists.specs.Lists.{each};
 ghost use Rattle.definitions.specs.Bits.{to_bits};

@@ -1,9 +1,11 @@
 // The set of the resources, and the marks of a type as bits.
+#![tactic(auto)]
+
 ghost use Rattle.std.specs.Prelude.{◌<◌, ◌^◌};
 ghost use Rattle.item_heads.specs.Heads.{WithMark, WithResource};
 
 // Marks as bits, the last mark lowest; how many bits there are, times 8, and how many marks.
-#[derive(Drop)]
+#[derive(Clone, Copy)]
 pub struct Packed {
     pub bits: u64,
     pub tally: u64,

@@ -11,7 +11,7 @@ use Rattle.lists.specs.Places.{drop-step, drop-end}
 use Rattle.ordering.specs.Lists.{only, below, below_none, below-same, below-most}
 use Rattle.rows.specs.Rows.{has_bit}
 use Rattle.rows.specs.RowLaws.{bit-none}
-use Rattle.law_classes.specs.SetLaws.{below_of}
+use Rattle.law_classes.proofs.SetLaws.{below_of}
 use Rattle.bitsets.specs.Bitsets.{Lowest, Rest}
 use Rattle.bitsets.specs.BitLaws.{rest-is}
 use Rattle.item_making.specs.Making.{members, each_of, total}

@@ -1,4 +1,6 @@
 // What is made for a type and a word, out of the catalogue, added to a pen: a synthesized resource (FORMAT 6.2) and an extension line (FORMAT 6.3).
+#![tactic(auto)]
+
 ghost use Rattle.std.specs.Prelude.{true, [], ◌∷◌, ◌++◌, ◌≡◌, ◌+◌, ◌*◌, ◌%◌, ◌≤◌, ◌<◌, length};
 ghost use Rattle.definitions.specs.Bits.{to_bits};
 ghost use Rattle.definitions.specs.LegalSchedule.{most_marks};
@@ -13,7 +15,7 @@ use item_pen::{Field, Pen};
 
 // What is made for a type and a word: the word; the extension records that add parents; the types whose names begin the first parents; the classes; and whether a
 // first parent is P.r, for a type P, or the type itself.
-#[derive(Drop)]
+#[derive(Clone, Copy)]
 pub struct Making {
     pub word: u64,
     pub records: u64,
@@ -23,7 +25,7 @@ pub struct Making {
 }
 
 // How many marks some classes have, and, in the last bit, whether all are virtual.
-#[derive(Drop)]
+#[derive(Clone, Copy)]
 struct Gathered {
     marks: u64,
     flag: u64,

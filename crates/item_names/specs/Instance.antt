@@ -9,7 +9,7 @@ use Rattle.fields.specs.Fields.{two_words}
 use Rattle.laws.specs.Comparisons.{name-same}
 use Rattle.line_laws.specs.Statements.{line_map}
 use Rattle.law_classes.specs.Sets.{type_at}
-use Rattle.law_classes.specs.Instance.{accepted, four}
+use Rattle.law_classes.proofs.Instance.{accepted, four}
 use Rattle.item_names.specs.Names.{NoSets}
 use Rattle.item_names.specs.Named.{WordOrNone, Named}
 

@@ -19,7 +19,7 @@ use Rattle.fields.specs.Fields.{two_words}
 use Rattle.fields.specs.FieldLaws.{same-words}
 use Rattle.ordering.specs.Lists.{below}
 use Rattle.law_classes.specs.Sets.{some, one_word, word_of, masked, type_at, SetIs}
-use Rattle.law_classes.specs.SetLaws.{below_of}
+use Rattle.law_classes.proofs.SetLaws.{below_of}
 use Rattle.law_classes.specs.Numbers.{Fits, holds-some}
 use Rattle.bitsets.specs.BitLaws.{lowest-is}
 use Rattle.catalogue.specs.Layout.{key_at, word_at, mask_at, owner_at, first_at, second_at, words_in, looked}

@@ -12,7 +12,7 @@ use Rattle.lists.specs.Tabulating.{tabulate, tabulate-set, tabulate-in, length-t
 use Rattle.rows.specs.Rows.{has_bit}
 use Rattle.rows.specs.RowLaws.{bit-either, bit-none, bit-one, one_shifted}
 use Rattle.ordering.specs.Lists.{below, below-yes, below-no, below-same, below-lt}
-use Rattle.law_classes.specs.SetLaws.{below_of, below-ascends}
+use Rattle.law_classes.proofs.SetLaws.{below_of, below-ascends}
 use Rattle.catalogue.specs.Layout.{key_at, word_at, first_at, second_at, looked}
 use Rattle.catalogue.specs.Kept.{KeptOutside, kept-none, kept_set, kept_more}
 use Rattle.item_names.specs.Holding.{Holds, nonzero-bit, holds-and, holds-or}

@@ -1,5 +1,7 @@
 // The names of the types in the catalogue: each as a key, for each word the sets of the types that have it, the words that
 // are the last of a name, and the owner of each name of two words.
+#![tactic(auto)]
+
 ghost use Rattle.std.specs.Prelude.{◌≡◌, ◌+◌, ◌<◌};
 ghost use Rattle.item_names.specs.Names.{NameMarked, WordPut, WordsPut, FewWords, owner_of, OwnersPut, KeysSmall};
 

@@ -1,5 +1,7 @@
 // The annotations and marks of a type, read where they stand in the sheet: the sets of their classes, and the marks as bits. The
 // decoder has read them before, so nothing is tested twice.
+#![tactic(auto)]
+
 ghost use Rattle.std.specs.Prelude.{false, ◌||◌, ◌≡◌, ◌<◌, eqb};
 ghost use Rattle.definitions.specs.Bits.{bits_of};
 ghost use Rattle.bits.specs.Reading.{Addressable};
@@ -12,14 +14,14 @@ use item_classes::Classes;
 use item_heads::Packed;
 
 // The classes found so far, and the place behind what was read.
-#[derive(Drop)]
+#[derive(Clone, Copy)]
 struct Gathered {
     classes: Classes,
     at: usize,
 }
 
 // What the annotations and marks of a type come to.
-#[derive(Drop)]
+#[derive(Clone, Copy)]
 pub struct Noted {
     pub classes: Classes,
     pub marks: Packed,

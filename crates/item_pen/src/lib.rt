@@ -1,4 +1,6 @@
 // A pen over lent bytes. Down, it writes bits; up, it only counts them: what counts a schedule's bits is what writes them.
+#![tactic(auto)]
+
 ghost use Rattle.std.specs.Prelude.{false, ◌++◌, ◌≡◌, ◌+◌, ◌*◌, ◌/◌, ◌^◌, ◌≤◌, ◌<◌, length, drop};
 ghost use Rattle.definitions.specs.Bits.{to_bits, bits_of, num};
 ghost use Rattle.bits.specs.Writing.{put, Wrote};
@@ -7,14 +9,14 @@ ghost use Rattle.item_pen.specs.Pen.{Holds, field_bits, Full, Merged, Room, Penn
 use bits::Cursor;
 
 // Bits that are made before they are written: the last `width` bits of a number that has no others.
-#[derive(Drop)]
+#[derive(Clone, Copy)]
 pub struct Field {
     pub width: usize,
     pub value: u64,
 }
 
 // Where the next bit goes, and twice the number of items that were put, one more where the pen is down: two numbers, so that a pen is handed on in registers.
-#[derive(Drop)]
+#[derive(Clone, Copy)]
 pub struct Pen {
     pub count: usize,
     pub at: usize,

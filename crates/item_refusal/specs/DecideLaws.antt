@@ -11,7 +11,7 @@ use Rattle.line_laws.specs.Within.{Within}
 use Rattle.bitsets.specs.Bitsets.{members, less, first_bits}
 use Rattle.bitsets.specs.BitLaws.{members-none}
 use Rattle.law_classes.specs.Refusal.{lost_class, taken_name, own_twice, crosses, set_refused}
-use Rattle.law_classes.specs.RefusalLaws.{any-either, refused-by-sets}
+use Rattle.law_classes.proofs.RefusalLaws.{any-either, refused-by-sets}
 use Rattle.catalogue.specs.Layout.{own_at, second_at, count_in}
 use Rattle.catalogue.specs.Catalogue.{Catalogued}
 use Rattle.item_refusal.specs.Tests.{takes, repeated, repeated_for, types_in, pairs_in, refused_in, Decides}

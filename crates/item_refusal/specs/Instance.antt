@@ -21,7 +21,7 @@ use Rattle.bitsets.specs.BitLaws.{bit_past}
 use Rattle.law_classes.specs.Sets.{Set, some, one_word, word_of, masked, named, own_set, given_set, above_set, passed_set, type_at, SetIs}
 use Rattle.law_classes.specs.Numbers.{Fits}
 use Rattle.law_classes.specs.Refusal.{lost_class, own_twice, unmet, has_child}
-use Rattle.law_classes.specs.Instance.{crossed, crossed-readable, crossed-within, crossed-tested}
+use Rattle.law_classes.proofs.Instance.{crossed, crossed-readable, crossed-within, crossed-tested}
 use Rattle.catalogue.specs.Layout.{parents_at, own_at, above_at, passed_at, word_at, mask_at, owner_at, first_at, second_at}
 use Rattle.catalogue.specs.Catalogue.{name_of_key, first_is, second_is, is_resource_head, virtual_head, trait_head, added_in, Entry, Listed, Worded, Extended, SetsOf, Owned, Catalogued}
 use Rattle.item_refusal.specs.Tests.{Decides}

@@ -32,7 +32,7 @@ use Rattle.bitsets.specs.BitLaws.{bit-both, bit-less, bit-more, members-of, in_m
 use Rattle.law_classes.specs.Sets.{both, some, word_of, masked, own_set, above_set, passed_set, no_type, type_at, SetIs}
 use Rattle.law_classes.specs.Numbers.{place-of, Fits, fits_both, holds-both, holds-some}
 use Rattle.law_classes.specs.Walks.{some-walked, classes-walked, passing-walked}
-use Rattle.law_classes.specs.ItemLaws.{plain_map}
+use Rattle.law_classes.proofs.ItemLaws.{plain_map}
 use Rattle.law_classes.specs.Refusal.{firsts, identical, crosses}
 use Rattle.catalogue.specs.Layout.{marks_at, tally_at, parents_at, own_at, above_at, passed_at, owner_at, second_at}
 use Rattle.catalogue.specs.Catalogue.{Catalogued}

@@ -19,10 +19,10 @@ use Rattle.line_laws.specs.Within.{Within}
 use Rattle.rows.specs.Rows.{has_bit}
 use Rattle.bitsets.specs.BitLaws.{bit-less, bit-first}
 use Rattle.law_classes.specs.Sets.{one_word, word_of, masked, no_type, type_at, SetIs}
-use Rattle.law_classes.specs.SetLaws.{Short}
+use Rattle.law_classes.proofs.SetLaws.{Short}
 use Rattle.law_classes.specs.Numbers.{Fits, fits_both, holds-both, holds-either}
 use Rattle.law_classes.specs.Walks.{fits-either}
-use Rattle.law_classes.specs.ItemLaws.{plain_map, word_below}
+use Rattle.law_classes.proofs.ItemLaws.{plain_map, word_below}
 use Rattle.catalogue.specs.Layout.{key_at, first_at, second_at, count_in}
 use Rattle.catalogue.specs.Catalogue.{name_of_key, first_is, second_is, Catalogued}
 use Rattle.item_refusal.specs.Tests.{same_word, types_in, pairs_in}

@@ -1,4 +1,6 @@
 // Refusal 9 by sets of classes: whether a type of the map is refused, from the map's catalogue.
+#![tactic(auto)]
+
 ghost use Rattle.std.specs.Prelude.{◌≡◌, ◌<◌};
 ghost use Rattle.lists.specs.Lists.{any, all};
 ghost use Rattle.bitsets.specs.Bitsets.{members};

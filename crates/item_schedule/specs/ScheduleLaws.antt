@@ -24,17 +24,17 @@ use Rattle.line_laws.specs.Within.{Within}
 use Rattle.line_laws.specs.Bounds.{items-at-most}
 use Rattle.line_laws.specs.Size.{schedule-at-most}
 use Rattle.catalogue.specs.Catalogue.{Catalogued}
-use Rattle.law_classes.specs.ItemLaws.{items-by-sets}
+use Rattle.law_classes.proofs.ItemLaws.{items-by-sets}
 use Rattle.item_pen.specs.declared.Pen.{Pen}
 use Rattle.item_pen.specs.Pen.{joined, fresh, Penned, RoomFor, Adds, RoomForAll, AddsAll}
 use Rattle.item_pen.specs.PenLaws.{adds_then, fresh-is, fresh-few, room-head, room-tail}
 use Rattle.item_writer.specs.Items.{all_items, Cleared, WordsAre}
-use Rattle.item_writer.specs.SheetItems.{sound, items-are}
+use Rattle.item_writer.proofs.SheetItems.{sound, items-are}
 use Rattle.rows.specs.Rows.{has_bit}
 use Rattle.rows.specs.RowLaws.{bit-none}
 use Rattle.order_rounds.specs.Organized.{Holds, Organized}
-use Rattle.order_listing.specs.ListingLaws.{wrote-overwrite}
-use Rattle.order_listing.specs.OrderLaws.{placed_of, names-are}
+use Rattle.order_listing.proofs.ListingLaws.{wrote-overwrite}
+use Rattle.order_listing.proofs.OrderLaws.{placed_of, names-are}
 use Rattle.order_listing.specs.Order.{name_of, names_in, names_bits}
 use Rattle.item_schedule.specs.declared.Pass.{Pass}
 use Rattle.item_schedule.specs.Schedule.{bits_in, Passable, Passed, Orderly, ListsSchedule}

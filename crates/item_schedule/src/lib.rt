@@ -1,10 +1,12 @@
 // The schedule of a map, out of its catalogue and its order. One function counts its bits and writes them (FORMAT 6.1).
+#![tactic(auto)]
+
 ghost use Rattle.item_schedule.specs.Schedule.{Passable, Passed, Schedulable, ListsSchedule};
 
 use order_listing::Listed;
 
 // What a pass comes to: how many items there are, and how many bits.
-#[derive(Drop)]
+#[derive(Clone, Copy)]
 struct Pass {
     items: usize,
     bits: usize,

@@ -1,5 +1,7 @@
 // What the catalogue has that is made of what stands in it already: the sets that go down the order, the types that have an
 // extension record, and the single numbers.
+#![tactic(auto)]
+
 ghost use Rattle.std.specs.Prelude.{◌&&◌, ◌||◌, ◌≡◌, ◌<◌, length};
 ghost use Rattle.rows.specs.Rows.{has_bit};
 ghost use Rattle.item_spread.specs.Spread.{United, Ordered};
@@ -8,7 +10,7 @@ ghost use Rattle.item_sets.specs.Sets.{passed_sets, parent_sets, SpreadPut, Numb
 use item_classes::Classes;
 
 // The single numbers of the catalogue.
-#[derive(Drop)]
+#[derive(Clone, Copy)]
 pub struct Numbers {
     pub count: u64,
     pub words: u64,

@@ -10,7 +10,7 @@ use Rattle.rows.specs.RowLaws.{bit-one, bit-none}
 use Rattle.ordering.specs.Lists.{elem}
 use Rattle.law_classes.specs.Sets.{named, given_set, type_at, SetIs}
 use Rattle.item_spread.specs.Spread.{Ordered, Starts, Right, Spread}
-use Rattle.law_classes.specs.Instance.{accepted, accepted-readable, four}
+use Rattle.law_classes.proofs.Instance.{accepted, accepted-readable, four}
 
 -- what the code starts from
 abbrev parents : List ℕ

@@ -22,7 +22,7 @@ use Rattle.line_laws.specs.Declarations.{type-of}
 use Rattle.law_classes.specs.Sets.{both, some, masked, above_set, passed_set, no_type, type_at, SetIs}
 use Rattle.law_classes.specs.Numbers.{place-of, Fits}
 use Rattle.law_classes.specs.Walks.{passing-walked}
-use Rattle.law_classes.specs.ItemLaws.{above-unrolls}
+use Rattle.law_classes.proofs.ItemLaws.{above-unrolls}
 use Rattle.item_spread.specs.Spread.{United, Ordered, Starts, Right, Spread, WithIf, Passing}
 
 -- ---- one set

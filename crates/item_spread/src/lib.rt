@@ -1,4 +1,6 @@
 // What the types of a set pass on, united; and a set with one type more.
+#![tactic(auto)]
+
 ghost use Rattle.std.specs.Prelude.{◌≤◌, ◌<◌, length};
 ghost use Rattle.item_spread.specs.Spread.{United, WithIf};
 

@@ -1,4 +1,3 @@
 pub mod Items
 pub mod WriterLaws
-pub mod SheetItems
 pub mod Instance

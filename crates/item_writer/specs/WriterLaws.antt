@@ -19,7 +19,7 @@ use Rattle.ordering.specs.Lists.{only, below, below-same, below_one}
 use Rattle.rows.specs.Rows.{bit, has_bit}
 use Rattle.rows.specs.RowLaws.{bit-either, bit-one, bit-none, bit_is, one_shifted}
 use Rattle.law_classes.specs.Numbers.{bit-both, some-bit}
-use Rattle.law_classes.specs.SetLaws.{below_of, in-below}
+use Rattle.law_classes.proofs.SetLaws.{below_of, in-below}
 use Rattle.catalogue.specs.Layout.{key_at, head_at, parents_at, own_at, above_at, passed_at, word_at, mask_at, extension_key_at}
 use Rattle.catalogue.specs.Layout.{count_in, words_in, extensions_in, extended_in, resource_in}
 use Rattle.catalogue.specs.Catalogue.{added_in, parents_in}

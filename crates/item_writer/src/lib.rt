@@ -1,4 +1,6 @@
 // The items of a map, out of its catalogue, added to a pen: of a type and a word, of a type, of all types in name order (FORMAT 5.3).
+#![tactic(auto)]
+
 ghost use Rattle.std.specs.Prelude.{[], ◌≡◌, ◌≤◌, ◌<◌, length};
 ghost use Rattle.catalogue.specs.Layout.{parents_at, count_in, words_in};
 ghost use Rattle.item_pen.specs.Pen.{RoomForAll, AddsAll};
@@ -9,7 +11,7 @@ use item_making::Making;
 use item_pen::Pen;
 
 // A type and a word with a making, and the extension records for both.
-#[derive(Drop)]
+#[derive(Clone, Copy)]
 pub struct Site {
     pub place: usize,
     pub word: u64,

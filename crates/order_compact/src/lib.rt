@@ -1,4 +1,6 @@
 // The compact form of a map out of its draft, in a lent table.
+#![tactic(auto)]
+
 ghost use Rattle.std.specs.Prelude.{◌≡◌, ◌≤◌, ◌<◌, length};
 ghost use Rattle.sheet_draft.specs.Draft.{key_at, parent_count_at};
 ghost use Rattle.catalogue.specs.Layout.{looked};

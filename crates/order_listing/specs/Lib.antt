@@ -1,4 +1,2 @@
 pub mod Listing
 pub mod Order
-pub mod ListingLaws
-pub mod OrderLaws

@@ -1,4 +1,6 @@
 // The order-only call's listing, out of the names in the catalogue and the order.
+#![tactic(auto)]
+
 ghost use Rattle.std.specs.Prelude.{◌≡◌, ◌*◌, ◌≤◌, length};
 ghost use Rattle.definitions.specs.Packing.{name_bits};
 ghost use Rattle.catalogue.specs.Catalogue.{name_of_key};
@@ -10,7 +12,7 @@ ghost use Rattle.order_listing.specs.Order.{names_bits, order_in, Placed};
 use item_pen::Pen;
 
 // Whether the listing was too short, and the size of what the call writes (FORMAT 7.4).
-#[derive(Drop)]
+#[derive(Clone, Copy)]
 pub struct Listed {
     pub short: bool,
     pub size: usize,

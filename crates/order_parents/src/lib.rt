@@ -1,9 +1,11 @@
 // The parents of each type as a set, out of the draft: bit b is the type at place b in name order.
+#![tactic(auto)]
+
 ghost use Rattle.std.specs.Prelude.{◌&&◌, not, ◌≡◌, ◌<◌, eqb, length};
 ghost use Rattle.order_parents.specs.Parents.{KeysOf, Prepared, ParentsOf, ParentsPut};
 
 // A set of parents; and whether each name that was listed for it is that of a declared type, and not `self`.
-#[derive(Drop)]
+#[derive(Clone, Copy)]
 pub struct Found {
     pub set: u64,
     pub whole: bool,

@@ -1,5 +1,7 @@
 // Which types the rounds of the order place, as a set, whatever parents are listed: what the diagnosis of a map without an order
 // asks. A type is its place in name order.
+#![tactic(auto)]
+
 ghost use Rattle.std.specs.Prelude.{◌≡◌, not, ◌<◌};
 ghost use Rattle.lists.specs.Lists.{any, all, null};
 ghost use Rattle.ordering.specs.Reading.{Valid, listed, self_in};

@@ -184,7 +184,7 @@ module _ (t : List ℕ) (types : ℕ) (out : List ℕ) where
   passed-one r false false f h = refl
 
   flip : (a k : ℕ) → eqb a k ≡ eqb k a
-  flip a k = Rattle.lists.specs.Tests.eqb_flip a k
+  flip a k = Rattle.lists.specs.Tests.eqb-flip a k
 
   pub ready-yes : (left r k rest : ℕ) → Lowest left k → Rest left rest → is_one k ≡ true → ReadyTo left r → ReadyTo rest (more r k)
   ready-yes left r k rest l s e p = record {

@@ -1,4 +1,6 @@
 // The order of the types of a map, round by round, over the sets of their parents. A type is its place in name order.
+#![tactic(auto)]
+
 ghost use Rattle.std.specs.Prelude.{◌≡◌, ◌+◌, ◌≤◌, ◌<◌, length, take};
 ghost use Rattle.bitsets.specs.Bitsets.{members};
 ghost use Rattle.order_rounds.specs.Rounds.{all_listed_in, AllPlaced, ReadyIn, ChildAdded, Childless, ChildrenPut, Sets, Placed};
@@ -83,7 +85,7 @@ fn put_children(t: &[u64; 1544], count: usize, children: &mut [u64; 64]) -> u64
 }
 
 // How many types are placed, and the children of those that were placed last.
-#[derive(Drop)]
+#[derive(Clone, Copy)]
 struct Step {
     count: usize,
     near: u64,

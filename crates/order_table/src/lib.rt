@@ -2,6 +2,8 @@
 // types in name order. This crate alone knows where what stands in it. Each number is a name as a key, and a count or a place
 // times 65536: for a type how many parents it lists, for a listed parent the place of the type that it names, which is the number
 // of types where no type has the name. The last number has how many types there are, with the name `self`.
+#![tactic(auto)]
+
 ghost use Rattle.std.specs.Prelude.{◌≡◌, ◌+◌, ◌*◌, ◌<◌, set, replicate, get_or};
 ghost use Rattle.ordering.specs.Reading.{parent_at, how_many, self_in};
 ghost use Rattle.order_table.specs.Form.{number_of, first_of, second_of, form_of};

@@ -1,4 +1,6 @@
 // Reads the fields of a sheet (01: 'its sheet by reference'), thin over the functions of the cursor.
+#![tactic(auto)]
+
 ghost use Rattle.std.specs.Prelude.{◌≡◌, ◌*◌, ◌^◌, ◌≤◌, ◌<◌, length};
 ghost use Rattle.definitions.specs.Bits.{bits_of};
 ghost use Rattle.bits.specs.Reading.{read_at};
@@ -6,7 +8,7 @@ ghost use Rattle.bits.specs.Reading.{read_at};
 use bits::{Cursor, Read};
 
 // A sheet and a bit position in it.
-#[derive(Drop)]
+#[derive(Clone, Copy)]
 pub struct Reader<'a> {
     pub sheet: &'a [u8],
     pub at: Cursor,

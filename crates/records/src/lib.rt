@@ -1,4 +1,6 @@
 // Annotations and marks, as read.
+#![tactic(auto)]
+
 ghost use Rattle.std.specs.Prelude.{true, false, ◌&&◌, not, [], ◌∷◌, ◌++◌, ◌≡◌, ◌+◌, ◌≤◌, ◌<◌, eqb, drop};
 ghost use Rattle.definitions.specs.Bits.{bits_of};
 ghost use Rattle.definitions.specs.Parse.{repeat, counted};
@@ -14,7 +16,7 @@ use fields::{ByteRead, Fault, Field, Name, Names, NamesRead};
 // An annotation as read (01: 'a kind beside flat arrays'), the kinds numbered as in the sheet (FORMAT 2.7). An associate has
 // count words, each with its dom or 255; an Inherit has the two words of each name there; an Alias has its word, and a Derive
 // its tag, as its only word.
-#[derive(Drop)]
+#[derive(Clone, Copy)]
 pub struct Annotation {
     pub kind: usize,
     pub count: usize,
@@ -23,7 +25,7 @@ pub struct Annotation {
 }
 
 // ok: the annotation and the cursor behind it. Else a fault.
-#[derive(Drop)]
+#[derive(Clone, Copy)]
 pub struct AnnotationRead {
     pub ok: bool,
     pub fault: Fault,
@@ -32,13 +34,13 @@ pub struct AnnotationRead {
 }
 
 // The first count annotations.
-#[derive(Drop)]
+#[derive(Clone, Copy)]
 pub struct Annotations {
     pub count: usize,
     pub items: [Annotation; 12],
 }
 
-#[derive(Drop)]
+#[derive(Clone, Copy)]
 pub struct AnnotationsRead {
     pub ok: bool,
     pub fault: Fault,
@@ -47,27 +49,27 @@ pub struct AnnotationsRead {
 }
 
 // A mark (FORMAT 2.9): derive is 1 for a derive mark with its tag, 0 for makelist.
-#[derive(Drop)]
+#[derive(Clone, Copy)]
 pub struct Mark {
     pub derive: u8,
     pub tag: u8,
 }
 
-#[derive(Drop)]
+#[derive(Clone, Copy)]
 pub enum MarkRead {
     At(Mark, Cursor),
     Refused(Fault),
 }
 
 // The first count marks.
-#[derive(Drop)]
+#[derive(Clone, Copy)]
 pub struct Marks {
     pub count: usize,
     pub derives: [u8; 7],
     pub tags: [u8; 7],
 }
 
-#[derive(Drop)]
+#[derive(Clone, Copy)]
 pub struct MarksRead {
     pub ok: bool,
     pub fault: Fault,

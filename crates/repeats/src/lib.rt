@@ -1,5 +1,7 @@
 // What may not stand twice within a type, refusal 6: a word in an associate, or an annotation; two associates of one kind are
 // equal if they have the same words (FORMAT 2.12).
+#![tactic(auto)]
+
 ghost use Rattle.std.specs.Prelude.{◌&&◌, ◌||◌, ◌≡◌, eqb, get_or, drop};
 ghost use Rattle.lists.specs.Lists.{any, all, repeats, same_list};
 ghost use Rattle.definitions.specs.Checks.{same_annotation};

@@ -1,10 +1,12 @@
 // Sets of numbers below 256 as rows of bits: dom sets, and sets of words.
+#![tactic(auto)]
+
 ghost use Rattle.std.specs.Prelude.{◌≡◌, ◌<◌, ◌≤◌};
 ghost use Rattle.rows.specs.Next.{Next, NextBit};
 ghost use Rattle.rows.specs.Rows.{common, without, either, none, limb, has, single, empty};
 
 // Number k is bit k % 64 of the part k / 64.
-#[derive(Drop)]
+#[derive(Clone, Copy)]
 pub struct Row {
     pub a: u64,
     pub b: u64,

@@ -1,7 +1,7 @@
 -- What a place in the grammar stands for: the fields from there on, and how many they are at most.
 use Rattle.std.specs.Prelude.{◌≡◌, ℕ, ◌+◌, ◌*◌, ◌≤◌, ◌<◌}
 use Rattle.definitions.specs.Packing.{item_count_bits}
-use Rattle.definitions.specs.LegalSchedule.{most_names, most_items, least_parents, most_parents, most_parent_words, most_marks}
+use Rattle.definitions.specs.LegalSchedule.{most_names, most_items, least_parents, most_parents, most_marks}
 use Rattle.definitions.specs.ScheduleFields.{Fields, end, field, times, flag_fields, word_fields, pick, name_fields, parent_fields}
 use Rattle.definitions.specs.ScheduleFields.{mark_fields, marks_fields, made_fields, line_fields, item_fields, schedule_fields}
 use Rattle.schedule_fields.specs.declared.Place.{Place}

@@ -1,5 +1,7 @@
 // A place in the grammar of a schedule's fields, by value: what the field there is, and the place behind its value
 // (FORMAT 6.1 to 6.3, 12.2). Whoever reads, writes or walks a schedule goes from place to place.
+#![tactic(auto)]
+
 ghost use Rattle.std.specs.Prelude.{◌≡◌, ◌+◌, ◌-◌, ◌<◌};
 ghost use Rattle.schedule_fields.specs.Places.{fields_at, RuleOf, Comes, names_at, items_at, parents_at, words_at, marks_at};
 ghost use Rattle.schedule_fields.specs.Places.{behind_name, behind_lead, behind_made, behind_mark, behind_line, Follows};
@@ -21,7 +23,7 @@ const MOST_MARKS: usize = 448;
 const MOST_TAG: usize = 255;
 
 // A field of a schedule. Its numbers say how many names, items, parents, words or marks come behind the one that it is in: of items first.
-#[derive(Drop)]
+#[derive(Clone, Copy)]
 pub enum Place {
     Names,
     NameWord(usize),
@@ -50,7 +52,7 @@ pub enum Place {
 }
 
 // A field's width in bits, its least and its greatest value; all are 0 at the end.
-#[derive(Drop)]
+#[derive(Clone, Copy)]
 pub struct Rule {
     pub width: usize,
     pub least: usize,

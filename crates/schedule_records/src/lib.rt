@@ -1,5 +1,7 @@
 // The two calls that turn a packed schedule into records, and records into a packed schedule (FORMAT 12). Both are one loop over
 // the fields: first it looks, and where nothing is to be refused it goes again and writes.
+#![tactic(auto)]
+
 ghost use Rattle.std.specs.Prelude.{true, not, ◌≡◌, ◌+◌, ◌*◌, ◌≤◌, ◌<◌, length};
 ghost use Rattle.definitions.specs.Bits.{to_bits};
 ghost use Rattle.definitions.specs.LegalSchedule.{LegalWidth};
@@ -16,7 +18,7 @@ use schedule_fields::Place;
 const RECORD: usize = 16;
 
 // What all fields come to: how many bits they have in the other form, or the number of a refusal.
-#[derive(Drop)]
+#[derive(Clone, Copy)]
 pub struct Passed {
     pub number: usize,
     pub bits: usize,

@@ -1,7 +1,7 @@
 -- What reading one field of a schedule owes.
 use Rattle.std.specs.Prelude.{Bool, false, List, ◌≡◌, ℕ, ◌+◌, ◌*◌, ◌^◌, ◌≤◌, ◌<◌, min, length, drop}
 use Rattle.definitions.specs.Bits.{bits_of}
-use Rattle.definitions.specs.Parse.{Fault, past, Parsed, done, refused, Parser, refuse, choose, between}
+use Rattle.definitions.specs.Parse.{Fault, past, Parsed, done, Parser, refuse, choose, between}
 use Rattle.definitions.specs.Conversion.{schedule_fault}
 use Rattle.schedule_fields.specs.declared.Place.{Place}
 use Rattle.schedule_fields.specs.declared.Rule.{Rule}

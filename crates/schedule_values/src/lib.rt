@@ -1,5 +1,7 @@
 // A field of a schedule met in bytes: its value, or the number of its refusal, both ends before the value; and what stands behind
 // the last field (FORMAT 12.3). The calls between a schedule and its records read so, and so does a walk.
+#![tactic(auto)]
+
 ghost use Rattle.std.specs.Prelude.{◌≡◌, ◌+◌, ◌≤◌, ◌<◌, length, drop};
 ghost use Rattle.definitions.specs.Bits.{bits_of, num};
 ghost use Rattle.definitions.specs.Checks.{bad_fill};
@@ -23,7 +25,7 @@ pub const NOT_ALLOWED: usize = 12;
 const MOST_BYTES: usize = 268435456;
 
 // What a field comes to: its value, or the number of a refusal.
-#[derive(Drop)]
+#[derive(Clone, Copy)]
 pub struct Met {
     pub number: usize,
     pub value: usize,

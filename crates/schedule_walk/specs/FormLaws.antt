@@ -18,7 +18,7 @@ use Rattle.schedule_fields.specs.Places.{RuleOf, width_of, least_of, most_of}
 use Rattle.schedule_values.specs.declared.Met.{Met}
 use Rattle.schedule_walk.specs.declared.Step.{Step}
 use Rattle.schedule_walk.specs.declared.Entry.{Entry}
-use Rattle.schedule_walk.specs.Walking.{from, Runs, Stops, Reads, Goes, GoesItem, one, any, Many, named_values, NamedWord, listed_values, ManyParents, names_fields, name_bits, parent_bits, mark_bits, marks_bits, line_bits, made_bits, item_bits, names_bits}
+use Rattle.schedule_walk.specs.Walking.{from, Runs, Stops, Reads, Goes, GoesItem, one, Anything, Many, named_values, NamedWord, listed_values, ManyParents, names_fields, name_bits, parent_bits, mark_bits, marks_bits, line_bits, made_bits, item_bits, names_bits}
 use Rattle.schedule_walk.specs.WalkingLaws.{field-stops, field-runs, field-then-stops, none_runs, then_runs, first_stops, then-stops, runs_as}
 
 -- ---- parts
@@ -88,7 +88,7 @@ module _ {A : Type 0} (F : Fields → Fields) (values : A → List ℕ) (ok : A 
 -- ---- words, names
 
 pub word-goes : (w : ℕ) (source : List ℕ) (p : ℕ) (m : Met) → Reads 8 0 (w - 1) source p m
-    → Goes (word_fields w) one any 8 source p (record { number = m.number; at = p + 8 })
+    → Goes (word_fields w) one Anything 8 source p (record { number = m.number; at = p + 8 })
 word-goes w source p m h = record {
   stops = λ z. field-stops h (λ k v. k) z;
   runs = λ z. (m.value, tt, field-runs h (λ v k. k) z (none_runs source (p + 8)), omega arith);
@@ -107,7 +107,7 @@ pick-stops : {F : Fields → Fields} {source : List ℕ} {p number : ℕ} (v : �
 pick-stops zero z g = absurd (omega arith)
 pick-stops (suc v) z g = g
 
-module _ (w : ℕ) (source : List ℕ) (p : ℕ) (first : Step) (g : Goes (word_fields w) one any 8 source p first) where
+module _ (w : ℕ) (source : List ℕ) (p : ℕ) (first : Step) (g : Goes (word_fields w) one Anything 8 source p first) where
   pub name-first : 0 < first.number → Goes (name_fields w) name_values OneOrTwo name_bits source p first
   unfolding name_fields
   name-first z = first_goes g z
@@ -138,7 +138,7 @@ module _ (w : ℕ) (source : List ℕ) (p : ℕ) (first : Step) (g : Goes (word_
           );
         }
 
-    pub name-two : m.number ≤ 0 → 0 < m.value → (s : Step) → Goes (word_fields w) one any 8 source (first.at + 1) s → Goes (name_fields w) name_values OneOrTwo name_bits source p s
+    pub name-two : m.number ≤ 0 → 0 < m.value → (s : Step) → Goes (word_fields w) one Anything 8 source (first.at + 1) s → Goes (name_fields w) name_values OneOrTwo name_bits source p s
     unfolding name_fields name_values
     name-two y v s k =
         let x = g.runs z in
@@ -160,16 +160,16 @@ words-listed : (p : Name) → each one p ≡ p
 words-listed p = each-one (λ w. w) p ∙ map-self (λ w. w) p (λ w i. refl)
 
 pub parent-goes : (w : ℕ) (source : List ℕ) (p : ℕ) (m : Met) → Reads 2 1 most_parent_words source p m → (r : Step) → m.number ≤ 0
-    → Goes (times m.value (word_fields w)) (each one) (Many any m.value) (m.value * 8) source (p + 2) r → Goes (parent_fields w) parent_values any parent_bits source p r
+    → Goes (times m.value (word_fields w)) (each one) (Many Anything m.value) (m.value * 8) source (p + 2) r → Goes (parent_fields w) parent_values Anything parent_bits source p r
 unfolding parent_fields parent_values
 parent-goes w source p m h r z g =
-    let c = goes-as (λ (x : Name). ap (λ (l : List ℕ). length x ∷ l) (words-listed x)) (counted-goes (word_fields w) one any 2 1 most_parent_words source p m h 8 r z g) in
+    let c = goes-as (λ (x : Name). ap (λ (l : List ℕ). length x ∷ l) (words-listed x)) (counted-goes (word_fields w) one Anything 2 1 most_parent_words source p m h 8 r z g) in
     record { stops = c.stops; runs = λ l. let x = c.runs l in (x.0, tt, x.2, x.3) }
 
 pub parent-stops : (w : ℕ) (source : List ℕ) (p : ℕ) (m : Met) → Reads 2 1 most_parent_words source p m → (at : ℕ) → 0 < m.number
-    → Goes (parent_fields w) parent_values any parent_bits source p (record { number = m.number; at = at })
+    → Goes (parent_fields w) parent_values Anything parent_bits source p (record { number = m.number; at = at })
 unfolding parent_fields
-parent-stops w source p m h at z = counted-stops (word_fields w) one any 2 1 most_parent_words source p m h z
+parent-stops w source p m h at z = counted-stops (word_fields w) one Anything 2 1 most_parent_words source p m h z
 
 pub names-stops : (w : ℕ) (source : List ℕ) (m : Met) → Reads 7 0 most_names source 0 m → 0 < m.number
     → Goes (names_fields w) (counted_values name_values) (Every OneOrTwo) names_bits source 0 (record { number = m.number; at = 0 })
@@ -182,11 +182,11 @@ names-goes w source m h r z g = counted-goes (name_fields w) name_values OneOrTw
 
 module _ (source : List ℕ) (p : ℕ) (m : Met) where
   module _ (h : Reads 1 0 1 source p m) where
-    pub mark-stops : (at : ℕ) → 0 < m.number → Goes mark_fields mark_values any mark_bits source p (record { number = m.number; at = at })
+    pub mark-stops : (at : ℕ) → 0 < m.number → Goes mark_fields mark_values Anything mark_bits source p (record { number = m.number; at = at })
     unfolding mark_fields
     mark-stops at z = record { stops = λ _. field-stops h (λ k b. pick b (field 8 0 255 (λ t. k)) k) z; runs = λ l. absurd (omega arith) }
 
-    pub mark-plain : m.number ≤ 0 → m.value ≡ 0 → Goes mark_fields mark_values any mark_bits source p (record { number = 0; at = p + 1 })
+    pub mark-plain : m.number ≤ 0 → m.value ≡ 0 → Goes mark_fields mark_values Anything mark_bits source p (record { number = 0; at = p + 1 })
     unfolding mark_fields mark_values
     mark-plain z e = record {
       stops = λ l. absurd (omega arith);
@@ -199,7 +199,7 @@ module _ (source : List ℕ) (p : ℕ) (m : Met) where
     }
 
     pub mark-tag : m.number ≤ 0 → 0 < m.value → (t : Met) → Reads 8 0 255 source (p + 1) t → (n : ℕ) → n ≡ 8
-        → Goes mark_fields mark_values any mark_bits source p (record { number = t.number; at = p + 1 + n })
+        → Goes mark_fields mark_values Anything mark_bits source p (record { number = t.number; at = p + 1 + n })
     unfolding mark_fields mark_values
     mark-tag z v t k n i =
         let e : m.value ≡ 1 = omega (arith, (h.value z).1) in
@@ -216,15 +216,15 @@ module _ (source : List ℕ) (p : ℕ) (m : Met) where
         }
 
   module _ (h : Reads 9 0 most_marks source p m) where
-    pub marks-stops : (at : ℕ) → 0 < m.number → Goes marks_fields (counted_values mark_values) any marks_bits source p (record { number = m.number; at = at })
+    pub marks-stops : (at : ℕ) → 0 < m.number → Goes marks_fields (counted_values mark_values) Anything marks_bits source p (record { number = m.number; at = at })
     unfolding marks_fields
-    marks-stops at z = counted-stops mark_fields mark_values any 9 0 most_marks source p m h z
+    marks-stops at z = counted-stops mark_fields mark_values Anything 9 0 most_marks source p m h z
 
-    pub marks-goes : (r : Step) → m.number ≤ 0 → Goes (times m.value mark_fields) (each mark_values) (Many any m.value) (m.value * mark_bits) source (p + 9) r
-        → Goes marks_fields (counted_values mark_values) any marks_bits source p r
+    pub marks-goes : (r : Step) → m.number ≤ 0 → Goes (times m.value mark_fields) (each mark_values) (Many Anything m.value) (m.value * mark_bits) source (p + 9) r
+        → Goes marks_fields (counted_values mark_values) Anything marks_bits source p r
     unfolding marks_fields
     marks-goes r z g =
-        let c = counted-goes mark_fields mark_values any 9 0 most_marks source p m h mark_bits r z g in
+        let c = counted-goes mark_fields mark_values Anything 9 0 most_marks source p m h mark_bits r z g in
         record { stops = c.stops; runs = λ l. let x = c.runs l in (x.0, tt, x.2, x.3) }
 
 -- ---- items
@@ -323,7 +323,7 @@ module _ (w : ℕ) (source : List ℕ) (p : ℕ) where
             (λ _. subst (λ (n : ℕ). Stops (line_fields w) source p n) (sym e) (then-stops (g.runs z).2 (field-then-stops h (λ b. trait_form) y (field-stops k (λ k n. word_fields w k) x))))
             (omega (arith, e))
 
-        pub line-goes : (x : t.number ≤ 0) (s : Step) → Goes (word_fields w) one any 8 source (named.at + 1 + 1) s
+        pub line-goes : (x : t.number ≤ 0) (s : Step) → Goes (word_fields w) one Anything 8 source (named.at + 1 + 1) s
             → GoesItem (line_fields w) (1 ∷ []) line_bits source p (record { number = s.number; at = s.at; sort = 2; parents = 0 })
         unfolding line_fields item_values
         line-goes x s f =

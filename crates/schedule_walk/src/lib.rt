@@ -1,5 +1,7 @@
 // The items of a packed schedule gone through without records, by the grammar of its fields (FORMAT 6.1 to 6.3, 12.3). Each
 // function goes through one form of the grammar, and hands back the bit behind it or the number of the refusal.
+#![tactic(auto)]
+
 ghost use Rattle.std.specs.Prelude.{[], ◌∷◌, ◌≡◌, ◌+◌, ◌*◌, ◌≤◌, ◌<◌};
 ghost use Rattle.lists.specs.Lists.{each};
 ghost use Rattle.definitions.specs.Legal.{Every};
@@ -8,7 +10,7 @@ ghost use Rattle.definitions.specs.ScheduleFields.{times, word_fields, name_fiel
 ghost use Rattle.definitions.specs.Packing.{item_count_bits};
 ghost use Rattle.definitions.specs.Values.{name_values, parent_values, mark_values, counted_values};
 ghost use Rattle.tariff_definitions.specs.DecodedLaws.{OneOrTwo};
-ghost use Rattle.schedule_walk.specs.Walking.{Ready, Reads, Goes, GoesItem, one, any, Many, NamedWord, named_values, ManyParents, listed_values, names_fields, name_bits, parent_bits, mark_bits, marks_bits, line_bits, made_bits, item_bits, names_bits};
+ghost use Rattle.schedule_walk.specs.Walking.{Ready, Reads, Goes, GoesItem, one, Anything, Many, NamedWord, named_values, ManyParents, listed_values, names_fields, name_bits, parent_bits, mark_bits, marks_bits, line_bits, made_bits, item_bits, names_bits};
 
 use schedule_fields::{Place, Rule};
 use schedule_values::Met;
@@ -20,14 +22,14 @@ const LINE: usize = 2;
 pub const COUNT_BITS: usize = 16;
 
 // The bit behind what was gone through, or the number of a refusal.
-#[derive(Drop)]
+#[derive(Clone, Copy)]
 pub struct Step {
     pub number: usize,
     pub at: usize,
 }
 
 // An item likewise, with its sort and its number of parents.
-#[derive(Drop)]
+#[derive(Clone, Copy)]
 pub struct Entry {
     pub number: usize,
     pub at: usize,
@@ -61,7 +63,7 @@ fn flag(source: &[u8], end: usize, at: usize) -> Met
 // A word of w (FORMAT 2.5).
 fn word(source: &[u8], end: usize, w: usize, at: usize) -> Step
     requires { Ready source.now end at 8 × (0 < w) }
-    ensures { Goes (word_fields w) one any 8 source.now at result }
+    ensures { Goes (word_fields w) one Anything 8 source.now at result }
 {
     let met = field(
         source,
@@ -149,7 +151,7 @@ pub fn item_count(source: &[u8], end: usize, w: usize, at: usize) -> Met
 // So many words.
 fn each_word(source: &[u8], end: usize, w: usize, at: usize, n: usize) -> Step
     requires { Ready source.now end at (n * 8) × (0 < w) }
-    ensures { Goes (times n (word_fields w)) (each one) (Many any n) (n * 8) source.now at result }
+    ensures { Goes (times n (word_fields w)) (each one) (Many Anything n) (n * 8) source.now at result }
 {
     let mut q = at;
     let mut i = 0;
@@ -167,7 +169,7 @@ fn each_word(source: &[u8], end: usize, w: usize, at: usize, n: usize) -> Step
 // A parent: how many words, and the words (FORMAT 6.2).
 fn parent(source: &[u8], end: usize, w: usize, at: usize) -> Step
     requires { Ready source.now end at parent_bits × (0 < w) }
-    ensures { Goes (parent_fields w) parent_values any parent_bits source.now at result }
+    ensures { Goes (parent_fields w) parent_values Anything parent_bits source.now at result }
 {
     let rule = schedule_fields::rule_at(Place::ParentWords(0, 0), w);
     let count = field(source, end, at, rule);
@@ -183,7 +185,7 @@ fn parent(source: &[u8], end: usize, w: usize, at: usize) -> Step
 // So many parents.
 fn each_parent(source: &[u8], end: usize, w: usize, at: usize, n: usize) -> Step
     requires { Ready source.now end at (n * parent_bits) × (0 < w) }
-    ensures { Goes (times n (parent_fields w)) (each parent_values) (Many any n) (n * parent_bits) source.now at result }
+    ensures { Goes (times n (parent_fields w)) (each parent_values) (Many Anything n) (n * parent_bits) source.now at result }
 {
     let mut q = at;
     let mut i = 0;
@@ -201,7 +203,7 @@ fn each_parent(source: &[u8], end: usize, w: usize, at: usize, n: usize) -> Step
 // A mark (FORMAT 2.9).
 fn mark(source: &[u8], end: usize, at: usize) -> Step
     requires { Ready source.now end at mark_bits }
-    ensures { Goes mark_fields mark_values any mark_bits source.now at result }
+    ensures { Goes mark_fields mark_values Anything mark_bits source.now at result }
 {
     let derive = flag(source, end, at);
     if derive.number != 0 {
@@ -227,7 +229,7 @@ fn mark(source: &[u8], end: usize, at: usize) -> Step
 // So many marks.
 fn each_mark(source: &[u8], end: usize, at: usize, n: usize) -> Step
     requires { Ready source.now end at (n * mark_bits) }
-    ensures { Goes (times n mark_fields) (each mark_values) (Many any n) (n * mark_bits) source.now at result }
+    ensures { Goes (times n mark_fields) (each mark_values) (Many Anything n) (n * mark_bits) source.now at result }
 {
     let mut q = at;
     let mut i = 0;
@@ -245,7 +247,7 @@ fn each_mark(source: &[u8], end: usize, at: usize, n: usize) -> Step
 // The marks of a resource, their number first (FORMAT 6.2).
 fn marks(source: &[u8], end: usize, at: usize) -> Step
     requires { Ready source.now end at marks_bits }
-    ensures { Goes marks_fields (counted_values mark_values) any marks_bits source.now at result }
+    ensures { Goes marks_fields (counted_values mark_values) Anything marks_bits source.now at result }
 {
     let rule = schedule_fields::rule_at(Place::Marks(0), 1);
     let count = field(source, end, at, rule);

@@ -1,4 +1,6 @@
 // The ends of a sheet: its version, and the fill behind its lists.
+#![tactic(auto)]
+
 ghost use Rattle.std.specs.Prelude.{◌≡◌, ◌≤◌, length, drop};
 ghost use Rattle.definitions.specs.Bits.{bits_of};
 ghost use Rattle.definitions.specs.Checks.{bad_fill};
@@ -9,7 +11,7 @@ use bits::{Cursor, Read};
 use fields::Fault;
 
 // ok: the version is right, and the cursor is behind it. Else a fault.
-#[derive(Drop)]
+#[derive(Clone, Copy)]
 pub struct Opening {
     pub ok: bool,
     pub fault: Fault,

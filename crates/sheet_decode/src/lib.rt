@@ -1,4 +1,6 @@
 // The decoder: tests 3 to 7 of a sheet, its types put into a draft and its extension records into the catalogue.
+#![tactic(auto)]
+
 ghost use Rattle.std.specs.Prelude.{false, ◌≡◌, ◌≤◌, length, drop};
 ghost use Rattle.definitions.specs.Bits.{bits_of};
 ghost use Rattle.definitions.specs.Reading.{sheet};
@@ -12,7 +14,7 @@ use sheet_repeats::Sizes;
 use sheet_words::WordsRead;
 
 // ok: how many words, types and extension records there are, the place behind the last field, and what the words tell. Else a fault.
-#[derive(Drop)]
+#[derive(Clone, Copy)]
 pub struct Lists {
     pub ok: bool,
     pub fault: Fault,
@@ -26,7 +28,7 @@ pub struct Lists {
 }
 
 // ok: how many words, types and extension records there are, and the numbers of `resource` and `self`. Else a refusal.
-#[derive(Drop)]
+#[derive(Clone, Copy)]
 pub struct Decoding {
     pub ok: bool,
     pub refusal: usize,

@@ -1,5 +1,7 @@
 // The draft of a map: one lent table of numbers, a row for each type in the order of the sheet. This crate alone knows where what
 // stands in it. Annotations and marks stay in the sheet; the draft has where they begin.
+#![tactic(auto)]
+
 ghost use Rattle.std.specs.Prelude.{◌≡◌, ◌+◌, ◌*◌, ◌%◌, ◌≤◌, ◌<◌, set, replicate};
 ghost use Rattle.sheet_draft.specs.Draft.{key_at, head_at, place_at, parent_count_at, parent_at};
 

@@ -1,7 +1,7 @@
 -- Laws of the extension records in a catalogue.
-use Rattle.std.specs.Prelude.{Bool, true, false, cond, List, [], ◌∷◌, ◌++◌, ◌≡◌, refl, ℕ, ◌+◌, ◌*◌, ◌/◌, ◌%◌, ◌≤◌, ◌<◌, eqb, length, drop, get_or, set}
+use Rattle.std.specs.Prelude.{Bool, List, [], ◌∷◌, ◌++◌, ◌≡◌, refl, ℕ, ◌+◌, ◌*◌, ◌/◌, ◌%◌, ◌≤◌, ◌<◌, eqb, length, drop, get_or, set}
 use Rattle.std.proofs.Math.Path.{sym, ap}
-use Rattle.std.proofs.Common.{ap₂, ◌∙◌, eqb-true, length-set}
+use Rattle.std.proofs.Common.{◌∙◌, eqb-true, length-set}
 use native.Mathlib.Omega.{arith}
 use Rattle.std.proofs.lemmas.Bool.{eqb-false}
 use Rattle.std.proofs.Math.Seq
@@ -12,9 +12,8 @@ use Rattle.definitions.specs.Parse.{Parsed, done, refused, next, pure, counted}
 use Rattle.definitions.specs.Reading.{word_field, word_if_flag, name, extension}
 use Rattle.fields.specs.FieldLaws.{word_lt}
 use Rattle.sheet_keys.specs.Keys.{name_of_key, names_from, Kept}
-use Rattle.sheet_notes.specs.declared.Skip.{Skip}
 use Rattle.catalogue.specs.Layout.{extension_key_at, extension_count_at}
-use Rattle.sheet_extensions.specs.Records.{record_in, records_in, record_set, FewParents, KeptRecords, of_record_read}
+use Rattle.sheet_extensions.specs.Records.{record_in, records_in, record_set, FewParents, KeptRecords}
 
 -- ---- keys
 

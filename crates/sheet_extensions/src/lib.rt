@@ -1,4 +1,6 @@
 // The extension records of a sheet, read straight into the catalogue.
+#![tactic(auto)]
+
 ghost use Rattle.std.specs.Prelude.{◌≡◌, ◌+◌, ◌*◌, ◌≤◌, ◌<◌, length, drop};
 ghost use Rattle.definitions.specs.Bits.{bits_of};
 ghost use Rattle.definitions.specs.Parse.{repeat, counted};
@@ -13,7 +15,7 @@ use sheet_keys::{KeyRead, Span};
 use sheet_notes::Skip;
 
 // ok: count records stand in the catalogue, and `at` is the place behind them in the sheet. Else a fault.
-#[derive(Drop)]
+#[derive(Clone, Copy)]
 pub struct ExtensionsRead {
     pub ok: bool,
     pub fault: Fault,

@@ -1,13 +1,12 @@
 -- Laws of keys and of tables of keys.
 use Rattle.std.specs.Prelude.{Bool, true, false, cond, List, [], ◌∷◌, ◌++◌, ◌≡◌, ℕ, ◌+◌, ◌*◌, ◌-◌, ◌/◌, ◌%◌, ◌≤◌, ◌<◌, eqb, length, drop, get_or, set}
 use Rattle.std.proofs.Math.Path.{refl, sym}
-use Rattle.std.proofs.Common.{ap, ap₂, ◌∙◌, length-set}
+use Rattle.std.proofs.Common.{ap, ◌∙◌, length-set}
 use native.Mathlib.Omega.{arith}
-use borrow.Author.Tests.{eq-eqb, ne_eqb, eqb-true, eqb-false, lt-ltb, le-ltb}
+use borrow.Author.Tests.{ne_eqb, eqb-true, eqb-false, lt-ltb, le-ltb}
 use Rattle.std.proofs.Math.Seq
-use Rattle.lists.specs.Tests.{by}
 use Rattle.lists.specs.Tabulating.{tabulate, tabulate-set, tabulate-same}
-use Rattle.definitions.specs.Bits.{num, bits_of}
+use Rattle.definitions.specs.Bits.{num}
 use Rattle.definitions.specs.Parse.{done, refused, allowed, not_allowed}
 use Rattle.definitions.specs.Reading.{word_field, word_if_flag, name}
 use Rattle.bits.specs.NumberLaws.{num-lt}

@@ -1,4 +1,6 @@
 // Names as keys, read straight into a lent table.
+#![tactic(auto)]
+
 ghost use Rattle.std.specs.Prelude.{◌≡◌, ◌+◌, ◌/◌, ◌≤◌, ◌<◌, length, drop};
 ghost use Rattle.definitions.specs.Bits.{bits_of};
 ghost use Rattle.definitions.specs.Parse.{repeat};
@@ -11,14 +13,14 @@ use bits::Cursor;
 use fields::{Fault, Name, NameRead};
 
 // The first word times 256, and one more than the second word, or 0 where there is none: keys ascend as names do.
-#[derive(Drop)]
+#[derive(Clone, Copy)]
 pub enum KeyRead {
     At(u64, Cursor),
     Refused(Fault),
 }
 
 // ok: count entries stand in the table, and `at` is the place behind them in the sheet. Else a fault.
-#[derive(Drop)]
+#[derive(Clone, Copy)]
 pub struct Span {
     pub ok: bool,
     pub fault: Fault,

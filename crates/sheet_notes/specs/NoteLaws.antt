@@ -11,7 +11,7 @@ use Rattle.definitions.specs.Bits.{num}
 use Rattle.definitions.specs.Parse as parse
 use Rattle.definitions.specs.Parse.{allowed, Parsed, done, refused, Parser, next, pure, refuse, choose, field, between, repeat_onto, repeat, counted, not_allowed}
 use Rattle.definitions.specs.Reading.{word_field, annotation, mark}
-use Rattle.definitions.specs.Records.{Annotation, Mark}
+use Rattle.definitions.specs.Records.{Annotation}
 use Rattle.records.specs.Annotations.{annotation_as, row_of_word, row_of_tag, rows_for}
 use Rattle.records.specs.AnnotationLaws.{annotation-rows}
 use Rattle.sheet_window.specs.WindowLaws.{field_in, split}

@@ -1,5 +1,5 @@
 -- What stands behind a type's parents, and what stepping over it gives.
-use Rattle.std.specs.Prelude.{Bool, ◌&&◌, not, List, [], ℕ, zero, suc, eqb, drop}
+use Rattle.std.specs.Prelude.{Bool, ◌&&◌, not, List, ℕ, zero, suc, eqb, drop}
 use Rattle.definitions.specs.Parse.{Parsed, done, refused, Parser, next, ◌>>=◌, pure, counted}
 use Rattle.definitions.specs.Reading.{annotation, mark}
 use Rattle.definitions.specs.Records.{Annotation, Mark}

@@ -1,4 +1,6 @@
 // Steps over what stands behind a type's parents: tested field by field, and nothing kept.
+#![tactic(auto)]
+
 ghost use Rattle.std.specs.Prelude.{◌≡◌, ◌≤◌, drop};
 ghost use Rattle.definitions.specs.Bits.{bits_of};
 ghost use Rattle.definitions.specs.Parse.{counted};
@@ -13,7 +15,7 @@ use records::MarkRead;
 use sheet_keys::KeyRead;
 
 // The cursor behind what was read, or a fault.
-#[derive(Drop)]
+#[derive(Clone, Copy)]
 pub enum Skip {
     At(Cursor),
     Refused(Fault),

@@ -1,4 +1,6 @@
 // Up to 25 bits at any place of a sheet; past its end they are 0. For what the decoder has tested already.
+#![tactic(auto)]
+
 ghost use Rattle.std.specs.Prelude.{◌≡◌, ◌+◌, ◌/◌, ◌≤◌, ◌<◌, drop, get_or};
 ghost use Rattle.definitions.specs.Bits.{bits_of, num};
 

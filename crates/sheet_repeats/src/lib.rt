@@ -1,4 +1,6 @@
 // Refusal 6: what stands twice among the names of the types, the keys of the extension records, and within a type (FORMAT 2.12).
+#![tactic(auto)]
+
 ghost use Rattle.std.specs.Prelude.{not, ◌≡◌, ◌+◌, ◌≤◌, ◌<◌, eqb, length, take, drop};
 ghost use Rattle.lists.specs.Lists.{any, repeats, ascends};
 ghost use Rattle.definitions.specs.Bits.{bits_of};
@@ -10,7 +12,7 @@ ghost use Rattle.sheet_types.specs.Rows.{NotesRead};
 ghost use Rattle.sheet_repeats.specs.Twice.{keys_in, Few, twice_in};
 
 // How many words, types and extension records there are.
-#[derive(Drop)]
+#[derive(Clone, Copy)]
 pub struct Sizes {
     pub words: usize,
     pub types: usize,

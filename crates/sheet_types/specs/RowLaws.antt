@@ -18,7 +18,7 @@ use Rattle.sheet_keys.specs.Keys.{name_of_key, names_from, Kept}
 use Rattle.sheet_notes.specs.declared.Skip.{Skip}
 use Rattle.sheet_notes.specs.Notes.{Notes, notes, forget, of_skip}
 use Rattle.sheet_draft.specs.Draft.{key_at, head_at, place_at, notes_of, notes_at, type_in, types_in}
-use Rattle.sheet_types.specs.Rows.{Top, top, top_of, type_of, row_set, is_done, NotesDone, DoneHere, NotesRead, of_type_read, KeptRows}
+use Rattle.sheet_types.specs.Rows.{top, top_of, type_of, row_set, NotesDone, DoneHere, NotesRead, of_type_read, KeptRows}
 use Rattle.sheet_types.specs.TopLaws.{type-parts}
 
 -- ---- one type

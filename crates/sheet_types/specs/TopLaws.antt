@@ -1,24 +1,22 @@
 -- Laws of the parts of a type.
-use Rattle.std.specs.Prelude.{Bool, true, false, ◌&&◌, List, [], ◌∷◌, ◌≡◌, ℕ, zero, suc, ◌+◌, ◌*◌, ◌/◌, ◌%◌, ◌^◌, ◌≤◌, ◌<◌, eqb, leb, length, drop, get_or}
+use Rattle.std.specs.Prelude.{Bool, true, false, List, ◌≡◌, ℕ, ◌+◌, ◌*◌, ◌/◌, ◌%◌, ◌≤◌, ◌<◌, eqb, leb, length, drop}
 use Rattle.std.proofs.Math.Path.{refl}
 use Rattle.std.proofs.Common.{sym, ap, ◌∙◌}
 use Rattle.std.proofs.Math.Decide.{dec_le}
 use native.Mathlib.Omega.{arith}
-use borrow.Author.Tests.{le-leb, lt-leb, leb-true, leb-false, eq-eqb, ne_eqb}
-use Rattle.std.proofs.Math.Seq
+use borrow.Author.Tests.{le-leb, lt-leb, leb-true, leb-false}
 use Rattle.definitions.specs.Bits.{num}
-use Rattle.definitions.specs.Parse.{Parsed, done, refused, Parser, next, ◌>>=◌, pure, refuse, choose, field, allowed, between, flag, repeat, counted, past, not_allowed}
+use Rattle.definitions.specs.Parse.{Parsed, done, refused, Parser, next, ◌>>=◌, pure, field, allowed, between, flag, repeat, counted, past, not_allowed}
 use Rattle.definitions.specs.Reading.{name, variant, annotation, mark, type_info}
 use Rattle.definitions.specs.Records as records
 use Rattle.bits.specs.declared.Cursor.{Cursor}
 use Rattle.bits.specs.declared.Read.TheVariants.{Value, Past}
-use Rattle.bits.specs.Reading.{read_at, pick_read, of_read}
-use Rattle.bits.specs.ReadLaws.{field-read}
-use Rattle.bits.specs.NumberLaws.{num-split, num-lt}
+use Rattle.bits.specs.Reading.{read_at, pick_read}
+use Rattle.bits.specs.NumberLaws.{num-lt}
 use Rattle.sheet_draft.specs.Draft.{variant_of}
 use Rattle.sheet_types.specs.Variants.{variant-number}
 use Rattle.sheet_window.specs.WindowLaws.{field_in, field_past, split}
-use Rattle.sheet_notes.specs.Notes.{Notes, notes}
+use Rattle.sheet_notes.specs.Notes.{notes}
 use Rattle.sheet_types.specs.Rows.{Top, top, top_of, type_of}
 
 -- ---- 8 bits at once

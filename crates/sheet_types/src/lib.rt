@@ -1,4 +1,6 @@
 // The types of a sheet, read straight into the draft.
+#![tactic(auto)]
+
 ghost use Rattle.std.specs.Prelude.{◌≡◌, ◌+◌, ◌*◌, ◌/◌, ◌%◌, ◌≤◌, ◌<◌, length, drop, set};
 ghost use Rattle.definitions.specs.Bits.{bits_of};
 ghost use Rattle.definitions.specs.Parse.{repeat, counted};
@@ -12,7 +14,7 @@ use sheet_keys::KeyRead;
 use sheet_notes::Skip;
 
 // ok: count types stand in the draft, and `at` is the place behind them in the sheet. Else a fault.
-#[derive(Drop)]
+#[derive(Clone, Copy)]
 pub struct TypesRead {
     pub ok: bool,
     pub fault: Fault,

@@ -1,29 +1,25 @@
 -- Laws of the quick tests.
-use Rattle.std.specs.Prelude.{Bool, true, false, ◌&&◌, ◌||◌, not, cond, ℕ, zero, suc, ◌+◌, ◌*◌, ◌/◌, ◌%◌, ◌≤◌, ◌<◌, eqb, length, drop, get_or}
+use Rattle.std.specs.Prelude.{Bool, true, false, ◌&&◌, ◌||◌, not, ℕ, zero, suc, ◌+◌, ◌*◌, ◌/◌, ◌%◌, ◌≤◌, ◌<◌, eqb, length, drop, get_or}
 use mathlib.Core.List.{List, [], ◌∷◌, map}
 use Rattle.std.proofs.Math.Path.{◌≡◌, refl, sym}
-use Rattle.std.proofs.Common.{ap, ap₂, ◌∙◌, subst, arith}
+use Rattle.std.proofs.Common.{ap, ◌∙◌, arith}
 use borrow.Author.Tests.{le-leb}
 use Rattle.std.proofs.Math.Dec.{leb}
-use Rattle.lists.specs.Lists.{any, repeats}
+use Rattle.lists.specs.Lists.{repeats}
 use Rattle.lists.specs.Tests.{never}
 use Rattle.lists.specs.Tabulating.{tabulate, tabulate-same, length-tabulate, get_d_tabulate, map-tabulate}
 use Rattle.lists.specs.Appending.{repeats-map}
 use Rattle.definitions.specs.Bits.{num}
-use Rattle.definitions.specs.Checks.{resources_of, same_annotation}
-use Rattle.definitions.specs.Parse.{Parsed, done, refused, Parser, next, ◌>>=◌, pure, refuse, choose, field, allowed, between, repeat_onto, repeat, counted, not_allowed}
+use Rattle.definitions.specs.Parse.{Parsed, done, refused, next, ◌>>=◌, pure, refuse, choose, allowed, repeat_onto, repeat, counted, not_allowed}
 use Rattle.definitions.specs.Reading.{name, annotation}
-use Rattle.definitions.specs.Records.{Resource, Annotation, AnnotationOf}
+use Rattle.definitions.specs.Records.{Resource, Annotation}
 use Rattle.bits.specs.NumberLaws.{num-lt}
-use Rattle.fields.specs.ParseLaws.{repeat-length, repeat-none}
+use Rattle.fields.specs.ParseLaws.{repeat-length}
 use Rattle.records.specs.Annotations.{resource_of, annotation_as, rows_for}
 use Rattle.records.specs.AnnotationLaws.{annotation-rows}
 use Rattle.repeats.specs.Repeats.{same_word, repeats_word, repeats_in}
 use Rattle.sheet_window.specs.WindowLaws.{field_in, split}
 use Rattle.sheet_keys.specs.Keys.{name_of_key, names_from}
-use Rattle.sheet_notes.specs.Notes.{notes}
-use Rattle.sheet_draft.specs.Draft.{notes_of}
-use Rattle.sheet_types.specs.Rows.{is_done}
 use Rattle.sheet_within.specs.Within.{words_in, PlainNames, PlainNotes, PlainEach}
 use Rattle.sheet_within.specs.WithinLaws.{annotations-read, none-repeated}
 

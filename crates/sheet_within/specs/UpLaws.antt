@@ -1,26 +1,26 @@
 -- Laws of associates whose words ascend.
-use Rattle.std.specs.Prelude.{Bool, true, false, ◌&&◌, ◌||◌, not, cond, ◌≡◌, ℕ, zero, suc, ◌+◌, ◌*◌, ◌-◌, ◌/◌, ◌%◌, ◌≤◌, ◌<◌, eqb, ltb, leb, length, drop, get_or}
+use Rattle.std.specs.Prelude.{Bool, true, false, ◌&&◌, ◌≡◌, ℕ, ◌+◌, ◌*◌, ◌/◌, ◌%◌, ◌≤◌, ◌<◌, eqb, ltb, length, drop}
 use mathlib.Core.List.Memᴰ
 use mathlib.Core.List.{List, [], ◌∷◌, ◌++◌, map, map-append}
-use Rattle.std.proofs.Common.{⊎_elim, sym, ap, ap₂, ◌∙◌, subst, arith}
+use Rattle.std.proofs.Common.{⊎_elim, sym, ap, ◌∙◌, subst, arith}
 use Rattle.std.proofs.Math.Path.{refl}
 use borrow.Author.Tests.{le-leb, ne_eqb, eqb-true}
 use Rattle.lists.specs.Lists.{In, any, all, repeats, same_list, set_of}
-use Rattle.lists.specs.Tests.{never, not_so, and_left, and_right, or-false-left, or-false-right, or-false-both, cons-elim, any_none, any_of, all_in}
+use Rattle.lists.specs.Tests.{never, not_so, and_right, or-false-left, or-false-right, or-false-both, cons-elim, any_of, all_in}
 use Rattle.definitions.specs.Bits.{num}
-use Rattle.definitions.specs.Checks.{resources_of, kind_of, content_of, same_annotation}
-use Rattle.definitions.specs.Parse.{Parsed, done, refused, next, ◌>>=◌, pure, refuse, choose, allowed, between, repeat_onto, repeat, counted}
+use Rattle.definitions.specs.Checks.{same_annotation}
+use Rattle.definitions.specs.Parse.{done, allowed, repeat, counted}
 use Rattle.definitions.specs.Reading.{name, annotation}
-use Rattle.definitions.specs.Records.{Resource, Annotation, AnnotationOf, make_list, associate, nest_associate, alias, inherit, derive, no_derive}
+use Rattle.definitions.specs.Records.{Resource, Annotation, make_list, associate, nest_associate, alias, inherit, derive, no_derive}
 use Rattle.bits.specs.NumberLaws.{num-lt}
-use Rattle.fields.specs.ParseLaws.{repeat-none, repeat-done, repeat-length}
+use Rattle.fields.specs.ParseLaws.{repeat-length}
 use Rattle.records.specs.Annotations.{resource_of, annotation_as, rows_for}
 use Rattle.records.specs.AnnotationLaws.{annotation-rows}
 use Rattle.repeats.specs.Repeats.{same_word, repeats_word, repeats_in}
 use Rattle.repeats.specs.RepeatLaws.{same-sets}
 use Rattle.sheet_window.specs.WindowLaws.{field_in, split}
 use Rattle.sheet_keys.specs.Keys.{name_of_key}
-use Rattle.sheet_within.specs.Within.{UpNames, NamesUp, Low, UpAssociate, NextUp, PlainEach}
+use Rattle.sheet_within.specs.Within.{NamesUp, Low, UpAssociate, NextUp, PlainEach}
 use Rattle.sheet_within.specs.declared.Up.{Up}
 
 -- ---- lists with one element more

@@ -1,4 +1,6 @@
 // What may not stand twice within a type, refusal 6, tested at the place where its annotations stand (FORMAT 2.12).
+#![tactic(auto)]
+
 ghost use Rattle.std.specs.Prelude.{true, false, ◌≡◌, ◌+◌, ◌/◌, ◌≤◌, ◌<◌, length, drop, eqb};
 ghost use Rattle.definitions.specs.Bits.{bits_of};
 ghost use Rattle.bits.specs.Reading.{Addressable};
@@ -75,7 +77,7 @@ fn is_plain_list(s: &[u8], at: usize, limit: usize, n: usize) -> bool
 }
 
 // ok: the place behind what was read, and one more than the greatest first word in it.
-#[derive(Drop)]
+#[derive(Clone, Copy)]
 pub struct Up {
     pub ok: bool,
     pub top: usize,

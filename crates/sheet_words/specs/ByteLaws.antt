@@ -1,9 +1,9 @@
 -- Laws of bytes in a list of bits, and of the parser of a word.
-use Rattle.std.specs.Prelude.{Bool, true, false, ◌&&◌, ◌||◌, cond, ◌≡◌, leb, get_or, drop}
+use Rattle.std.specs.Prelude.{Bool, true, ◌&&◌, cond, ◌≡◌, leb, get_or, drop}
 use mathlib.Core.List.{List, [], ◌∷◌, ◌++◌, append_assoc, append-nil}
 use Rattle.std.proofs.Math.Path.{refl, sym}
-use Rattle.std.proofs.Common.{ap, ap₂, ◌∙◌, sub-one}
-use Prim.Native.Nat.{ℕ, zero, suc, ◌+◌, ◌*◌, ◌-◌, ◌/◌, ◌^◌, ◌≤◌, ◌<◌}
+use Rattle.std.proofs.Common.{ap, ◌∙◌, sub-one}
+use Prim.Native.Nat.{ℕ, zero, suc, ◌+◌, ◌*◌, ◌-◌, ◌/◌, ◌≤◌, ◌<◌}
 use native.Mathlib.Nat.{zero-add, suc-add, sub-zero, suc-sub-suc, mod-eq_of_lt}
 use native.Mathlib.Omega.{arith}
 use borrow.Author.Tests.{le-leb, leb-true, leb-false, eqb-true}
@@ -11,11 +11,10 @@ use Rattle.std.proofs.Math.ListN.{length, length-drop}
 use Rattle.std.proofs.Math.Seq
 use Rattle.lists.specs.Lists.{all}
 use Rattle.lists.specs.Tests.{by, or_elim, and_left, and_right}
-use Rattle.lists.specs.Appending.{all_append}
 use Rattle.definitions.specs.Bits.{num, to_bits, pack_to}
-use Rattle.definitions.specs.Parse.{done, refused, field, allowed, between, repeat_onto, repeat, counted, past, not_allowed}
+use Rattle.definitions.specs.Parse.{done, refused, allowed, repeat_onto, repeat, counted, past, not_allowed}
 use Rattle.definitions.specs.Reading.{is_word_byte, word}
-use Rattle.bits.specs.NumberLaws.{pad, pad-add, num-lt, num-take, to_bits-num, num-to_bits, num-prefix, length-to_bits}
+use Rattle.bits.specs.NumberLaws.{pad, pad-add, num-lt, to_bits-num, num-to_bits, length-to_bits}
 use Rattle.fields.specs.ParseLaws.{repeat-done, repeat-refused}
 use Rattle.sheet_window.specs.WindowLaws.{field_in, field_past}
 

@@ -1,6 +1,6 @@
 -- The first bytes of a word as one number: words compared by them.
-use Rattle.std.specs.Prelude.{Bool, true, false, ◌&&◌, ◌||◌, List, [], ◌∷◌, ◌⊎◌, ◌≡◌, refl, ℕ, zero, suc, ◌+◌, ◌*◌, ◌-◌, ◌^◌, ◌≤◌, ◌<◌, eqb, ltb, length, drop}
-use Rattle.std.proofs.Common.{inl, inr, ⊎_elim, sym, ap, ap₂, ◌∙◌, add-mul, mul_assoc, zero-mul, zero-add, arith, eq-eqb, ne_eqb, eqb-true, lt-ltb, le-ltb, ltb-true, ltb-false}
+use Rattle.std.specs.Prelude.{Bool, true, false, ◌&&◌, List, [], ◌∷◌, ◌⊎◌, ◌≡◌, refl, ℕ, zero, suc, ◌+◌, ◌*◌, ◌-◌, ◌^◌, ◌≤◌, ◌<◌, eqb, ltb, length, drop}
+use Rattle.std.proofs.Common.{inl, inr, ⊎_elim, sym, ap, ap₂, ◌∙◌, add-mul, mul_assoc, zero-mul, arith, eq-eqb, ne_eqb, eqb-true, lt-ltb, le-ltb, ltb-true, ltb-false}
 use Rattle.std.proofs.lemmas.Bool.{eqb-false}
 use Rattle.std.proofs.Math.Arith.{digits_lt}
 use Rattle.std.proofs.Math.Pow
@@ -8,7 +8,7 @@ use Rattle.lists.specs.Lists.{all, same_list, list_before}
 use Rattle.lists.specs.Tests.{by, and_left, and_right}
 use Rattle.definitions.specs.Bits.{num, pack_to}
 use Rattle.definitions.specs.Reading.{is_word_byte}
-use Rattle.bits.specs.NumberLaws.{num-split, num-nil}
+use Rattle.bits.specs.NumberLaws.{num-split}
 use Rattle.sheet_words.specs.Words.{head_of}
 use Rattle.sheet_words.specs.ByteLaws.{letter-small}
 

@@ -1,10 +1,9 @@
 -- Six bytes tested at once: laws of numbers by their bytes.
 use Rattle.std.specs.Prelude.{Bool, false, ◌&&◌, cond, List, [], ◌∷◌, ◌++◌, ◌≡◌, ltb, length, drop, replicate}
 use Rattle.std.proofs.Math.Bool.{true}
-use Rattle.std.proofs.Common.{append-nil, ◌∙◌, add-mul, add_assoc, mod-eq_of_lt, mod-lt, zero-mul, zero-add, arith, length-append}
+use Rattle.std.proofs.Common.{append-nil, ◌∙◌, add-mul, mod-eq_of_lt, zero-mul, zero-add, arith, length-append}
 use Rattle.std.proofs.Math.Path.{refl, sym, ap, ap₂}
-use Prim.Native.Nat.{ℕ, zero, suc, ◌+◌, ◌*◌, ◌-◌, ◌/◌, ◌%◌, ◌^◌, ◌≤◌, ◌<◌}
-use Rattle.std.proofs.Math.Nat.{add_left_comm}
+use Prim.Native.Nat.{ℕ, zero, suc, ◌+◌, ◌*◌, ◌-◌, ◌/◌, ◌^◌, ◌≤◌, ◌<◌}
 use borrow.Author.Tests.{eq-eqb, ne_eqb, eqb-true, eqb-false, lt-ltb, ltb-true, ltb-false}
 use Rattle.std.proofs.Math.Arith.{digits_lt}
 use Rattle.std.specs.Int.Bits.{bit_and, bit_or, bit_xor, and_block}
@@ -12,12 +11,11 @@ use Rattle.std.proofs.lemmas.Nat.{or_block, xor_block, or_lt, xor_lt}
 use Rattle.std.proofs.Math.Dec.{eqb}
 use Rattle.std.proofs.lemmas.List.{length-replicate}
 use Rattle.std.proofs.Math.Pow
-use Rattle.std.proofs.Math.Seq
 use Rattle.lists.specs.Lists.{all}
-use Rattle.lists.specs.Tests.{by, never, and_left, and_right}
+use Rattle.lists.specs.Tests.{by, and_left, and_right}
 use Rattle.definitions.specs.Bits.{num, to_bits, pack_to}
 use Rattle.definitions.specs.Reading.{is_word_byte}
-use Rattle.bits.specs.NumberLaws.{num-lt, num-split, num-to_bits, num-prefix, length-pack_to, length-to_bits}
+use Rattle.bits.specs.NumberLaws.{num-lt, num-split, num-to_bits, length-pack_to}
 use Rattle.sheet_words.specs.Words.{spelt, six, marks}
 use Rattle.sheet_words.specs.ByteLaws.{letter-small}
 

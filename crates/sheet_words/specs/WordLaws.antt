@@ -1,5 +1,5 @@
 -- Laws of one word: its bytes tested, its head, two words compared.
-use Rattle.std.specs.Prelude.{Bool, true, false, ◌&&◌, ◌||◌, cond, List, [], ◌∷◌, ◌++◌, ◌≡◌, ℕ, zero, suc, ◌+◌, ◌*◌, ◌-◌, ◌/◌, ◌%◌, ◌^◌, ◌≤◌, ◌<◌, eqb, ltb, length, drop}
+use Rattle.std.specs.Prelude.{Bool, true, false, ◌&&◌, ◌||◌, cond, List, [], ◌∷◌, ◌≡◌, ℕ, ◌+◌, ◌*◌, ◌-◌, ◌/◌, ◌%◌, ◌^◌, ◌≤◌, ◌<◌, eqb, ltb, length, drop}
 use Rattle.std.proofs.Math.Bool.{and-false}
 use Rattle.std.proofs.Math.Path.{refl}
 use Rattle.std.proofs.Common.{sym, ap, ap₂, ◌∙◌, arith, eq-eqb, ne_eqb, length-drop}
@@ -11,7 +11,7 @@ use Rattle.lists.specs.Places.{drop-end, before-step, before-right, before-left}
 use Rattle.definitions.specs.Bits.{num, pack_to}
 use Rattle.definitions.specs.Checks.{resource_bytes, self_bytes}
 use Rattle.definitions.specs.Comparisons.{bytes_before}
-use Rattle.definitions.specs.Parse.{done, refused, allowed, repeat, counted, past, not_allowed}
+use Rattle.definitions.specs.Parse.{done, refused, allowed, repeat, past, not_allowed}
 use Rattle.definitions.specs.Reading.{is_word_byte, word}
 use Rattle.fields.specs.declared.Fault.{Fault}
 use Rattle.fields.specs.Fields.{fault_of}
@@ -20,7 +20,7 @@ use Rattle.sheet_window.specs.WindowLaws.{split}
 use Rattle.fields.specs.FieldLaws.{counted-in}
 use Rattle.sheet_words.specs.Words.{spelt, head_of, bytes_of, Held, Tells, Spelled, Begun, Named, refused_word}
 use Rattle.sheet_words.specs.ByteLaws.{bytes-split, bytes_drop, byte-is, bytes-num, bytes-in, bytes_past, word_some}
-use Rattle.sheet_words.specs.HeadLaws.{good-drop, head-less, head_more, head-same, same-split, same-short, head-none, head_few}
+use Rattle.sheet_words.specs.HeadLaws.{good-drop, head-less, head_more, head-same, same-split, same-short, head_few}
 use Rattle.sheet_words.specs.declared.Spelt.{Spelt}
 use Rattle.sheet_words.specs.declared.Found.{Found}
 

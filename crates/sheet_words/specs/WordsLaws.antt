@@ -1,12 +1,12 @@
 -- Laws of what is found word by word.
 use mathlib.Core.Bool.{Bool, true, false, ◌&&◌, ◌||◌, not, cond, or-false}
-use Rattle.std.specs.Prelude.{List, [], ◌∷◌, ◌++◌, ◌≡◌, refl, ℕ, zero, suc, ◌+◌, ◌*◌, ◌-◌, ◌/◌, ◌%◌, ◌^◌, ◌≤◌, ◌<◌, leb, length, drop}
-use Rattle.std.proofs.Common.{sym, ap, ◌∙◌, add-one, arith, length-append}
+use Rattle.std.specs.Prelude.{List, [], ◌∷◌, ◌++◌, ◌≡◌, refl, ℕ, zero, suc, ◌≤◌, ◌<◌, leb, length, drop}
+use Rattle.std.proofs.Common.{sym, ap, ◌∙◌, arith}
 use Rattle.std.proofs.Math.Path.{ap₂}
 use borrow.Author.Tests.{eq-eqb, ne_eqb, eqb-true, eqb-false}
 use Rattle.std.proofs.Math.Dec.{eqb}
-use Rattle.lists.specs.Lists.{any, all, ascends, same_list, place_of}
-use Rattle.lists.specs.Tests.{by, never, and_left, and_right}
+use Rattle.lists.specs.Lists.{any, ascends, same_list, place_of}
+use Rattle.lists.specs.Tests.{by}
 use Rattle.lists.specs.Appending.{any_append}
 use Rattle.lists.specs.Places.{place-lt, place_none, place-le}
 use Rattle.definitions.specs.Bits.{pack_to}
@@ -15,7 +15,6 @@ use Rattle.definitions.specs.Comparisons.{bytes_before}
 use Rattle.definitions.specs.Map.{number_of}
 use Rattle.definitions.specs.Parse as parse
 use Rattle.definitions.specs.Parse.{Parsed, done, refused, next, pure, allowed, repeat_onto}
-use Rattle.definitions.specs.Reading.{is_word_byte, word}
 use Rattle.fields.specs.declared.Fault.{Fault}
 use Rattle.sheet_words.specs.Words.{bytes_of, of_spelt, Held, With, Telling, telling_of, told, refused_word}
 use Rattle.sheet_words.specs.declared.Spelt.{Spelt}

@@ -1,4 +1,6 @@
 // The words of a sheet, tested where they stand: no table of them is kept.
+#![tactic(auto)]
+
 ghost use Rattle.std.specs.Prelude.{not, ◌&&◌, ◌||◌, cond, ◌≡◌, ◌+◌, ◌*◌, ◌-◌, ◌^◌, ◌≤◌, ◌<◌, eqb, leb, length, drop};
 ghost use Rattle.lists.specs.Lists.{all, same_list, list_before};
 ghost use Rattle.definitions.specs.Bits.{bits_of, num, pack_to};
@@ -13,7 +15,7 @@ use bits::Cursor;
 use fields::{Fault, Field};
 
 // ok: a word of count bytes that stand from bit `at` on; `head` is the first six of them as one number. Else a fault.
-#[derive(Drop)]
+#[derive(Clone, Copy)]
 pub struct Spelt {
     pub ok: bool,
     pub fault: Fault,
@@ -23,7 +25,7 @@ pub struct Spelt {
 }
 
 // Whether the words so far ascend, and the numbers of `resource` and `self`, the count of all words for one that is not found yet.
-#[derive(Drop)]
+#[derive(Clone, Copy)]
 pub struct Found {
     pub up: bool,
     pub resource: usize,
@@ -32,7 +34,7 @@ pub struct Found {
 
 // ok: count words, the place behind them, whether they are refused with 5, and the numbers of `resource` and `self`, the count for one that is missing.
 // Else a fault.
-#[derive(Drop)]
+#[derive(Clone, Copy)]
 pub struct WordsRead {
     pub ok: bool,
     pub fault: Fault,

@@ -1,6 +1,8 @@
 // What all types inherit, in one lent slice of numbers: 1601 to a type, its count of entries, then four numbers to the words of an
 // entry, then four to the dom set of a word. What is inherited is an Associate, and is handed on under the type that inherits it, so
 // that neither kind nor parents are stored.
+#![tactic(auto)]
+
 ghost use Rattle.std.specs.Prelude.{◌≡◌, ◌<◌, ◌≤◌, ◌+◌, ◌*◌, length, get_or};
 ghost use Rattle.store.specs.Store.{row_at, entry_at, put_row, EntriesAt, DomsAt, Fetched, PutEntries, PutDoms, Stores};
 

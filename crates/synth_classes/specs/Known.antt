@@ -1,5 +1,5 @@
 -- What the numbers of a catalogue say of a sheet's classes.
-use Rattle.std.specs.Prelude.{true, ◌&&◌, cond, List, [], ◌∷◌, map, ◌≡◌, refl, ℕ, ◌+◌, ◌/◌, ◌%◌, ◌^◌, ◌≤◌, ◌<◌, ltb, length}
+use Rattle.std.specs.Prelude.{true, ◌&&◌, cond, List, [], ◌∷◌, ◌≡◌, refl, ℕ, ◌+◌, ◌/◌, ◌%◌, ◌^◌, ◌≤◌, ◌<◌, ltb, length}
 use Rattle.std.proofs.Math.Bool.{not, and-true}
 use Rattle.std.proofs.Common.{sym, ◌∙◌, subst, arith}
 use Rattle.std.proofs.Math.Path.{ap}
@@ -21,7 +21,7 @@ use Rattle.line_laws.specs.Within.{Within}
 use Rattle.line_laws.specs.Declarations.{type-in, name-is, declared-some}
 use Rattle.law_classes.specs.Sets.{no_type, type_at}
 use Rattle.law_classes.specs.Numbers.{place-of}
-use Rattle.law_classes.specs.ItemLaws.{declared-self}
+use Rattle.law_classes.proofs.ItemLaws.{declared-self}
 use Rattle.ordering.specs.Reading as ordering
 use Rattle.catalogue.specs.Layout.{key_at, width_in}
 use Rattle.catalogue.specs.Catalogue as catalogue

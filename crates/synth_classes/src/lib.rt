@@ -1,4 +1,6 @@
 // The classes of a word, looked up in the catalogue.
+#![tactic(auto)]
+
 ghost use Rattle.std.specs.Prelude.{◌≡◌, ◌+◌, ◌*◌, ◌%◌, ◌≤◌, ◌<◌};
 ghost use Rattle.definitions.specs.Comparisons.{dotted};
 ghost use Rattle.fields.specs.Fields.{name_of};
@@ -11,14 +13,14 @@ use fields::Name;
 use rows::Row;
 
 // What a resource is made for: the place of a type, and a word.
-#[derive(Drop)]
+#[derive(Clone, Copy)]
 pub struct Site {
     pub place: usize,
     pub word: u8,
 }
 
 // What it comes from: the doms of its classes, and the direct parents that pass it on, of which an own one has none.
-#[derive(Drop)]
+#[derive(Clone, Copy)]
 pub struct Origin {
     pub doms: Row,
     pub parents: u64,

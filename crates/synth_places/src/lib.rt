@@ -1,5 +1,7 @@
 // Where the annotations of each type stand in the sheet, one number a type in name order: the synthesis reads them there, those of one
 // type at a time.
+#![tactic(auto)]
+
 ghost use Rattle.std.specs.Prelude.{◌≡◌, ◌%◌, ◌≤◌, ◌<◌, eqb, length};
 ghost use Rattle.definitions.specs.Bits.{bits_of};
 ghost use Rattle.own_associates.specs.Owning.{Noted};

@@ -7,7 +7,7 @@ use Rattle.std.proofs.Math.ListN.{get_or, get_or-append}
 use Rattle.lists.specs.Lists.{each}
 use Rattle.lists.specs.Tests.{by}
 use Rattle.rows.specs.declared.Row.{Row}
-use Rattle.rows.specs.Rows.{has, bit, has_bit}
+use Rattle.rows.specs.Rows.{has, has_bit}
 use Rattle.rows.specs.RowLaws.{bit_is}
 use Rattle.rows.specs.Lists.{between}
 use Rattle.rows.specs.Next.{First}

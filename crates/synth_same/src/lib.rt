@@ -1,5 +1,7 @@
 // Whether two makings of one type and one word are identical (FORMAT 5.1), without either being made: name, word, `resource` and the
 // parents of an extension are theirs both, so that first parents, flag and marks decide.
+#![tactic(auto)]
+
 ghost use Rattle.std.specs.Prelude.{false, ◌&&◌, not, ◌≡◌, ◌≤◌, ◌<◌, eqb, ltb, length, get_or};
 ghost use Rattle.std.specs.Bool.{beq};
 ghost use Rattle.lists.specs.Lists.{same_list};

@@ -120,7 +120,7 @@ module _ (tb : List ℕ) (bs : List Bool) (ns : List ℕ) (p : Parents) (st b : 
 
   module _ (f : Flags) (after : List ℕ) (got : Inherited) (v : Receives p bs ns st t f after got) (own : OwnAssociates) (w : OwnOf bs (get_or ns t 0) own) where
     pub type-ready : TypeReady t own got most_rows b
-    type-ready = record { ground = record { place = turn_low; slice = u.room.slice; few = omega arith }; own = w.all; inherited = v.good }
+    type-ready = record { on_ground = record { place = turn_low; slice = u.room.slice; few = omega arith }; own = w.all; inherited = v.good }
 
     pub plays : (fresh ok rows : ℕ) (told : Interpreted) (b' : List ℕ) (ok' : ℕ) → FlagsOf p t fresh ok f → TypeDone tb t own got most_rows rows b told b'
         → WithOk ok t (f.all && told.clean) ok' → Plays tb bs ns p st b (record { place = t; fresh = fresh; ok = ok; rows = rows }) after b' (record { ok = ok'; rows = told.rows })

@@ -1,5 +1,7 @@
 // The synthesis of a map that has an order, and the rows of refusal 9, after `inherit_annotations` and
 // `apply_associate_annotations` of compile.rs.
+#![tactic(auto)]
+
 ghost use Rattle.std.specs.Prelude.{◌≡◌, ◌≤◌, length, get_or};
 ghost use Rattle.bits.specs.Reading.{Addressable};
 ghost use Rattle.definitions.specs.Bits.{bits_of};
@@ -15,21 +17,21 @@ use hearing::Flags;
 use visiting::Trail;
 
 // How many rows were written, and whether there are more.
-#[derive(Drop)]
+#[derive(Clone, Copy)]
 pub struct Report {
     pub rows: usize,
     pub more: bool,
 }
 
 // The types whose call succeeded, as bits, and the count of rows, which stops one past the limit.
-#[derive(Drop)]
+#[derive(Clone, Copy)]
 pub struct Played {
     pub ok: u64,
     pub rows: usize,
 }
 
 // A type at its turn: its place, which of its listings were the first to reach their parent, as bits, and what is known by then.
-#[derive(Drop)]
+#[derive(Clone, Copy)]
 pub struct Visit {
     pub place: usize,
     pub fresh: u8,

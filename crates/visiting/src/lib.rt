@@ -1,5 +1,7 @@
 // Which types the visit of the synthesis reaches, and in which order, as places in name order: each once, behind its
 // ancestors (FORMAT 8.6).
+#![tactic(auto)]
+
 ghost use Rattle.std.specs.Prelude.{◌≡◌, ◌<◌, ◌≤◌};
 ghost use Rattle.rows.specs.Rows.{has_bit};
 ghost use Rattle.order_table.specs.Form.{form_of};
@@ -8,7 +10,7 @@ ghost use Rattle.visiting.specs.Holding.{Marked, Pushed, Held, ReachedFrom, Noth
 
 // The places of the types reached, in order; for each, bit i is set if its listing i was the first to
 // reach that parent; and the places seen, as bits.
-#[derive(Drop)]
+#[derive(Clone, Copy)]
 pub struct Trail {
     pub count: usize,
     pub items: [u8; 64],

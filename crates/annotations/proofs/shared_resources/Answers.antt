@@ -1,0 +1,82 @@
+use mathlib.Core.Path.{◌≡◌, refl, sym, ap, ◌∙◌}
+use Prim.Native.Nat.{◌<◌}
+use native.Mathlib.Omega.{arith}
+use borrow.Author.Rules.{rules}
+use lib.ListN.{length, get_or, length-set}
+use Rattle.lists.specs.Tabulating.{length-mapped}
+use Rattle.annotations.specs.Reading.{resources_in}
+use Rattle.definitions.specs.Annotations.{shared}
+use Rattle.annotations.specs.Laws.{upto, upto-length, shared_kept, shared-dropped}
+use Rattle.annotations.proofs.shared_resources.Goals as goal
+use Rattle.annotations.proofs.shared_resources.Goals.{then-has_word, else-has_word, Start}
+
+long : (s : Start) → length s.args.x.doms ≡ 15
+long s = search length-mapped
+
+pub loop-i-init : goal.loop-i-init
+unfolding shared
+loop-i-init c =
+    let l : length c.args.x.words ≡ 15 = search rules in
+    let m : length c.args.x.doms ≡ 15 = search length-mapped in
+    (omega arith, omega arith, l, m, refl)
+
+pub bounds-words-i : goal.bounds-words-i
+bounds-words-i c = omega arith
+
+pub offset_bounds-doms-i : goal.offset_bounds-doms-i
+offset_bounds-doms-i c = omega arith
+
+pub bounds-doms-i : goal.bounds-doms-i
+bounds-doms-i c = omega arith
+
+pub bounds-out-k : goal.bounds-out-k
+bounds-out-k c = omega arith
+
+pub offset_bounds-sets-k : goal.offset_bounds-sets-k
+offset_bounds-sets-k c = omega arith
+
+pub bounds-sets-k : goal.bounds-sets-k
+bounds-sets-k c = omega arith
+
+pub overflow_add-k : goal.overflow_add-k
+overflow_add-k c = omega arith
+
+pub overflow_add-i : goal.overflow_add-i
+overflow_add-i c = omega arith
+
+pub loop-i-smaller : goal.loop-i-smaller
+loop-i-smaller c = omega arith
+
+pub loop-i-preserved : goal.loop-i-preserved
+loop-i-preserved c =
+    let s = c in
+    let i = c.loop-i in
+    let x = s.args.x in
+    let vs = resources_in s.args.y in
+    let d = c.united-e.result in
+    let l : length x.words ≡ 15 = search rules in
+    let m : length x.doms ≡ 15 = long (goal.at.loop-i-preserved c).Start in
+    let a : i.i < length x.words = omega arith in
+    let b : i.i < length x.doms = omega arith in
+    let p : i.k < length i.out = omega (arith, i.invariant.2) in
+    let q : i.k < length i.sets = omega (arith, i.invariant.3) in
+    let e = length-set i.out i.k (get_or x.words i.i 0) ∙ i.invariant.2 in
+    let f = length-set i.sets i.k d ∙ i.invariant.3 in
+    elim c.if-has_word.branch [
+      | then-has_word w ↦ rw w.k-is (omega arith, omega arith, e, f, shared_kept x.words i.out x.doms i.sets i.k i.i a b p q vs d c.united-e.ensures (sym c.has_word.ensures ∙ w.if-has_word.true) i.invariant.4)
+      | else-has_word w ↦ rw w.k-is (omega arith, omega arith, e, f, shared-dropped x.words i.out x.doms i.sets i.k i.i a b p q vs d (sym c.has_word.ensures ∙ w.if-has_word.false) i.invariant.4)
+    ]
+
+pub returns : goal.returns
+unfolding resources_in
+returns c =
+    let x = c.args.x in
+    let e : c.loop-i.i ≡ x.count = omega arith in
+    let q : upto c.loop-i.k c.loop-i.out c.loop-i.sets ≡ shared (upto x.count x.words x.doms) (resources_in c.args.y) = rw e at c.loop-i.invariant.4 in
+    record {
+      resources = q;
+      kind = refl;
+      tag = refl;
+      few = omega arith;
+      count = upto-length c.loop-i.k c.loop-i.out c.loop-i.sets (omega (arith, c.loop-i.invariant.2)) (omega (arith, c.loop-i.invariant.3)) ∙ ap length q;
+    }

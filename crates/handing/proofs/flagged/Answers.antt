@@ -1,0 +1,11 @@
+use mathlib.Core.Path.{sym, ap, ◌∙◌}
+use Prim.Native.Nat.{ℕ, ◌/◌, ◌^◌}
+use lib.Bits.{and_mask}
+use lib.Dec.{eqb}
+use Rattle.rows.specs.Rows.{has_bit}
+use Rattle.rows.specs.RowLaws.{bit_is}
+use Rattle.handing.proofs.flagged.Goals as goal
+
+pub returns : goal.returns
+unfolding has_bit
+returns c = ap (λ (z : ℕ). eqb z 1) (and_mask (c.args.flags / 2 ^ c.args.i) 1 ∙ sym (bit_is c.args.flags c.args.i))

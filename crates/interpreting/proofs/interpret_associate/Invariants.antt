@@ -1,0 +1,22 @@
+use mathlib.Core.List.{List}
+use mathlib.Core.Logic.{⊎_elim}
+use mathlib.Core.Path.{◌≡◌, sym, ◌∙◌, subst}
+use Prim.Native.Nat.{ℕ, ◌-◌, ◌≤◌, ◌<◌, min}
+use native.Mathlib.Omega.{arith}
+use borrow.Author.Rules.{rules}
+use Rattle.rows.specs.declared.Row.{Row}
+use Rattle.dedup.specs.declared.Entry.{Entry}
+use Rattle.associates.specs.Step.{Reached, reached}
+use Rattle.interpreting.specs.Entry.{interpret_entry}
+use Rattle.interpreting.specs.EntryLaws.{Going, going_start, going-skipped, going-walk, going-taken, going-room, going_end}
+use Rattle.interpreting.proofs.interpret_associate.Given as goal
+
+-- an entry of these words and parents: what comes of it does not depend on its kind
+abbrev pub entry : Row → ℕ → Entry
+entry words parents = record { kind = 1; words = words; parents = parents }
+
+abbrev pub invariant-loop-w : goal.invariant-loop-w
+invariant-loop-w l = (l.w ≤ 256) × Going l.t l.place (entry l.words l.parents) l.doms l.limit (reached l.initial.p l.initial.made) l.initial.buf (min 200 l.w) (reached l.p l.made) l.buf
+
+abbrev pub decreases-loop-w : goal.decreases-loop-w
+decreases-loop-w l = 256 - l.w

@@ -1,0 +1,8 @@
+use Rattle.associates.specs.Step.{reached}
+use Rattle.interpreting.specs.Annotations.{type_reached}
+use Rattle.interpreting.specs.AnnotationsLaws.{entry-with}
+use borrow.Author.Rules.{rules}
+use Rattle.interpreting.proofs.with_entry.Goals as goal
+
+pub returns : goal.returns
+returns c = let a = c.args in let e = c.interpret_associate-r in entry-with a.t.now a.turn.place a.turn.limit a.e a.doms (type_reached a.s a.made.now) a.buf.now (reached e.result _) _ _ e.ensures c.still_clean-clean.ensures

@@ -1,0 +1,2 @@
+pub mod ListingLaws
+pub mod OrderLaws

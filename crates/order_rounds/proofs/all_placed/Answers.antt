@@ -1,0 +1,70 @@
+use mathlib.Core.Path.{◌≡◌, refl, ◌∙◌}
+use Prim.Native.Nat.{ℕ, ◌≤◌, ◌<◌, ◌-◌}
+use native.Mathlib.Omega.{arith}
+use borrow.Author.Tests.{eq-eqb, ne_eqb}
+use lib.ListN.{take, get_or}
+use Rattle.lists.specs.Lists.{all}
+use Rattle.bitsets.specs.Bitsets.{members}
+use Rattle.bitsets.specs.WalkLaws.{all-failed, all-passed, all_end}
+use Rattle.ordering.specs.Lists.{elem, elem_at}
+use Rattle.order_rounds.specs.Rounds.{all_listed_in}
+use Rattle.order_rounds.specs.StepLaws.{elem-none, none-lower}
+use Rattle.order_rounds.proofs.all_placed.Goals as goal
+use Rattle.order_rounds.proofs.all_placed.Goals.{else-parents-test, then-parents-test+then-j-eq0}
+
+pub parents-init : goal.parents-init
+parents-init c = refl
+
+pub lowest-place-requires : goal.lowest-place-requires
+lowest-place-requires c = omega arith
+
+pub loop-j-init : goal.loop-j-init
+loop-j-init c = (omega arith, λ i h k e. omega arith)
+
+pub overflow_sub-j : goal.overflow_sub-j
+overflow_sub-j c = omega arith
+
+pub offset_bounds-order-j : goal.offset_bounds-order-j
+offset_bounds-order-j c = omega (arith, c.requires.1)
+
+pub bounds-order-j : goal.bounds-order-j
+bounds-order-j c = omega (arith, c.requires.1)
+
+pub loop-j-smaller : goal.loop-j-smaller
+loop-j-smaller c = omega arith
+
+pub loop-j-preserved : goal.loop-j-preserved
+loop-j-preserved c =
+    let l = c.loop-j in
+    (omega (arith, l.invariant.0), none-lower c.args.order.now c.lowest-place.result l.j _ (omega arith) l.invariant.1 c.if-order-j.false)
+
+pub rest-left-requires : goal.rest-left-requires
+rest-left-requires c = omega arith
+
+pub parents-smaller : goal.parents-smaller
+parents-smaller c = c.rest-left.ensures.less
+
+pub parents-preserved : goal.parents-preserved
+parents-preserved c =
+    let a = c.args in
+    let q = c.parents in
+    let l = c.loop-j in
+    let f = c.lowest-place in
+    let k = c.requires.0 in
+    all-passed (λ b. elem b (take a.n a.order.now)) a.parents q.left f.result c.rest-left.result q.invariant f.ensures c.rest-left.ensures
+    (elem_at f.result a.order.now a.n (l.j - 1) (omega (arith, l.invariant.0)) (omega (arith, l.invariant.0, k, c.requires.1)) c.if-order-j.true)
+
+pub returns : goal.returns
+unfolding all_listed_in
+returns c =
+    let a = c.args in
+    let q = c.parents in
+    elim c.parents-test.branch [
+      | else-parents-test w ↦
+          let e : q.left ≡ 0 = omega arith in
+          eq-eqb _ _ e ∙ all_end (λ b. elem b (take a.n a.order.now)) a.parents q.left q.invariant e
+      | then-parents-test+then-j-eq0 w ↦
+          ne_eqb q.left 0 (λ e. omega (arith, w.parents-test.true))
+          ∙ all-failed (λ b. elem b (take a.n a.order.now)) a.parents q.left w.lowest-place.result q.invariant w.lowest-place.ensures
+          (elem-none w.lowest-place.result a.order.now a.n (λ i h. w.loop-j.invariant.1 i (omega arith) h))
+    ]

@@ -1,0 +1,20 @@
+use mathlib.Core.Path.{◌≡◌, refl, ◌∙◌}
+use Prim.Native.Nat.{ℕ, suc, ◌-◌, ◌^◌, ◌≤◌, ◌<◌}
+use native.Mathlib.Omega.{arith}
+use lib.ListN.{length}
+use Rattle.lists.specs.Places.{zero-at}
+use Rattle.ordering.specs.declared.Parents.{Parents}
+use Rattle.order_rounds.specs.Rounds.{SetsFor}
+use Rattle.order_rounds.specs.StageLaws.{Stage, stage-none, stage-more, stage-end, room, some-member, appended-placed}
+use Rattle.order_rounds.proofs.place_all.Given as goal
+
+abbrev pub invariant-loop-ready : goal.invariant-loop-ready
+invariant-loop-ready l =
+    (k : ℕ)
+    × (k ≤ l.n)
+    × (length l.order ≡ 64)
+    × (l.ready < 2 ^ 64)
+    × ((p : Parents) → SetsFor p l.t l.count → Stage p l.t l.count k l.n l.order l.ready l.waiting)
+
+abbrev pub decreases-loop-ready : goal.decreases-loop-ready
+decreases-loop-ready l = 64 - l.n

@@ -1,0 +1,19 @@
+use Rattle.sheet_types.specs.Rows.{NotesRead}
+use Rattle.sheet_draft.specs.Draft.{types_in}
+use Rattle.definitions.specs.Reading.{type_info}
+use Rattle.definitions.specs.Parse.{repeat_onto, repeat}
+use Rattle.definitions.specs.Bits.{bits_of}
+use lib.ListN.{length, drop}
+use Prim.Native.Nat.{◌+◌}
+use mathlib.Core.Path.{◌≡◌}
+use Rattle.sheet_types.proofs.read_each_type.Given as goal
+
+abbrev pub invariant-loop-left : goal.invariant-loop-left
+invariant-loop-left l =
+    (l.i + l.left ≡ l.n)
+    × (length l.d ≡ 704)
+    × NotesRead l.limit (bits_of l.s) l.d l.i
+    × (repeat (type_info l.limit) l.n (drop l.initial.next.at (bits_of l.s)) ≡ repeat_onto (types_in l.limit (bits_of l.s) l.d l.i) (type_info l.limit) l.left (drop l.next.at (bits_of l.s)))
+
+abbrev pub decreases-loop-left : goal.decreases-loop-left
+decreases-loop-left l = l.left
