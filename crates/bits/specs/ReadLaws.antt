@@ -1,6 +1,7 @@
 -- Laws of reading.
-use Rattle.std.specs.Prelude.{Bool, true, false, List, [], ◌∷◌, ◌++◌, ◌≡◌, refl, ℕ, zero, suc, ◌+◌, ◌*◌, ◌-◌, ◌^◌, ◌≤◌, ◌<◌, leb, length, drop}
+use Rattle.std.specs.Prelude.{Bool, true, false, cond, List, [], ◌∷◌, ◌++◌, Option, Some, None, ◌≡◌, refl, ℕ, zero, suc, ◌+◌, ◌*◌, ◌-◌, ◌^◌, ◌≤◌, ◌<◌, leb, length, drop}
 use Rattle.std.proofs.Common.{sym, ap, ◌∙◌, mod-eq_of_lt, mul-one, add-zero, zero-add, zero-mul, add-mul, mul_comm, mul_assoc, add_assoc, arith, le-leb, length-append, length-drop}
+use Rattle.std.proofs.lemmas.Option.{some_pair_parts}
 use Rattle.std.proofs.Math.Decide.{dec_le}
 use Rattle.std.proofs.Math.Nat.{pow-succ'}
 use Rattle.std.proofs.lemmas.Bool.{lt-leb}
@@ -8,8 +9,7 @@ use Rattle.std.proofs.Math.Seq
 use Rattle.definitions.specs.Bits.{bit, to_bits, bits_of, num}
 use Rattle.definitions.specs.Parse.{past, Parsed, done, refused, field_onto, field}
 use Rattle.bits.specs.declared.Cursor.{Cursor}
-use Rattle.bits.specs.declared.Read.TheVariants.{Value, Past}
-use Rattle.bits.specs.Reading.{read_at, pick_read, of_read}
+use Rattle.bits.specs.Reading.{read_at, of_read}
 use Rattle.bits.specs.NumberLaws.{length-to_bits, length-bits_of, num-lt, num-to_bits}
 
 -- whether a value was read
@@ -19,26 +19,26 @@ is_done (refused f) = false
 
 -- ---- reading at a position
 pub read-in : (s : List ℕ) (p n : ℕ) → p + n ≤ 8 * length s →
-    read_at (bits_of s) p n ≡ Value (num n (drop p (bits_of s))) (record { at = p + n })
+    read_at (bits_of s) p n ≡ Some (num n (drop p (bits_of s)), record { at = p + n })
 unfolding read_at
 read-in s p n h = simp (length-bits_of, le-leb (p + n) (8 * length s) h)
 
-pub read_past : (s : List ℕ) (p n : ℕ) → 8 * length s < p + n → read_at (bits_of s) p n ≡ Past
+pub read_past : (s : List ℕ) (p n : ℕ) → 8 * length s < p + n → read_at (bits_of s) p n ≡ None
 unfolding read_at
 read_past s p n h = simp (length-bits_of, lt-leb (p + n) (8 * length s) h)
 
 -- a value that was read is below 2 ^ n
-pub read-lt : (bs : List Bool) (p n v : ℕ) (c : Cursor) → read_at bs p n ≡ Value v c → v < 2 ^ n
+pub read-lt : (bs : List Bool) (p n v : ℕ) (c : Cursor) → read_at bs p n ≡ Some (v, c) → v < 2 ^ n
 unfolding read_at
 read-lt bs p n v c e = go (leb (p + n) (length bs)) e
   where
-    go : (t : Bool) → pick_read t (Value (num n (drop p bs)) (record { at = p + n })) Past ≡ Value v c → v < 2 ^ n
-    go true h = let q : num n (drop p bs) ≡ v = cc in rw (← q) (num-lt n (drop p bs))
+    go : (t : Bool) → cond {A = Option (ℕ × Cursor)} t (Some (num n (drop p bs), record { at = p + n })) None ≡ Some (v, c) → v < 2 ^ n
+    go true h = rw (← (some_pair_parts _ v _ c h).0) (num-lt n (drop p bs))
     go false h = let z : ◌≡◌ {A = ℕ} 0 1 = cc in absurd (omega arith)
 
 -- ---- reading what was written
 pub read-written : (bs : List Bool) (p n v : ℕ) (rest : List Bool) → drop p bs ≡ to_bits n v ++ rest → 0 < n → v < 2 ^ n →
-    read_at bs p n ≡ Value v (record { at = p + n })
+    read_at bs p n ≡ Some (v, record { at = p + n })
 unfolding read_at
 read-written bs p n v rest e h l =
     let m : length bs - p ≡ n + length rest =

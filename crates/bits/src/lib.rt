@@ -12,13 +12,6 @@ pub struct Cursor {
     pub at: usize,
 }
 
-// A field's value and the cursor behind it, or that the field passes the end.
-#[derive(Clone, Copy)]
-pub enum Read {
-    Value(usize, Cursor),
-    Past,
-}
-
 // The byte at i, or 0 past the end.
 fn byte_at(s: &[u8], i: usize) -> usize
     ensures { (result ≡ get_or s.now i 0) × (result < 256) }
@@ -72,20 +65,17 @@ fn put_rest(buf: &mut [u8], i: usize, k: usize, v: usize)
 }
 
 impl Cursor {
-    // The n bits at the cursor.
-    pub fn read(self, s: &[u8], n: usize) -> Read
+    // The n bits at the cursor and the cursor behind them; None where they pass the end.
+    pub fn read(self, s: &[u8], n: usize) -> Option<(usize, Cursor)>
         requires { (n ≤ 16) × (8 * length s.now < 2 ^ 64) }
         ensures { result ≡ read_at (bits_of s.now) self.at n }
     {
         let at = self.at;
         let total = s.len() * 8;
-        if total < at {
-            return Read::Past;
+        if total < at || total - at < n {
+            return None;
         }
-        if total - at < n {
-            return Read::Past;
-        }
-        Read::Value(window(s, at, n), Cursor { at: at + n })
+        Some((window(s, at, n), Cursor { at: at + n }))
     }
 
     // Writes the last n bits of v at the cursor, and zeros to the end of the byte that the last of them is in.

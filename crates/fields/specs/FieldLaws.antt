@@ -1,20 +1,44 @@
 -- Laws of the fields.
-use Rattle.std.specs.Prelude.{Bool, true, false, ◌&&◌, cond, List, [], ◌∷◌, ◌++◌, ◌≡◌, refl, ℕ, ◌+◌, ◌≤◌, ◌<◌, leb, ltb, eqb, length, get_or, set}
+use Rattle.std.specs.Prelude.{Bool, true, false, ◌&&◌, cond, List, [], ◌∷◌, ◌++◌, Option, Some, None, Result, Ok, Err, ok_or, IsErrAnd, ◌≡◌, refl, ℕ, ◌+◌, ◌^◌, ◌≤◌, ◌<◌, leb, ltb, eqb, length, get_or, set}
 use Rattle.std.proofs.Math.Bool.{and-true}
 use Rattle.std.proofs.Common.{sym, ap, ap₂, ◌∙◌, arith, leb-true, ltb-true, eqb-true, eq-eqb, ne_eqb}
 use Rattle.std.proofs.lemmas.Bool.{eqb-false}
+use Rattle.std.proofs.lemmas.Result.{err_from_is_err_and}
 use Rattle.std.proofs.Math.Seq
 use Rattle.lists.specs.Lists.{same_list}
 use Rattle.lists.specs.Tabulating.{tabulate-set, length-tabulate}
 use Rattle.lists.specs.Tests.{and_left, and_right}
+use Rattle.definitions.specs.Bits.{num}
 use Rattle.definitions.specs.Comparisons.{same_name}
 use Rattle.definitions.specs.Parse.{not_allowed, Parsed, done, refused, Parser, next, pure, refuse, choose, field, allowed, between, repeat, counted}
 use Rattle.definitions.specs.Reading.{word_field}
+use Rattle.bits.specs.declared.Cursor.{Cursor}
+use Rattle.bits.specs.Reading.{read_at, of_read}
+use Rattle.bits.specs.ReadLaws.{field-read}
+use Rattle.bits.specs.NumberLaws.{num-lt}
 use Rattle.fields.specs.ParseLaws.{repeat-length}
-use Rattle.fields.specs.Fields.{of_byte, of_word_if_flag, two_words, name_of, of_names}
-use Rattle.fields.specs.declared.ByteRead.{ByteRead}
+use Rattle.fields.specs.Fields.{of_parsed, of_field, optional, two_words, name_of, of_names}
+use Rattle.fields.specs.declared.Fault.{Fault}
 use Rattle.fields.specs.declared.Name.{Name}
 use Rattle.fields.specs.declared.Names.{Names}
+
+-- what the exit of a `?` returns
+pub err_was : {T : Type 0} (y : Result T Fault) (r : Fault) → IsErrAnd y (λ e. e ≡ r) → y ≡ Err r
+err_was y r h = let p = err_from_is_err_and y h in p.1 ∙ ap (λ (e : Fault). Err e) p.2
+
+-- a field that was read, as the definitions' parser gives it
+pub field-of_read : (bs : List Bool) (x : Option (ℕ × Cursor)) → of_field bs (ok_or x Fault.Past) ≡ of_read bs x
+field-of_read bs (Some (v, c)) = refl
+field-of_read bs None = refl
+
+-- a field's value is below 2 ^ n
+pub field-lt : (n : ℕ) (bs : List Bool) (v : ℕ) (rest : List Bool) → 0 < n → field n bs ≡ done v rest → v < 2 ^ n
+unfolding read_at
+field-lt n bs v rest h e = go (leb (0 + n) (length bs)) (sym (field-read bs 0 n h) ∙ e)
+  where
+    go : (t : Bool) → of_read bs (cond {A = Option (ℕ × Cursor)} t (Some (num n bs, record { at = 0 + n })) None) ≡ done v rest → v < 2 ^ n
+    go true q = let z : num n bs ≡ v = cc in rw (← z) (num-lt n bs)
+    go false q = let z : ◌≡◌ {A = ℕ} 0 1 = cc in absurd (omega arith)
 
 -- a value that was allowed is
 pub allowed-holds : (n : ℕ) (ok : ℕ → Bool) (bs : List Bool) (v : ℕ) (rest : List Bool) → allowed n ok bs ≡ done v rest → ok v ≡ true
@@ -69,10 +93,10 @@ unfolding of_names
 length-of_names t = length-tabulate (λ i. two_words (get_or t.first i 0) (get_or t.second i 0)) t.count
 
 -- a word that was read is one
-pub word_some : (bs rest : List Bool) (W : ℕ) (r : ByteRead) → W ≤ 255 → of_byte bs r ≡ word_field W rest →
-    of_word_if_flag bs r ≡ next (word_field W rest) (λ w. pure (w ∷ []))
-word_some bs rest W (ByteRead.At w c) h e = rw (← e, ne_eqb w 255 (λ q. omega (arith, word_lt W rest w _ (sym e))))
-word_some bs rest W (ByteRead.Refused r) h e = rw (← e)
+pub word_some : (bs rest : List Bool) (W : ℕ) (r : Result (ℕ × Cursor) Fault) → W ≤ 255 → of_field bs r ≡ word_field W rest →
+    of_parsed optional bs r ≡ next (word_field W rest) (λ w. pure (w ∷ []))
+word_some bs rest W (Ok (w, c)) h e = rw (← e, ne_eqb w 255 (λ q. omega (arith, word_lt W rest w _ (sym e))))
+word_some bs rest W (Err r) h e = rw (← e)
 
 -- the length of a list with its count is between the count's limits
 pub counted-in : {A : Type 0} (n least most : ℕ) (m : Parser A) (bs : List Bool) (xs : List A) (rest : List Bool) → counted n least most m bs ≡ done xs rest →

@@ -17,6 +17,13 @@ unfolding repeat_onto
 repeat-done xs m zero bs x rest h e = absurd (omega arith)
 repeat-done xs m (suc n) bs x rest h e = rw (sub-one (suc n), e)
 
+-- the same where i of n are behind
+pub repeat-next : {A : Type 0} (xs : List A) (m : Parser A) (n i : ℕ) (bs : List Bool) (x : A) (rest : List Bool) → i < n → m bs ≡ done x rest →
+    repeat_onto xs m (n - i) bs ≡ repeat_onto (xs ++ (x ∷ [])) m (n - (i + 1)) rest
+repeat-next xs m n i bs x rest h e =
+    let q : n - i - 1 ≡ n - (i + 1) = omega arith in
+    repeat-done xs m (n - i) bs x rest (omega arith) e ∙ ap (λ (k : ℕ). repeat_onto (xs ++ (x ∷ [])) m k rest) q
+
 pub repeat-refused : {A : Type 0} (xs : List A) (m : Parser A) (n : ℕ) (bs : List Bool) (r : Fault) → 0 < n → m bs ≡ refused r → repeat_onto xs m n bs ≡ refused r
 unfolding repeat_onto
 repeat-refused xs m zero bs r h e = absurd (omega arith)

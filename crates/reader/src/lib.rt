@@ -5,7 +5,7 @@ ghost use Rattle.std.specs.Prelude.{◌≡◌, ◌*◌, ◌^◌, ◌≤◌, ◌<
 ghost use Rattle.definitions.specs.Bits.{bits_of};
 ghost use Rattle.bits.specs.Reading.{read_at};
 
-use bits::{Cursor, Read};
+use bits::Cursor;
 
 // A sheet and a bit position in it.
 #[derive(Clone, Copy)]
@@ -26,7 +26,7 @@ impl<'a> Reader<'a> {
     }
 
     // The n bits at the reader's position, and the position behind them.
-    pub fn read(self, n: usize) -> Read
+    pub fn read(self, n: usize) -> Option<(usize, Cursor)>
         requires { (n ≤ 16) × (8 * length self.sheet.now < 2 ^ 64) }
         ensures { result ≡ read_at (bits_of self.entry.sheet.now) self.entry.at.at n }
     {
@@ -45,7 +45,7 @@ impl<'a> Reader<'a> {
 }
 
 // The n bits at a position of a sheet. Whoever calls this needs no proof by hand.
-pub fn read_at(sheet: &[u8], at: Cursor, n: usize) -> Read
+pub fn read_at(sheet: &[u8], at: Cursor, n: usize) -> Option<(usize, Cursor)>
     requires { (n ≤ 16) × (8 * length sheet.now < 2 ^ 64) }
     ensures { result ≡ read_at (bits_of sheet.now) at.at n }
 {

@@ -1,5 +1,5 @@
 -- Laws of annotations.
-use Rattle.std.specs.Prelude.{Bool, true, false, ◌&&◌, not, cond, List, [], ◌∷◌, ◌++◌, map, ◌≡◌, refl, ℕ, zero, suc, ◌+◌, ◌<◌, eqb, leb, length, get_or, set, drop}
+use Rattle.std.specs.Prelude.{Bool, true, false, ◌&&◌, not, List, [], ◌∷◌, ◌++◌, map, ◌≡◌, refl, ℕ, zero, suc, ◌+◌, ◌<◌, eqb, leb, length, get_or, set}
 use Rattle.std.proofs.Common.{arith, le-leb}
 use Rattle.std.proofs.lemmas.Bool.{lt-leb}
 use Rattle.lists.specs.Tabulating.{places-set, length-places}
@@ -7,11 +7,10 @@ use Rattle.definitions.specs.Parse.{not_allowed, Parsed, done, refused, next, �
 use Rattle.definitions.specs.Reading.{word_field, word_if_flag, name, associated, associated_list, kinds, annotation}
 use Rattle.definitions.specs.Records.{Resource, AnnotationOf, associate, nest_associate, alias, derive}
 use Rattle.fields.specs.ParseLaws.{counted-map}
-use Rattle.fields.specs.Fields.{fault_of, of_names, of_names_read}
-use Rattle.fields.specs.declared.NamesRead.{NamesRead}
-use Rattle.records.specs.Annotations.{resource_of, annotation_as, row_of_word, row_of_tag, rows_for, with_kind, annotation_of, of_annotation_read, zero_annotation, of_annotations}
+use Rattle.fields.specs.Fields.{of_names}
+use Rattle.fields.specs.declared.Names.{Names}
+use Rattle.records.specs.Annotations.{resource_of, annotation_as, row_of_word, row_of_tag, rows_for, with_kind, annotation_of, zero_annotation, of_annotations}
 use Rattle.records.specs.declared.Annotation.{Annotation}
-use Rattle.records.specs.declared.AnnotationRead.{AnnotationRead}
 use Rattle.records.specs.declared.Annotations.{Annotations}
 
 -- a resource is read like a name
@@ -78,19 +77,10 @@ annotation-rows W one_word bs = go (field 3 bs)
     go (done kind rest) = at kind rest
     go (refused r) = refl
 
--- the answer for a kind and its rows
-pub with-kind-is : (bs : List Bool) (kind : ℕ) (r : NamesRead) (x : AnnotationRead) → x ≡ with_kind kind r →
-    of_annotation_read bs x ≡ next (of_names_read bs r) (λ rows. pure (annotation_as kind rows))
+-- a kind with its rows
+pub with-kind-is : (kind : ℕ) (rows : Names) → annotation_of (with_kind kind rows) ≡ annotation_as kind (of_names rows)
 unfolding annotation_of
-with-kind-is bs kind r x e = rw e (go r.ok)
-  where
-    a : AnnotationOf Resource
-    a = annotation_as kind (of_names r.names)
-
-    go : (t : Bool) → cond t (done a (drop r.next.at bs)) (refused (fault_of r.fault))
-        ≡ next (cond t (done (of_names r.names) (drop r.next.at bs)) (refused (fault_of r.fault))) (λ rows. pure (annotation_as kind rows))
-    go true = refl
-    go false = refl
+with-kind-is kind rows = refl
 
 -- one annotation more
 pub annotations-more : (t : Annotations) (a : Annotation) → t.count < length t.items →
@@ -113,3 +103,13 @@ rows_none W (suc (suc (suc zero))) bs a b c d e = absurd (c refl)
 rows_none W (suc (suc (suc (suc zero)))) bs a b c d e = absurd (d refl)
 rows_none W (suc (suc (suc (suc (suc zero))))) bs a b c d e = absurd (e refl)
 rows_none W (suc (suc (suc (suc (suc (suc k)))))) bs a b c d e = refl
+
+-- the kinds with names behind them
+pub rows_names : (W kind : ℕ) (bs : List Bool) → 0 < kind → kind < 5 → (kind ≡ 3 → ⊥) → rows_for W kind bs ≡ counted 4 0 15 (name W) bs
+unfolding rows_for
+rows_names W zero bs a b c = absurd (omega arith)
+rows_names W (suc zero) bs a b c = refl
+rows_names W (suc (suc zero)) bs a b c = refl
+rows_names W (suc (suc (suc zero))) bs a b c = absurd (c refl)
+rows_names W (suc (suc (suc (suc zero)))) bs a b c = refl
+rows_names W (suc (suc (suc (suc (suc k))))) bs a b c = absurd (omega arith)

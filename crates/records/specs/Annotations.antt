@@ -1,15 +1,13 @@
 -- What the answers of the code on annotations mean, as the definitions' parsers give it.
-use Rattle.std.specs.Prelude.{Bool, cond, List, [], ◌∷◌, map, ℕ, drop, get_or}
+use Rattle.std.specs.Prelude.{List, [], ◌∷◌, map, ℕ, drop, get_or}
 use Rattle.lists.specs.Tabulating.{places}
-use Rattle.definitions.specs.Parse.{Parsed, done, refused, Parser, ◌>>=◌, pure, field, counted}
+use Rattle.definitions.specs.Parse.{Parser, ◌>>=◌, pure, field, counted}
 use Rattle.definitions.specs.Reading.{word_field, name}
 use Rattle.definitions.specs.Records.{Resource, AnnotationOf, make_list, associate, nest_associate, alias, inherit, derive, no_derive}
-use Rattle.fields.specs.Fields.{fault_of, of_names}
-use Rattle.fields.specs.declared.NamesRead.{NamesRead}
+use Rattle.fields.specs.Fields.{of_names}
+use Rattle.fields.specs.declared.Names.{Names}
 use Rattle.records.specs.declared.Annotation.{Annotation}
-use Rattle.records.specs.declared.AnnotationRead.{AnnotationRead}
 use Rattle.records.specs.declared.Annotations.{Annotations}
-use Rattle.records.specs.declared.AnnotationsRead.{AnnotationsRead}
 
 -- a row is a word with what stands behind it: a resource with its dom, or a name
 abbrev pub resource_of : List ℕ → Resource
@@ -50,19 +48,11 @@ unfoldable pub rows_for : ℕ → ℕ → Parser (List (List ℕ))
 rows_for W kind =
     get_or (pure [] ∷ counted 4 0 15 (name W) ∷ counted 4 0 15 (name W) ∷ row_of_word W ∷ counted 4 0 15 (name W) ∷ row_of_tag ∷ []) kind (pure [])
 
-abbrev pub with_kind : ℕ → NamesRead → AnnotationRead
-with_kind kind r = record {
-  ok = r.ok;
-  fault = r.fault;
-  next = r.next;
-  annotation = record { kind = kind; count = r.names.count; words = r.names.first; doms = r.names.second };
-}
+abbrev pub with_kind : ℕ → Names → Annotation
+with_kind kind rows = record { kind = kind; count = rows.count; words = rows.first; doms = rows.second }
 
 unfoldable pub annotation_of : Annotation → AnnotationOf Resource
 annotation_of a = annotation_as a.kind (of_names (record { count = a.count; first = a.words; second = a.doms }))
-
-abbrev pub of_annotation_read : List Bool → AnnotationRead → Parsed (AnnotationOf Resource)
-of_annotation_read bs r = cond r.ok (done (annotation_of r.annotation) (drop r.next.at bs)) (refused (fault_of r.fault))
 
 -- what stands past the end of an array of annotations
 abbrev pub zero_annotation : Annotation
@@ -70,6 +60,3 @@ zero_annotation = record { kind = 0; count = 0; words = []; doms = [] }
 
 unfoldable pub of_annotations : Annotations → List (AnnotationOf Resource)
 of_annotations t = places annotation_of zero_annotation t.items t.count
-
-abbrev pub of_annotations_read : List Bool → AnnotationsRead → Parsed (List (AnnotationOf Resource))
-of_annotations_read bs r = cond r.ok (done (of_annotations r.annotations) (drop r.next.at bs)) (refused (fault_of r.fault))

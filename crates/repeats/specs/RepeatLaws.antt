@@ -1,23 +1,27 @@
 -- Laws of words and rows.
-use Rattle.std.specs.Prelude.{Bool, true, false, ◌&&◌, ◌||◌, cond, List, [], ◌∷◌, map, ◌≡◌, refl, ℕ, zero, suc, ◌<◌, ◌≤◌, eqb, ltb, length, get_or}
+use Rattle.std.specs.Prelude.{Bool, true, false, ◌&&◌, ◌||◌, cond, List, [], ◌∷◌, map, ◌≡◌, refl, ℕ, zero, suc, ◌+◌, ◌-◌, ◌<◌, ◌≤◌, eqb, ltb, min, length, get_or, drop}
+use Rattle.std.specs.List.{range_with_len, list_any, list_all}
 use Rattle.std.proofs.Math.Bool.{and-true}
 use Rattle.std.proofs.Common.{sym, ap, ap₂, subst, ◌∙◌, arith, eq-eqb, ne_eqb, eqb-true, ltb-true, le-ltb}
-use Rattle.std.proofs.lemmas.Bool.{eqb-false}
+use Rattle.std.proofs.lemmas.Bool.{eqb-false, ltb-false}
 use Rattle.lists.specs.Lists.{In, any, all, repeats, same_list, set_of}
 use Rattle.lists.specs.Tests.{by, same_test, and_left, and_right, and_both, any-in, any_of, all_in, all_of}
 use Rattle.lists.specs.Strict.{number-strict}
 use Rattle.lists.specs.Sorting.{set-members, sets-equal}
 use Rattle.lists.specs.Lexicographic.{same_numbers, numbers-same}
 use Rattle.lists.specs.Tabulating.{length-tabulate, get_d_tabulate, get_d-places, map-tabulate}
+use Rattle.lists.specs.Places.{any_step, any-end, all-step, all_end, repeats-step, repeats-end, same_step, same_end}
 use Rattle.lists.specs.Appending.{repeats-map}
 use Rattle.definitions.specs.Checks.{resources_of, kind_of, content_of, same_annotation, names_twice, keys_twice, words_twice, annotations_twice, something_twice}
 use Rattle.definitions.specs.Records.{Resource, AnnotationOf}
 use Rattle.definitions.specs.Records as records
 use Rattle.fields.specs.Fields.{two_words, of_names}
 use Rattle.fields.specs.FieldLaws.{same-words}
+use Rattle.records.specs.AnnotationLaws.{length-of_annotations}
 use Rattle.records.specs.Annotations.{resource_of, word_of_rows, annotation_as, annotation_of, zero_annotation, of_annotations}
 use Rattle.records.specs.declared.Annotation.{Annotation}
 use Rattle.records.specs.declared.Annotations.{Annotations}
+use Rattle.repeats.specs.RangeLaws.{any-range, all-range}
 use Rattle.repeats.specs.Repeats.{words_of, row_at, rows_of, same_word, repeats_word, kind_in, same_content, repeats_in, type_repeats, same_type_name, same_extension_key}
 
 pub length-words_of : (a : Annotation) → length (words_of a) ≡ a.count
@@ -28,6 +32,42 @@ pub word-of : (a : Annotation) (i : ℕ) → i < a.count → get_or (words_of a)
 unfolding words_of
 word-of a i h = get_d_tabulate (λ i. get_or a.words i 0) a.count i 0 h
 
+-- a test of the words from a place on
+pub words-any : (a : Annotation) (w from : ℕ) →
+    list_any (λ j. eqb w (get_or a.words j 0)) (range_with_len from (a.count - from)) ≡ any (eqb w) (drop from (words_of a))
+words-any a w from =
+    any-range
+    (λ j. eqb w (get_or a.words j 0))
+    (λ k. any (eqb w) (drop k (words_of a)))
+    a.count
+    (λ k h. any_step (eqb w) (words_of a) k 0 (omega (arith, length-words_of a)) ∙ rw (word-of a k h))
+    (λ k h. any-end (eqb w) (words_of a) k (omega (arith, length-words_of a)))
+    from
+
+-- a word and the words behind it
+pub words-twice : (a : Annotation) →
+    list_any (λ i. any (eqb (get_or a.words i 0)) (drop (i + 1) (words_of a))) (range_with_len 0 (a.count - 0)) ≡ repeats eqb (words_of a)
+words-twice a =
+    any-range
+    (λ i. any (eqb (get_or a.words i 0)) (drop (i + 1) (words_of a)))
+    (λ k. repeats eqb (drop k (words_of a)))
+    a.count
+    (λ k h. repeats-step eqb (words_of a) k 0 (omega (arith, length-words_of a)) ∙ rw (word-of a k h))
+    (λ k h. repeats-end eqb (words_of a) k (omega (arith, length-words_of a)))
+    0
+
+-- the words of one among those of another
+pub words-all : (a : Annotation) (ws : List ℕ) →
+    list_all (λ i. any (eqb (get_or a.words i 0)) ws) (range_with_len 0 (a.count - 0)) ≡ all (λ w. any (eqb w) ws) (words_of a)
+words-all a ws =
+    all-range
+    (λ i. any (eqb (get_or a.words i 0)) ws)
+    (λ k. all (λ w. any (eqb w) ws) (drop k (words_of a)))
+    a.count
+    (λ k h. all-step (λ w. any (eqb w) ws) (words_of a) k 0 (omega (arith, length-words_of a)) ∙ rw (word-of a k h))
+    (λ k h. all_end (λ w. any (eqb w) ws) (words_of a) k (omega (arith, length-words_of a)))
+    0
+
 pub length-rows_of : (a : Annotation) → length (rows_of a) ≡ a.count
 unfolding rows_of of_names
 length-rows_of a = length-tabulate (λ i. two_words (get_or a.words i 0) (get_or a.doms i 0)) a.count
@@ -35,6 +75,20 @@ length-rows_of a = length-tabulate (λ i. two_words (get_or a.words i 0) (get_or
 pub row_of : (a : Annotation) (i : ℕ) → i < a.count → get_or (rows_of a) i [] ≡ row_at a i
 unfolding rows_of of_names row_at
 row_of a i h = get_d_tabulate (λ i. two_words (get_or a.words i 0) (get_or a.doms i 0)) a.count i [] h
+
+-- rows, place by place
+pub rows-all : (a b : Annotation) → a.count ≡ b.count →
+    list_all (λ i. same_list eqb (row_at a i) (row_at b i)) (range_with_len 0 (a.count - 0)) ≡ same_list (same_list eqb) (rows_of a) (rows_of b)
+rows-all a b e =
+    all-range
+    (λ i. same_list eqb (row_at a i) (row_at b i))
+    (λ k. same_list (same_list eqb) (drop k (rows_of a)) (drop k (rows_of b)))
+    a.count
+    (λ k h.
+    same_step (same_list eqb) (rows_of a) (rows_of b) k [] (omega (arith, length-rows_of a)) (omega (arith, length-rows_of b))
+    ∙ rw (row_of a k h, row_of b k (omega arith)))
+    (λ k h. same_end (same_list eqb) (rows_of a) (rows_of b) k (omega (arith, length-rows_of a)) (omega (arith, length-rows_of b)))
+    0
 
 -- the words of the rows are the words
 first-words : (a : Annotation) → map (λ (u : Resource). u.word) (map resource_of (rows_of a)) ≡ words_of a
@@ -103,6 +157,10 @@ kind-of (suc (suc (suc (suc zero)))) rows = refl
 kind-of (suc (suc (suc (suc (suc zero))))) rows = refl
 kind-of (suc (suc (suc (suc (suc (suc zero)))))) rows = refl
 kind-of (suc (suc (suc (suc (suc (suc (suc k))))))) rows = rw (le-ltb (suc (suc (suc (suc (suc (suc (suc k))))))) 6 (omega arith))
+
+pub kind-least : (k : ℕ) → min k 6 ≡ kind_in k
+unfolding kind_in
+kind-least k = by (ltb k 6) (λ e. rw e (omega (arith, ltb-true k 6 e))) (λ e. rw e (omega (arith, ltb-false k 6 e)))
 
 as-kind : (k : ℕ) (rows : List (List ℕ)) → annotation_as k rows ≡ annotation_as (kind_in k) rows
 unfolding annotation_as kind_in
@@ -185,6 +243,33 @@ only-word a =
 pub annotation-of : (t : Annotations) (i : ℕ) (d : AnnotationOf Resource) → i < t.count → get_or (of_annotations t) i d ≡ annotation_of (get_or t.items i zero_annotation)
 unfolding of_annotations
 annotation-of t i d h = get_d-places annotation_of zero_annotation t.items t.count i d h
+
+-- a test of the annotations from a place on
+pub annotations-any : (f : AnnotationOf Resource → Bool) (t : Annotations) (from : ℕ) →
+    list_any (λ j. f (annotation_of (get_or t.items j zero_annotation))) (range_with_len from (t.count - from)) ≡ any f (drop from (of_annotations t))
+annotations-any f t from =
+    let d = annotation_of zero_annotation in
+    any-range
+    (λ j. f (annotation_of (get_or t.items j zero_annotation)))
+    (λ k. any f (drop k (of_annotations t)))
+    t.count
+    (λ k h. any_step f (of_annotations t) k d (omega (arith, length-of_annotations t)) ∙ rw (annotation-of t k d h))
+    (λ k h. any-end f (of_annotations t) k (omega (arith, length-of_annotations t)))
+    from
+
+-- an annotation and those behind it
+pub annotations-twice : (t : Annotations) →
+    list_any (λ i. any (same_annotation (annotation_of (get_or t.items i zero_annotation))) (drop (i + 1) (of_annotations t))) (range_with_len 0 (t.count - 0))
+    ≡ repeats same_annotation (of_annotations t)
+annotations-twice t =
+    let d = annotation_of zero_annotation in
+    any-range
+    (λ i. any (same_annotation (annotation_of (get_or t.items i zero_annotation))) (drop (i + 1) (of_annotations t)))
+    (λ k. repeats same_annotation (drop k (of_annotations t)))
+    t.count
+    (λ k h. repeats-step same_annotation (of_annotations t) k d (omega (arith, length-of_annotations t)) ∙ rw (annotation-of t k d h))
+    (λ k h. repeats-end same_annotation (of_annotations t) k (omega (arith, length-of_annotations t)))
+    0
 
 -- MakeList, whatever the rows
 pub no_rows : (words doms : List ℕ) → annotation_of (record { kind = 0; count = 0; words = words; doms = doms }) ≡ annotation_of zero_annotation

@@ -10,137 +10,83 @@ ghost use Rattle.repeats.specs.Repeats.{words_of, rows_of, row_at, repeats_word,
 
 use records::{Annotation, Annotations};
 
-// The word at i; 0 past the array.
-fn word_at(a: Annotation, i: usize) -> u8
-    ensures { result ≡ get_or a.words i 0 }
+// The byte at i; 0 past the array.
+fn byte_at(bytes: &[u8; 15], i: usize) -> u8
+    ensures { result ≡ get_or bytes.now i 0 }
 {
-    if i < 15 { a.words[i] } else { 0 }
+    bytes.get(i).copied().unwrap_or(0)
 }
 
-fn dom_at(a: Annotation, i: usize) -> u8
-    ensures { result ≡ get_or a.doms i 0 }
+// Whether w is among the words from place `from` on.
+fn has_word_from(a: &Annotation, w: u8, from: usize) -> bool
+    ensures { result ≡ any (eqb w) (drop from (words_of a.now)) }
 {
-    if i < 15 { a.doms[i] } else { 0 }
-}
-
-// Whether w is among the words from place j on. The word is taken here, since a call would copy the annotation at each place.
-fn has_word_from(a: Annotation, w: u8, from: usize) -> bool
-    ensures { result ≡ any (eqb w) (drop from (words_of a)) }
-{
-    let mut j = from;
-    while j < a.count {
-        let v = if j < 15 { a.words[j] } else { 0 };
-        if w == v {
-            return true;
-        }
-        j += 1;
-    }
-    false
+    (from..a.count).any(|j| w == byte_at(&a.words, j))
 }
 
 fn has_word_twice(a: Annotation) -> bool
     ensures { result ≡ repeats eqb (words_of a) }
 {
-    let mut i = 0;
-    while i < a.count {
-        if has_word_from(a, word_at(a, i), i + 1) {
-            return true;
-        }
-        i += 1;
-    }
-    false
+    (0..a.count).any(|i| has_word_from(&a, byte_at(&a.words, i), i + 1))
 }
 
 fn is_associate(kind: usize) -> bool
     ensures { result ≡ (eqb kind 1 || eqb kind 2) }
 {
-    if kind == 1 { true } else { kind == 2 }
+    kind == 1 || kind == 2
 }
 
 // Whether a word stands twice within an associate, whatever the doms.
 pub fn repeats_word(a: Annotation) -> bool
     ensures { result ≡ repeats_word (annotation_of a) }
 {
-    if is_associate(a.kind) {
-        has_word_twice(a)
-    } else {
-        false
-    }
+    is_associate(a.kind) && has_word_twice(a)
 }
 
 // Whether each word of a is one of b.
-fn is_within(a: Annotation, b: Annotation) -> bool
-    ensures { result ≡ all (λ w. any (eqb w) (words_of b)) (words_of a) }
+fn is_within(a: &Annotation, b: &Annotation) -> bool
+    ensures { result ≡ all (λ w. any (eqb w) (words_of b.now)) (words_of a.now) }
 {
-    let mut i = 0;
-    while i < a.count {
-        if has_word_from(b, word_at(a, i), 0) {
-            i += 1;
-        } else {
-            return false;
-        }
-    }
-    true
+    (0..a.count).all(|i| has_word_from(b, byte_at(&a.words, i), 0))
 }
 
-fn is_same_row(a: Annotation, b: Annotation, i: usize) -> bool
-    ensures { result ≡ same_list eqb (row_at a i) (row_at b i) }
+fn is_same_row(a: &Annotation, b: &Annotation, i: usize) -> bool
+    ensures { result ≡ same_list eqb (row_at a.now i) (row_at b.now i) }
 {
-    if word_at(a, i) == word_at(b, i) {
-        dom_at(a, i) == dom_at(b, i)
-    } else {
-        false
-    }
+    byte_at(&a.words, i) == byte_at(&b.words, i) && byte_at(&a.doms, i) == byte_at(&b.doms, i)
 }
 
 // Whether two Inherits list the same names in the same order.
-fn is_same_rows(a: Annotation, b: Annotation) -> bool
-    ensures { result ≡ same_list (same_list eqb) (rows_of a) (rows_of b) }
+fn is_same_rows(a: &Annotation, b: &Annotation) -> bool
+    ensures { result ≡ same_list (same_list eqb) (rows_of a.now) (rows_of b.now) }
 {
-    let n = a.count;
-    if n == b.count {
-        let mut i = 0;
-        while i < n {
-            if is_same_row(a, b, i) {
-                i += 1;
-            } else {
-                return false;
-            }
-        }
-        true
-    } else {
-        false
-    }
+    a.count == b.count && (0..a.count).all(|i| is_same_row(a, b, i))
 }
 
 // The word of the only row; 255 where there is none.
-fn only_word(a: Annotation) -> u8
-    ensures { result ≡ word_of_rows (rows_of a) }
+fn only_word(a: &Annotation) -> u8
+    ensures { result ≡ word_of_rows (rows_of a.now) }
 {
-    if a.count == 0 { 255 } else { word_at(a, 0) }
+    if a.count == 0 { 255 } else { a.words[0] }
 }
 
 // From 6 on a kind is NoDerive.
-fn kind_of(a: Annotation) -> usize
-    ensures { result ≡ kind_in a.kind }
+fn kind_of(a: &Annotation) -> usize
+    ensures { result ≡ kind_in a.now.kind }
 {
-    if a.kind < 6 { a.kind } else { 6 }
+    a.kind.min(6)
 }
 
 // Whether two associates have the same words, in any order and whatever the doms.
-fn is_same_set(a: Annotation, b: Annotation) -> bool
-    ensures { result ≡ (all (λ w. any (eqb w) (words_of b)) (words_of a) && all (λ w. any (eqb w) (words_of a)) (words_of b)) }
+fn is_same_set(a: &Annotation, b: &Annotation) -> bool
+    ensures { result ≡ (all (λ w. any (eqb w) (words_of b.now)) (words_of a.now) && all (λ w. any (eqb w) (words_of a.now)) (words_of b.now)) }
 {
-    if is_within(a, b) {
-        is_within(b, a)
-    } else {
-        false
-    }
+    is_within(a, b) && is_within(b, a)
 }
 
 // Whether two annotations of kind k are equal.
-fn is_same_content(k: usize, a: Annotation, b: Annotation) -> bool
-    ensures { result ≡ same_content k a b }
+fn is_same_content(k: usize, a: &Annotation, b: &Annotation) -> bool
+    ensures { result ≡ same_content k a.now b.now }
 {
     if is_associate(k) {
         return is_same_set(a, b);
@@ -157,20 +103,15 @@ fn is_same_content(k: usize, a: Annotation, b: Annotation) -> bool
 fn is_worded(kind: usize) -> bool
     ensures { result ≡ (eqb kind 3 || eqb kind 5) }
 {
-    if kind == 3 { true } else { kind == 5 }
+    kind == 3 || kind == 5
 }
 
 // Whether two annotations are equal, which those of unlike kinds are not.
 pub fn is_same_annotation(a: Annotation, b: Annotation) -> bool
     ensures { result ≡ same_annotation (annotation_of a) (annotation_of b) }
 {
-    let k = kind_of(a);
-    let l = kind_of(b);
-    if k == l {
-        is_same_content(k, a, b)
-    } else {
-        false
-    }
+    let k = kind_of(&a);
+    k == kind_of(&b) && is_same_content(k, &a, &b)
 }
 
 fn no_annotation() -> Annotation
@@ -185,68 +126,39 @@ fn no_annotation() -> Annotation
 }
 
 // The annotation at i; MakeList past the array.
-fn annotation_at(t: Annotations, i: usize) -> Annotation
-    ensures { annotation_of result ≡ annotation_of (get_or t.items i zero_annotation) }
+fn annotation_at(t: &Annotations, i: usize) -> Annotation
+    ensures { annotation_of result ≡ annotation_of (get_or t.now.items i zero_annotation) }
 {
-    if i < 12 {
-        let x = t.items[i];
-        return x;
+    match t.items.get(i) {
+        Some(x) => *x,
+        None => no_annotation(),
     }
-    no_annotation()
 }
 
-// Whether x is equal to one of the annotations from place j on, which are not copied at each place either.
-fn has_annotation_from(t: Annotations, x: Annotation, from: usize) -> bool
-    ensures { result ≡ any (same_annotation (annotation_of x)) (drop from (of_annotations t)) }
+// Whether x is equal to one of the annotations from place `from` on.
+fn has_annotation_from(t: &Annotations, x: Annotation, from: usize) -> bool
+    ensures { result ≡ any (same_annotation (annotation_of x)) (drop from (of_annotations t.now)) }
 {
-    let mut j = from;
-    while j < t.count {
-        let y = if j < 12 { t.items[j] } else { no_annotation() };
-        if is_same_annotation(x, y) {
-            return true;
-        }
-        j += 1;
-    }
-    false
+    (from..t.count).any(|j| is_same_annotation(x, annotation_at(t, j)))
 }
 
 // Whether two annotations of a type are equal.
 fn repeats_annotation(t: Annotations) -> bool
     ensures { result ≡ repeats same_annotation (of_annotations t) }
 {
-    let mut i = 0;
-    while i < t.count {
-        let x = annotation_at(t, i);
-        if has_annotation_from(t, x, i + 1) {
-            return true;
-        }
-        i += 1;
-    }
-    false
+    (0..t.count).any(|i| has_annotation_from(&t, annotation_at(&t, i), i + 1))
 }
 
 // Whether a word stands twice within one of the associates.
-fn has_repeated_word(t: Annotations) -> bool
-    ensures { result ≡ any repeats_word (of_annotations t) }
+fn has_repeated_word(t: &Annotations) -> bool
+    ensures { result ≡ any repeats_word (of_annotations t.now) }
 {
-    let mut i = 0;
-    while i < t.count {
-        let x = annotation_at(t, i);
-        if repeats_word(x) {
-            return true;
-        }
-        i += 1;
-    }
-    false
+    (0..t.count).any(|i| repeats_word(annotation_at(t, i)))
 }
 
 // Whether within a type a word stands twice in an associate, or an annotation twice.
 pub fn is_repeating(a: Annotations) -> bool
     ensures { result ≡ repeats_in (of_annotations a) }
 {
-    if has_repeated_word(a) {
-        true
-    } else {
-        repeats_annotation(a)
-    }
+    has_repeated_word(&a) || repeats_annotation(a)
 }

@@ -1,5 +1,5 @@
 -- Laws of a sheet.
-use Rattle.std.specs.Prelude.{Bool, true, false, List, [], ◌∷◌, ◌≡◌, refl, ℕ, ◌+◌, ◌*◌, ◌^◌, ◌≤◌, ◌<◌, ltb, length, drop}
+use Rattle.std.specs.Prelude.{Bool, true, false, List, [], ◌∷◌, Option, Some, None, ◌≡◌, refl, ℕ, ◌+◌, ◌*◌, ◌^◌, ◌≤◌, ◌<◌, ltb, length, drop}
 use Rattle.std.proofs.Common.{sym, ap, ◌∙◌, arith, le-leb, lt-ltb, length-drop, drop_of_length-le}
 use Rattle.std.proofs.lemmas.Bool.{lt-leb}
 use Rattle.std.proofs.Math.Pow
@@ -8,8 +8,7 @@ use Rattle.definitions.specs.Bits.{num, bits_of}
 use Rattle.definitions.specs.Checks.{bad_fill}
 use Rattle.definitions.specs.Reading.{sheet}
 use Rattle.definitions.specs.Parse.{next}
-use Rattle.bits.specs.declared.Read.{Read}
-use Rattle.bits.specs.declared.Read.TheVariants.{Value, Past}
+use Rattle.bits.specs.declared.Cursor.{Cursor}
 use Rattle.bits.specs.Reading.{read_at}
 use Rattle.bits.specs.ReadLaws.{read-in}
 use Rattle.bits.specs.NumberLaws.{length-bits_of}
@@ -41,9 +40,9 @@ unfolding bad_fill
 fill-short bs n e h = rw (← e, lt-leb 8 (length bs) (omega arith)) (any-num bs)
 
 -- what the last bits tell, read as one field
-abbrev pub fill_of : Read → Bool
-fill_of (Value v c) = ltb 0 v
-fill_of Past = true
+abbrev pub fill_of : Option (ℕ × Cursor) → Bool
+fill_of (Some (v, c)) = ltb 0 v
+fill_of None = true
 
 pub fill-read : (s : List ℕ) (p n : ℕ) → p + n ≡ 8 * length s → n < 8 → bad_fill (drop p (bits_of s)) ≡ fill_of (read_at (bits_of s) p n)
 fill-read s p n e h =

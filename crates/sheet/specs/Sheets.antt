@@ -1,10 +1,11 @@
 -- What the answers of the code mean, as the definitions' parsers give it.
-use Rattle.std.specs.Prelude.{Bool, cond, List, ℕ, eqb, length, drop}
+use Rattle.std.specs.Prelude.{Bool, List, Result, Ok, Err, ℕ, eqb, length, drop}
 use Rattle.definitions.specs.Parse.{Parsed, done, refused, Parser, ◌>>=◌, pure, allowed, counted}
 use Rattle.definitions.specs.Reading.{word, type_info, extension}
 use Rattle.definitions.specs.Records as records
+use Rattle.bits.specs.declared.Cursor.{Cursor}
+use Rattle.fields.specs.declared.Fault.{Fault}
 use Rattle.fields.specs.Fields.{fault_of}
-use Rattle.sheet.specs.declared.Opening.{Opening}
 
 unfoldable pub version : Parser ℕ
 version = allowed 4 (λ v. eqb v 1)
@@ -17,5 +18,7 @@ lists = do
   es ← counted 6 0 32 (extension (length ws))
   pure (record { words = ws; types = ts; extensions = es })
 
-abbrev pub of_opening : List Bool → Opening → Parsed ℕ
-of_opening bs r = cond r.ok (done 1 (drop r.next.at bs)) (refused (fault_of r.fault))
+-- the cursor behind the version stands for its number
+abbrev pub of_opening : List Bool → Result Cursor Fault → Parsed ℕ
+of_opening bs (Ok c) = done 1 (drop c.at bs)
+of_opening bs (Err r) = refused (fault_of r)

@@ -7,43 +7,19 @@ ghost use Rattle.definitions.specs.Checks.{bad_fill};
 ghost use Rattle.bits.specs.Reading.{Addressable};
 ghost use Rattle.sheet.specs.Sheets.{version, of_opening};
 
-use bits::{Cursor, Read};
+use bits::Cursor;
 use fields::Fault;
 
-// ok: the version is right, and the cursor is behind it. Else a fault.
-#[derive(Clone, Copy)]
-pub struct Opening {
-    pub ok: bool,
-    pub fault: Fault,
-    pub next: Cursor,
-}
-
-// A sheet begins with its version, which is 1 (FORMAT 2.2).
-pub fn read_version(s: &[u8], c: Cursor) -> Opening
+// A sheet begins with its version, which is 1 (FORMAT 2.2): the cursor behind it.
+pub fn read_version(s: &[u8], c: Cursor) -> Result<Cursor, Fault>
     requires { Addressable s.now }
     ensures { of_opening (bits_of s.now) result ≡ version (drop c.at (bits_of s.now)) }
 {
-    match reader::read_at(s, c, 4) {
-        Read::Value(v, next) => {
-            if v == 1 {
-                Opening {
-                    ok: true,
-                    fault: Fault::Past,
-                    next,
-                }
-            } else {
-                Opening {
-                    ok: false,
-                    fault: Fault::NotAllowed,
-                    next,
-                }
-            }
-        }
-        Read::Past => Opening {
-            ok: false,
-            fault: Fault::Past,
-            next: c,
-        },
+    let (v, next) = fields::read_field(s, c, 4)?;
+    if v == 1 {
+        Ok(next)
+    } else {
+        Err(Fault::NotAllowed)
     }
 }
 
@@ -63,7 +39,7 @@ pub fn is_bad_fill(s: &[u8], c: Cursor) -> bool
         return true;
     }
     match c.read(s, left) {
-        Read::Value(v, _) => 0 < v,
-        Read::Past => true,
+        Some((v, _)) => 0 < v,
+        None => true,
     }
 }

@@ -1,20 +1,21 @@
 -- Laws of the decoder: the lists that were read are those of a sheet, and the tests behind them.
-use Rattle.std.specs.Prelude.{Bool, true, false, cond, List, ◌≡◌, refl, ℕ, ◌/◌, ◌≤◌, ◌<◌, length, drop}
+use Rattle.std.specs.Prelude.{Bool, true, false, List, ◌≡◌, refl, ℕ, ◌/◌, ◌≤◌, ◌<◌, length, drop, Ok, Err}
 use mathlib.Core.List.Memᴰ
 use Rattle.std.proofs.Common.{sym, ap, ◌∙◌, subst, arith}
 use Rattle.lists.specs.Lists.{In}
-use Rattle.lists.specs.Tests.{never}
-use Rattle.lists.specs.Tabulating.{tabulate, tabulate-in}
+use Rattle.lists.specs.Tabulating.{tabulate-in}
 use Rattle.definitions.specs.Bits.{bits_of}
-use Rattle.definitions.specs.Parse.{Parsed, done, refused, next, pure}
+use Rattle.definitions.specs.Parse.{Parsed, done, refused}
 use Rattle.definitions.specs.Reading.{sheet}
 use Rattle.definitions.specs.Checks.{resource_bytes, self_bytes, bad_fill, bad_words, something_twice}
 use Rattle.definitions.specs.Map.{number_of}
-use Rattle.definitions.specs.Records.{TypeInfo, Sheet}
+use Rattle.definitions.specs.Records.{Sheet}
+use Rattle.definitions.specs.Answer as rules
 use Rattle.definitions.specs.Answer.{sheet_fault}
+use Rattle.fields.specs.declared.Fault.{Fault}
 use Rattle.fields.specs.Fields.{fault_of}
 use Rattle.line_laws.specs.Reading.{read-is-within}
-use Rattle.decoding.specs.Decoding.{turned_back, tested, decoded}
+use Rattle.decoding.specs.Decoding.{turned_back, decoded}
 use Rattle.decoding.specs.DecodingLaws.{was_read, not-read, seven, five, six}
 use Rattle.sheet_words.specs.Words.{Telling, telling_of}
 use Rattle.sheet_keys.specs.Keys.{name_of_key}
@@ -23,7 +24,9 @@ use Rattle.sheet_draft.specs.Drafted.{Entered}
 use Rattle.sheet_order.specs.Entries.{LowKeys}
 use Rattle.sheet_extensions.specs.Records.{records_in}
 use Rattle.sheet_decode.specs.Lists.{Tables, Seen, seen, of_lists, Kept}
-use Rattle.sheet_decode.specs.Decodes.{Whole, Decodes}
+use Rattle.answers.specs.declared.Refusal.{Refusal}
+use Rattle.answers.specs.Answers.{alone, refusal_of}
+use Rattle.sheet_decode.specs.Decodes.{Whole, Back}
 use Rattle.sheet_decode.specs.declared.Lists.{Lists}
 use Rattle.sheet_decode.specs.declared.Decoding.{Decoding}
 
@@ -40,20 +43,20 @@ pub record Listed (bytes d t : List ℕ) (l : Lists) : Type 0 where
   pub types : types_in l.width (bits_of bytes) d l.count ≡ s.types
   pub extensions : records_in t l.extensions ≡ s.extensions
 
-module _ (bytes d t : List ℕ) (l : Lists) (e : of_lists (bits_of bytes) d t l ≡ seen (sheet (bits_of bytes))) where
-  abbrev here : Seen
-  here = record {
+module _ (bytes d t : List ℕ) where
+  abbrev here : Lists → Seen
+  here l = record {
     telling = record { count = l.width; bad = l.bad; resource = l.resource; own = l.own };
     types = types_in l.width (bits_of bytes) d l.count;
     extensions = records_in t l.extensions;
   }
 
-  pub listed : l.ok ≡ true → Listed bytes d t l
-  listed ok = go (sheet (bits_of bytes)) refl (rw ok at e)
+  pub listed : (l : Lists) → of_lists (bits_of bytes) d t (Ok l) ≡ seen (sheet (bits_of bytes)) → Listed bytes d t l
+  listed l e = go (sheet (bits_of bytes)) refl e
     where
-      go : (x : Parsed Sheet) → sheet (bits_of bytes) ≡ x → done here (drop l.at (bits_of bytes)) ≡ seen x → Listed bytes d t l
+      go : (x : Parsed Sheet) → sheet (bits_of bytes) ≡ x → done (here l) (drop l.at (bits_of bytes)) ≡ seen x → Listed bytes d t l
       go (done s rest) q f =
-          let w : here ≡ record { telling = telling_of s.words; types = s.types; extensions = s.extensions } = cc in
+          let w : here l ≡ record { telling = telling_of s.words; types = s.types; extensions = s.extensions } = cc in
           let r : drop l.at (bits_of bytes) ≡ rest = cc in
           let v : record { count = l.width; bad = l.bad; resource = l.resource; own = l.own } ≡ telling_of s.words = ap (λ (z : Seen). z.telling) w in
           record {
@@ -68,12 +71,12 @@ module _ (bytes d t : List ℕ) (l : Lists) (e : of_lists (bits_of bytes) d t l 
           }
       go (refused r) q f = let z : ◌≡◌ {A = ℕ} 0 1 = cc in absurd (omega arith)
 
-  pub not_listed : l.ok ≡ false → decoded bytes ≡ turned_back (sheet_fault (fault_of l.fault))
-  not_listed ok = go (sheet (bits_of bytes)) refl (rw ok at e)
+  pub not_listed : (n : Fault) → of_lists (bits_of bytes) d t (Err n) ≡ seen (sheet (bits_of bytes)) → decoded bytes ≡ turned_back (sheet_fault (fault_of n))
+  not_listed n e = go (sheet (bits_of bytes)) refl e
     where
-      go : (x : Parsed Sheet) → sheet (bits_of bytes) ≡ x → refused (fault_of l.fault) ≡ seen x → decoded bytes ≡ turned_back (sheet_fault (fault_of l.fault))
+      go : (x : Parsed Sheet) → sheet (bits_of bytes) ≡ x → refused (fault_of n) ≡ seen x → decoded bytes ≡ turned_back (sheet_fault (fault_of n))
       go (done s rest) q f = let z : ◌≡◌ {A = ℕ} 0 1 = cc in absurd (omega arith)
-      go (refused r) q f = let w : fault_of l.fault ≡ r = cc in not-read bytes r q ∙ ap (λ f. turned_back (sheet_fault f)) (sym w)
+      go (refused r) q f = let w : fault_of n ≡ r = cc in not-read bytes r q ∙ ap (λ f. turned_back (sheet_fault f)) (sym w)
 
 -- ---- keys
 
@@ -92,11 +95,10 @@ low bytes d t l h =
 
 -- ---- answers
 
-pub back_as : (bytes d entries t : List ℕ) (r : Decoding) (n : ℕ) → (r.ok ≡ false) × (r.refusal ≡ n) → decoded bytes ≡ turned_back n → Decodes bytes d entries t r
-back_as bytes d entries t r n h e = record {
-  whole = λ ok. never ok h.0;
-  back = λ ok. e ∙ ap turned_back (sym h.1);
-}
+pub back_as : (bytes : List ℕ) (r : Refusal) (n : ℕ) → refusal_of r ≡ alone n → decoded bytes ≡ turned_back n → Back bytes r
+back_as bytes r n h e =
+    let k : (refusal_of r).number ≡ n = ap (λ (a : rules.Answer). a.number) h in
+    record { number = e ∙ ap turned_back (sym k); alone = h ∙ ap alone (sym k) }
 
 module _ (bytes d t : List ℕ) (l : Lists) (h : Listed bytes d t l) where
   abbrev rest : List Bool
@@ -113,23 +115,20 @@ module _ (bytes d t : List ℕ) (l : Lists) (h : Listed bytes d t l) where
       pub twice-back : something_twice h.s ≡ true → decoded bytes ≡ turned_back 6
       twice-back c = was_read bytes h.s rest h.read ∙ six h.s rest f (sym h.bad ∙ g) c
 
-      pub passes : something_twice h.s ≡ false → length bytes ≤ 40960 → (entries : List ℕ) → Entered d entries l.count → Kept (bits_of bytes) d t l → (r : Decoding)
-          → r.width ≡ l.width → r.count ≡ l.count → r.extensions ≡ l.extensions → r.resource ≡ l.resource → r.own ≡ l.own → r.ok ≡ true → Decodes bytes d entries t r
-      passes c short entries en k r w n x a b ok = record {
-        whole = λ z. record {
-          s = h.s;
-          holds = record { rest = rest; short = short; read = h.read; fill = f; words = sym h.bad ∙ g; once = c };
-          drafted = record {
-            few = omega (arith, n, k.count);
-            long = k.tables.draft;
-            types = rw (n, ← h.width) h.types;
-          };
-          notes = rw (n, ← h.width) k.notes;
-          entered = rw n en;
-          extensions = record { few = omega (arith, x, k.extensions); long = k.tables.catalogue; records = rw x h.extensions };
-          width = w ∙ h.width;
-          resource = a ∙ h.resource;
-          self = b ∙ h.own;
+      pub passes : something_twice h.s ≡ false → length bytes ≤ 40960 → (entries : List ℕ) → Entered d entries l.count → Tables d t → Kept (bits_of bytes) d l → (r : Decoding)
+          → r.width ≡ l.width → r.count ≡ l.count → r.extensions ≡ l.extensions → r.resource ≡ l.resource → r.own ≡ l.own → Whole bytes d entries t r
+      passes c short entries en m k r w n x a b = record {
+        s = h.s;
+        holds = record { rest = rest; short = short; read = h.read; fill = f; words = sym h.bad ∙ g; once = c };
+        drafted = record {
+          few = omega (arith, n, k.count);
+          long = m.draft;
+          types = rw (n, ← h.width) h.types;
         };
-        back = λ z. never ok z;
+        notes = rw (n, ← h.width) k.notes;
+        entered = rw n en;
+        extensions = record { few = omega (arith, x, k.extensions); long = m.catalogue; records = rw x h.extensions };
+        width = w ∙ h.width;
+        resource = a ∙ h.resource;
+        self = b ∙ h.own;
       }

@@ -1,5 +1,5 @@
 -- What the decoder answers.
-use Rattle.std.specs.Prelude.{Bool, true, false, List, ◌≡◌, ℕ, ◌≤◌, length}
+use Rattle.std.specs.Prelude.{List, ◌≡◌, ℕ, ◌≤◌, length, Result, MatchResult}
 use Rattle.definitions.specs.Bits.{bits_of}
 use Rattle.definitions.specs.Checks.{resource_bytes, self_bytes}
 use Rattle.definitions.specs.Map.{number_of}
@@ -9,6 +9,9 @@ use Rattle.decoding.specs.Decoding.{turned_back, decoded}
 use Rattle.sheet_draft.specs.Drafted.{Drafted, Entered}
 use Rattle.sheet_types.specs.Rows.{NotesRead}
 use Rattle.sheet_extensions.specs.Records.{records_in}
+use Rattle.answers.specs.declared.Refusal.{Refusal}
+use Rattle.answers.specs.Answers as answers
+use Rattle.answers.specs.Answers.{alone, refusal_of}
 use Rattle.sheet_decode.specs.declared.Decoding.{Decoding}
 
 -- The extension records of the sheet stand in the catalogue, n of them.
@@ -29,7 +32,11 @@ pub record Whole (bytes d entries t : List ℕ) (r : Decoding) : Type 0 where
   pub resource : r.resource ≡ number_of resource_bytes s.words
   pub self : r.own ≡ number_of self_bytes s.words
 
--- The whole sheet, or the number of the first test that holds of the bytes (FORMAT 7.3).
-pub record Decodes (bytes d entries t : List ℕ) (r : Decoding) : Type 0 where
-  pub whole : r.ok ≡ true → Whole bytes d entries t r
-  pub back : r.ok ≡ false → decoded bytes ≡ turned_back r.refusal
+-- The refusal has the number of the first test that holds of the bytes, and nothing comes with it.
+pub record Back (bytes : List ℕ) (e : Refusal) : Type 0 where
+  pub number : decoded bytes ≡ turned_back (answers.number_of e)
+  pub alone : refusal_of e ≡ alone (answers.number_of e)
+
+-- The whole sheet, or that refusal (FORMAT 7.3).
+abbrev pub Decodes : List ℕ → List ℕ → List ℕ → List ℕ → Result Decoding Refusal → Type 0
+Decodes bytes d entries t r = MatchResult r (λ n. Whole bytes d entries t n) (λ e. Back bytes e)

@@ -1,22 +1,19 @@
 -- Laws of the lists: each is read behind the one before.
-use Rattle.std.specs.Prelude.{Bool, true, false, cond, List, ◌≡◌, refl, ℕ, ◌≤◌, ◌<◌, eqb, length, drop}
+use Rattle.std.specs.Prelude.{Bool, List, ◌≡◌, refl, ℕ, length, drop, Ok, Err}
 use Rattle.std.proofs.Math.Path.{sym}
-use Rattle.std.proofs.Common.{ap, ◌∙◌, subst, arith}
+use Rattle.std.proofs.Common.{ap, ◌∙◌}
 use Rattle.definitions.specs.Parse as parse
 use Rattle.definitions.specs.Parse.{Parsed, done, refused, next, ◌>>=◌, pure, counted}
 use Rattle.definitions.specs.Reading.{word, type_info, extension, sheet}
-use Rattle.definitions.specs.Records.{TypeInfo, Extension, Sheet}
+use Rattle.definitions.specs.Records.{TypeInfo, Extension}
+use Rattle.bits.specs.declared.Cursor.{Cursor}
 use Rattle.fields.specs.declared.Fault.{Fault}
 use Rattle.fields.specs.Fields.{fault_of}
-use Rattle.sheet.specs.declared.Opening.{Opening}
 use Rattle.sheet.specs.Sheets.{version, lists, of_opening}
 use Rattle.sheet.specs.SheetLaws.{sheet-parts}
 use Rattle.sheet_words.specs.Words.{Telling, telling_of, told, of_words_read}
 use Rattle.sheet_words.specs.declared.WordsRead.{WordsRead}
-use Rattle.sheet_types.specs.Rows.{NotesRead}
-use Rattle.sheet_types.specs.RowLaws.{read_none}
-use Rattle.sheet_decode.specs.Lists.{Tables, telling_in, Seen, seen, records, of_lists, Kept}
-use Rattle.sheet_decode.specs.declared.Lists.{Lists}
+use Rattle.sheet_decode.specs.Lists.{telling_in, Seen, seen, records}
 
 -- ---- the sheet
 
@@ -47,16 +44,17 @@ sheet-seen bs = ap seen (sheet-parts bs) ∙ go (version bs)
     go (refused r) = refl
 
 -- where the version, or a word, is refused; and where they are read
-module _ (bs : List Bool) (o : Opening) (e : of_opening bs o ≡ version bs) where
-  pub no-version : o.ok ≡ false → refused (fault_of o.fault) ≡ seen (sheet bs)
-  no-version q = sym (sheet-seen bs ∙ rw (← e, q))
+module _ (bs : List Bool) where
+  pub no-version : (n : Fault) → of_opening bs (Err n) ≡ version bs → refused (fault_of n) ≡ seen (sheet bs)
+  no-version n e = sym (sheet-seen bs ∙ rw (← e))
 
-  module _ (q : o.ok ≡ true) (w : WordsRead) (f : of_words_read bs w ≡ told (counted 8 2 200 word (drop o.next.at bs))) where
-    pub no_words : w.ok ≡ false → refused (fault_of w.fault) ≡ seen (sheet bs)
-    no_words b = sym (sheet-seen bs ∙ rw (← e, q, ← f, b))
+  module _ (c : Cursor) (e : of_opening bs (Ok c) ≡ version bs) where
+    pub no_words : (n : Fault) → of_words_read bs (Err n) ≡ told (counted 8 2 200 word (drop c.at bs)) → refused (fault_of n) ≡ seen (sheet bs)
+    no_words n f = sym (sheet-seen bs ∙ rw (← e, ← f))
 
-    pub words-read : w.ok ≡ true → {x : Parsed Seen} → x ≡ records (telling_in w) (drop w.at bs) → x ≡ seen (sheet bs)
-    words-read b g = g ∙ sym (sheet-seen bs ∙ rw (← e, q, ← f, b))
+    pub words-read : (w : WordsRead) → of_words_read bs (Ok w) ≡ told (counted 8 2 200 word (drop c.at bs)) →
+        {x : Parsed Seen} → x ≡ records (telling_in w) (drop w.at bs) → x ≡ seen (sheet bs)
+    words-read w f g = g ∙ sym (sheet-seen bs ∙ rw (← e, ← f))
 
 -- the same of the lists behind
 module _ (w : Telling) (cs : List Bool) where
@@ -73,20 +71,3 @@ module _ (w : Telling) (cs : List Bool) where
         done (record { telling = w; types = ts; extensions = es }) left ≡ records w cs
     unfolding records
     records-read es left f = sym (rw (← e, ← f))
-
--- ---- nothing read
-
-abbrev Nothing : Lists → Fault → Type 0
-Nothing r f = (r.ok ≡ false) × (r.fault ≡ f) × (r.width ≡ 0) × (r.count ≡ 0) × (r.extensions ≡ 0)
-
-pub unread-is : (bs : List Bool) (d t : List ℕ) (r : Lists) (n : Fault) → Nothing r n → of_lists bs d t r ≡ refused (fault_of n)
-unread-is bs d t r n h = rw (h.0, h.1)
-
-pub unread-kept : (bs : List Bool) (d t : List ℕ) (r : Lists) (n : Fault) → Nothing r n → Tables d t → Kept bs d t r
-unread-kept bs d t r n h k = record {
-  tables = k;
-  width = omega (arith, h.2);
-  count = omega (arith, h.3);
-  extensions = omega (arith, h.4);
-  notes = subst (NotesRead r.width bs d) (sym h.3) (read_none r.width bs d);
-}

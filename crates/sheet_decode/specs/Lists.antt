@@ -1,8 +1,9 @@
 -- What the decoder reads: the lists of a sheet, of the words no more than is asked later.
-use Rattle.std.specs.Prelude.{Bool, cond, List, ◌≡◌, ℕ, ◌≤◌, length, drop}
+use Rattle.std.specs.Prelude.{Bool, List, ◌≡◌, ℕ, ◌≤◌, length, drop, Result, Ok, Err}
 use Rattle.definitions.specs.Parse.{Parsed, done, refused, Parser, next, ◌>>=◌, pure, counted}
 use Rattle.definitions.specs.Reading.{type_info, extension}
 use Rattle.definitions.specs.Records.{TypeInfo, Extension, Sheet}
+use Rattle.fields.specs.declared.Fault.{Fault}
 use Rattle.fields.specs.Fields.{fault_of}
 use Rattle.sheet_draft.specs.Draft.{types_in}
 use Rattle.sheet_types.specs.Rows.{NotesRead}
@@ -38,22 +39,20 @@ records w = do
   pure (record { telling = w; types = ts; extensions = es })
 
 -- An answer as a parser's, for the bits of a sheet, the draft and the catalogue.
-abbrev pub of_lists : List Bool → List ℕ → List ℕ → Lists → Parsed Seen
-of_lists bs d t r =
-    cond r.ok
-    (done
+abbrev pub of_lists : List Bool → List ℕ → List ℕ → Result Lists Fault → Parsed Seen
+of_lists bs d t (Ok l) =
+    done
     (record {
-      telling = record { count = r.width; bad = r.bad; resource = r.resource; own = r.own };
-      types = types_in r.width bs d r.count;
-      extensions = records_in t r.extensions;
+      telling = record { count = l.width; bad = l.bad; resource = l.resource; own = l.own };
+      types = types_in l.width bs d l.count;
+      extensions = records_in t l.extensions;
     })
-    (drop r.at bs))
-    (refused (fault_of r.fault))
+    (drop l.at bs)
+of_lists bs d t (Err r) = refused (fault_of r)
 
--- Tables keep their sizes, the counts are those that a sheet can have, and annotations and marks can be read again.
-pub record Kept (bs : List Bool) (d t : List ℕ) (r : Lists) : Type 0 where
-  pub tables : Tables d t
-  pub width : r.width ≤ 200
-  pub count : r.count ≤ 64
-  pub extensions : r.extensions ≤ 32
-  pub notes : NotesRead r.width bs d r.count
+-- The counts are those that a sheet can have, and annotations and marks can be read again.
+pub record Kept (bs : List Bool) (d : List ℕ) (l : Lists) : Type 0 where
+  pub width : l.width ≤ 200
+  pub count : l.count ≤ 64
+  pub extensions : l.extensions ≤ 32
+  pub notes : NotesRead l.width bs d l.count

@@ -1,14 +1,14 @@
 -- The extension records that stand in a catalogue, and what the code's answers mean.
-use Rattle.std.specs.Prelude.{Bool, cond, List, ◌≡◌, ℕ, ◌+◌, ◌*◌, ◌/◌, ◌%◌, ◌≤◌, ◌<◌, length, drop, get_or, set}
+use Rattle.std.specs.Prelude.{Bool, List, ◌≡◌, ℕ, ◌+◌, ◌*◌, ◌/◌, ◌%◌, ◌≤◌, ◌<◌, length, get_or, set, Result, IfOk}
 use Rattle.lists.specs.Tabulating.{tabulate}
-use Rattle.definitions.specs.Parse.{Parsed, done, refused, next, pure}
+use Rattle.definitions.specs.Parse.{Parsed, next, pure}
 use Rattle.definitions.specs.Records as records
-use Rattle.fields.specs.Fields.{fault_of}
+use Rattle.bits.specs.declared.Cursor.{Cursor}
+use Rattle.fields.specs.declared.Fault.{Fault}
+use Rattle.fields.specs.Fields.{of_parsed}
 use Rattle.sheet_keys.specs.Keys.{name_of_key, names_from}
-use Rattle.sheet_notes.specs.declared.Skip.{Skip}
 use Rattle.sheet_notes.specs.Notes.{of_skip}
 use Rattle.catalogue.specs.Layout.{extension_key_at, extension_count_at}
-use Rattle.sheet_extensions.specs.declared.ExtensionsRead.{ExtensionsRead}
 
 -- Record e: its name and word out of its key, and the parents that it adds (FORMAT 2.10).
 unfoldable pub record_in : List ℕ → ℕ → records.Extension
@@ -38,14 +38,13 @@ pub record KeptRecords (e : ℕ) (old new : List ℕ) : Type 0 where
   pub parents : (j : ℕ) → j < 8 * e → get_or new (768 + j) 0 ≡ get_or old (768 + j) 0
 
 -- A record that was read has few parents.
-abbrev pub FewHere : List ℕ → ℕ → Skip → Type 0
-FewHere t e (Skip.At c) = extension_count_at t e ≤ 8
-FewHere t e (Skip.Refused r) = Unit {0}
+abbrev pub FewHere : List ℕ → ℕ → Result Cursor Fault → Type 0
+FewHere t e r = IfOk r (λ c. extension_count_at t e ≤ 8)
 
 -- An answer as a parser's: the record is that at e.
-abbrev pub of_record_read : List Bool → List ℕ → ℕ → Skip → Parsed records.Extension
+abbrev pub of_record_read : List Bool → List ℕ → ℕ → Result Cursor Fault → Parsed records.Extension
 of_record_read bs t e r = next (of_skip bs r) (λ x. pure (record_in t e))
 
 -- An answer as a parser's: the records are the first ones.
-abbrev pub of_extensions_read : List Bool → List ℕ → ExtensionsRead → Parsed (List records.Extension)
-of_extensions_read bs t r = cond r.ok (done (records_in t r.count) (drop r.at bs)) (refused (fault_of r.fault))
+abbrev pub of_extensions_read : List Bool → List ℕ → Result (ℕ × Cursor) Fault → Parsed (List records.Extension)
+of_extensions_read bs t = of_parsed (records_in t) bs

@@ -6,27 +6,27 @@ ghost use Rattle.definitions.specs.Bits.{bits_of};
 ghost use Rattle.definitions.specs.Parse.{field, between};
 ghost use Rattle.definitions.specs.Reading.{word_field};
 ghost use Rattle.bits.specs.Reading.{Addressable};
-ghost use Rattle.fields.specs.Fields.{of_field, of_byte};
+ghost use Rattle.fields.specs.Fields.{of_field};
 
 use bits::Cursor;
-use fields::{ByteRead, Fault, Field};
+use fields::{Fault, Parsed};
 
-fn between_in(s: &[u8], at: usize, n: usize, least: usize, most: usize) -> Field
+fn between_in(s: &[u8], at: usize, n: usize, least: usize, most: usize) -> Parsed<usize>
     requires { Addressable s.now × (0 < n) × (n ≤ 16) × (at / 8 + 4 ≤ length s.now) }
     ensures { of_field (bits_of s.now) result ≡ between n least most (drop at (bits_of s.now)) }
 {
     let v = sheet_window::window(s, at, n);
     if v < least {
-        return Field::Refused(Fault::NotAllowed);
+        return Err(Fault::NotAllowed);
     }
     if most < v {
-        return Field::Refused(Fault::NotAllowed);
+        return Err(Fault::NotAllowed);
     }
-    Field::At(v, Cursor { at: at + n })
+    Ok((v, Cursor { at: at + n }))
 }
 
 // A field of n bits from `least` to `most`.
-pub fn read_between(s: &[u8], c: Cursor, n: usize, least: usize, most: usize) -> Field
+pub fn read_between(s: &[u8], c: Cursor, n: usize, least: usize, most: usize) -> Parsed<usize>
     requires { Addressable s.now × (0 < n) × (n ≤ 16) }
     ensures { of_field (bits_of s.now) result ≡ between n least most (drop c.at (bits_of s.now)) }
 {
@@ -37,21 +37,21 @@ pub fn read_between(s: &[u8], c: Cursor, n: usize, least: usize, most: usize) ->
     fields::read_between(s, c, n, least, most)
 }
 
-fn word_in(s: &[u8], at: usize, limit: usize) -> ByteRead
+fn word_in(s: &[u8], at: usize, limit: usize) -> Parsed<u8>
     requires { Addressable s.now × (at / 8 + 4 ≤ length s.now) }
-    ensures { of_byte (bits_of s.now) result ≡ word_field limit (drop at (bits_of s.now)) }
+    ensures { of_field (bits_of s.now) result ≡ word_field limit (drop at (bits_of s.now)) }
 {
     let v = sheet_window::window(s, at, 8);
     if v < limit {
-        return ByteRead::At((v % 256) as u8, Cursor { at: at + 8 });
+        return Ok(((v % 256) as u8, Cursor { at: at + 8 }));
     }
-    ByteRead::Refused(Fault::NotAllowed)
+    Err(Fault::NotAllowed)
 }
 
 // The number of a word of the sheet, of which there are `limit` (FORMAT 2.5).
-pub fn read_word_field(s: &[u8], c: Cursor, limit: usize) -> ByteRead
+pub fn read_word_field(s: &[u8], c: Cursor, limit: usize) -> Parsed<u8>
     requires { Addressable s.now }
-    ensures { of_byte (bits_of s.now) result ≡ word_field limit (drop c.at (bits_of s.now)) }
+    ensures { of_field (bits_of s.now) result ≡ word_field limit (drop c.at (bits_of s.now)) }
 {
     let at = c.at;
     if at / 8 + 4 <= s.len() {

@@ -28,6 +28,12 @@ module _ {A : Type 0} (m : Parser A) where
   step-done zero bs rest h e = absurd (omega arith)
   step-done (suc n) bs rest h e = rw (sub-one (suc n), e)
 
+  -- the same where i of n are behind
+  pub step-next : (n i : ℕ) (bs rest : List Bool) → i < n → forget (m bs) ≡ done 0 rest → steps m (n - i) bs ≡ steps m (n - (i + 1)) rest
+  step-next n i bs rest h e =
+      let q : n - i - 1 ≡ n - (i + 1) = omega arith in
+      step-done (n - i) bs rest (omega arith) e ∙ ap (λ (k : ℕ). steps m k rest) q
+
   pub step-refused : (n : ℕ) (bs : List Bool) (r : parse.Fault) → 0 < n → forget (m bs) ≡ refused r → steps m n bs ≡ refused r
   unfolding steps
   step-refused zero bs r h e = absurd (omega arith)

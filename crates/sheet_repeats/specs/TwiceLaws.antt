@@ -1,9 +1,9 @@
 -- Laws of what stands twice.
-use Rattle.std.specs.Prelude.{Bool, true, false, ◌&&◌, ◌||◌, cond, ◌≡◌, refl, ℕ, ◌+◌, ◌-◌, ◌*◌, ◌/◌, ◌%◌, ◌≤◌, ◌<◌, ltb, length, take, drop}
+use Rattle.std.specs.Prelude.{Bool, true, false, ◌&&◌, ◌||◌, cond, ◌≡◌, refl, ℕ, ◌+◌, ◌-◌, ◌*◌, ◌/◌, ◌%◌, ◌≤◌, ◌<◌, length, take, drop}
 use Rattle.std.proofs.Math.Bool.{not}
 use mathlib.Core.List.Memᴰ
 use mathlib.Core.List.Permᴰ
-use mathlib.Core.List.{List, [], ◌∷◌, ◌++◌, map}
+use mathlib.Core.List.{List, [], ◌∷◌, map}
 use Rattle.std.proofs.Math.Path.{sym, ap, ap₂}
 use Rattle.std.proofs.Common.{◌∙◌, subst, eq-eqb, ne_eqb, eqb-true, lt-ltb, ltb-true}
 use native.Mathlib.Omega.{arith}
@@ -11,7 +11,7 @@ use Rattle.std.proofs.lemmas.Bool.{eqb-false}
 use Rattle.std.proofs.Math.Dec.{eqb}
 use Rattle.std.proofs.Math.ListN.{get_or}
 use Rattle.lists.specs.Lists.{In, Sorted, any, repeats, ascends, sort, same_list}
-use Rattle.lists.specs.Tests.{by, never, same_test, not_so, and_left, and_right, and_both, or-false-both, any_none, cons-elim}
+use Rattle.lists.specs.Tests.{by, never, same_test, and_left, and_right, and_both, or-false-both, any_none, cons-elim}
 use Rattle.lists.specs.Sorting.{sorted-imp, sorted-ascends, repeats-not, perm-sorted, sort-perm}
 use Rattle.lists.specs.Appending.{repeats-map, repeats-alike}
 use Rattle.lists.specs.Tabulating.{tabulate, tabulate-same, map-tabulate, length-tabulate, get_d_tabulate, tabulate-of}

@@ -24,11 +24,8 @@ fn has_name_twice(entries: &[u64; 64], n: usize) -> bool
     requires { (n ≤ 64) × (length entries.now ≡ 64) }
     ensures { result ≡ not (ascends entry_before (take n entries.now)) }
 {
-    let mut i: usize = 0;
-    while i + 1 < n {
-        if entries[i] / 64 < entries[i + 1] / 64 {
-            i += 1;
-        } else {
+    for i in 1..n {
+        if entries[i] / 64 <= entries[i - 1] / 64 {
             return true;
         }
     }
@@ -36,16 +33,15 @@ fn has_name_twice(entries: &[u64; 64], n: usize) -> bool
 }
 
 // Whether a key is that of one of the n extension records, from a place on.
+// Two loops as in `sheet_within`, over numbers got in another way: a closure for that is no shorter.
 fn has_key_from(t: &[u64; 1544], key: u64, from: usize, n: usize) -> bool
     requires { n ≤ 32 }
     ensures { result ≡ any (eqb key) (drop from (keys_in t.now n)) }
 {
-    let mut j = from;
-    while j < n {
+    for j in from..n {
         if key == catalogue::extension_key_at(t, j) {
             return true;
         }
-        j += 1;
     }
     false
 }
@@ -55,12 +51,10 @@ fn has_key_twice(t: &[u64; 1544], n: usize) -> bool
     requires { n ≤ 32 }
     ensures { result ≡ repeats eqb (keys_in t.now n) }
 {
-    let mut i: usize = 0;
-    while i < n {
+    for i in 0..n {
         if has_key_from(t, catalogue::extension_key_at(t, i), i + 1, n) {
             return true;
         }
-        i += 1;
     }
     false
 }
@@ -70,14 +64,12 @@ fn is_one_repeating(s: &[u8], limit: usize, d: &[u64; 704], n: usize) -> bool
     requires { Addressable s.now × (limit ≤ 255) × (n ≤ 64) × NotesRead limit (bits_of s.now) d.now n }
     ensures { result ≡ any type_repeats (types_in limit (bits_of s.now) d.now n) }
 {
-    let mut i: usize = 0;
-    while i < n {
+    for i in 0..n {
         let at = sheet_draft::place_at(d, i) as usize;
         let single = sheet_draft::key_at(d, i) % 256 == 0;
         if sheet_within::is_repeating_at(s, at, limit, single) {
             return true;
         }
-        i += 1;
     }
     false
 }
@@ -93,11 +85,7 @@ pub fn is_something_twice(
     requires { Addressable s.now × Few n × (length entries.now ≡ 64) × NotesRead n.words (bits_of s.now) d.now n.types }
     ensures { result ≡ twice_in n (bits_of s.now) d.now entries.now t.now }
 {
-    if has_name_twice(entries, n.types) {
-        return true;
-    }
-    if has_key_twice(t, n.extensions) {
-        return true;
-    }
-    is_one_repeating(s, n.words, d, n.types)
+    has_name_twice(entries, n.types)
+        || has_key_twice(t, n.extensions)
+        || is_one_repeating(s, n.words, d, n.types)
 }

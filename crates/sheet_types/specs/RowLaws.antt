@@ -1,5 +1,5 @@
 -- Laws of the rows.
-use Rattle.std.specs.Prelude.{Bool, true, false, cond, ◌≡◌, refl, ℕ, ◌+◌, ◌-◌, ◌*◌, ◌/◌, ◌%◌, ◌≤◌, ◌<◌, eqb, drop, get_or, set}
+use Rattle.std.specs.Prelude.{Bool, true, false, cond, ◌≡◌, refl, ℕ, ◌+◌, ◌-◌, ◌*◌, ◌/◌, ◌%◌, ◌≤◌, ◌<◌, eqb, drop, get_or, set, Result, Ok, Err}
 use mathlib.Core.List.{List, [], ◌∷◌, ◌++◌}
 use Rattle.std.proofs.Math.Path.{sym, ap}
 use Rattle.std.proofs.Common.{◌∙◌, eqb-true, length-set}
@@ -15,7 +15,8 @@ use Rattle.definitions.specs.Reading.{name, type_info}
 use Rattle.definitions.specs.Records as records
 use Rattle.fields.specs.ParseLaws.{repeat-length}
 use Rattle.sheet_keys.specs.Keys.{name_of_key, names_from, Kept}
-use Rattle.sheet_notes.specs.declared.Skip.{Skip}
+use Rattle.bits.specs.declared.Cursor.{Cursor}
+use Rattle.fields.specs.declared.Fault.{Fault}
 use Rattle.sheet_notes.specs.Notes.{Notes, notes, forget, of_skip}
 use Rattle.sheet_draft.specs.Draft.{key_at, head_at, place_at, notes_of, notes_at, type_in, types_in}
 use Rattle.sheet_types.specs.Rows.{top, top_of, type_of, row_set, NotesDone, DoneHere, NotesRead, of_type_read, KeptRows}
@@ -109,7 +110,7 @@ module _ (W : ℕ) (bs : List Bool) (p : ℕ) where
       no-parents r g = let q : h % 16 % 9 ≡ h % 16 = omega arith in sym (type-parts W (drop p bs) ∙ rw (← e, ← f, q, ← g))
 
       -- the row, by what stands in it
-      row_is : (d : List ℕ) (i count at : ℕ) (r : Skip) → key_at d i ≡ key → head_at d i ≡ h → place_at d i ≡ at →
+      row_is : (d : List ℕ) (i count at : ℕ) (r : Result Cursor Fault) → key_at d i ≡ key → head_at d i ≡ h → place_at d i ≡ at →
           done (names_from d (192 + 8 * i) count) (drop at bs) ≡ repeat (name W) (h % 16) (drop at₂ bs) →
           of_skip bs r ≡ forget (notes W (eqb (key % 256) 0) (drop at bs)) → of_type_read W bs d i r ≡ type_info W (drop p bs)
       unfolding type_in notes_at names_from
@@ -121,7 +122,7 @@ module _ (W : ℕ) (bs : List Bool) (p : ℕ) where
           (skipped (notes W (eqb (key % 256) 0) (drop at bs)) (of_skip bs r) (type_of (name_of_key key) (top_of h) (names_from d (192 + 8 * i) count)) k
           ∙ sym (type-parts W (drop p bs) ∙ rw (← e, ← f, q, ← g, single-key key)))
 
-      pub row_read : (d : List ℕ) (i count at : ℕ) (r : Skip) → i < 64 → length d ≡ 704 →
+      pub row_read : (d : List ℕ) (i count at : ℕ) (r : Result Cursor Fault) → i < 64 → length d ≡ 704 →
           done (names_from d (192 + 8 * i) count) (drop at bs) ≡ repeat (name W) (h % 16) (drop at₂ bs) →
           of_skip bs r ≡ forget (notes W (eqb (key % 256) 0) (drop at bs)) → of_type_read W bs (row_set d i key h at) i r ≡ type_info W (drop p bs)
       row_read d i count at r few l g k =
@@ -129,13 +130,13 @@ module _ (W : ℕ) (bs : List Bool) (p : ℕ) where
           (ap (λ (ns : List (List ℕ)). done ns (drop at bs)) (row-parents d i key h at few l count) ∙ g) k
 
 -- what was stepped over is there
-stepped : (bs : List Bool) (x : Parsed Notes) (r : Skip) (W : ℕ) (d : List ℕ) (i : ℕ) → x ≡ notes W (eqb (key_at d i % 256) 0) (drop (place_at d i) bs) →
+stepped : (bs : List Bool) (x : Parsed Notes) (r : Result Cursor Fault) (W : ℕ) (d : List ℕ) (i : ℕ) → x ≡ notes W (eqb (key_at d i % 256) 0) (drop (place_at d i) bs) →
     of_skip bs r ≡ forget x → DoneHere W bs d i r
-stepped bs (done v rest) (Skip.At c) W d i q e = rw (← q)
-stepped bs (refused n) (Skip.At c) W d i q e = let z : ◌≡◌ {A = ℕ} 0 1 = cc in absurd (omega arith)
-stepped bs x (Skip.Refused n) W d i q e = tt
+stepped bs (done v rest) (Ok c) W d i q e = rw (← q)
+stepped bs (refused n) (Ok c) W d i q e = let z : ◌≡◌ {A = ℕ} 0 1 = cc in absurd (omega arith)
+stepped bs x (Err n) W d i q e = tt
 
-pub done-here : (W : ℕ) (bs : List Bool) (d : List ℕ) (i key h at : ℕ) (r : Skip) → i < 64 → length d ≡ 704 →
+pub done-here : (W : ℕ) (bs : List Bool) (d : List ℕ) (i key h at : ℕ) (r : Result Cursor Fault) → i < 64 → length d ≡ 704 →
     of_skip bs r ≡ forget (notes W (eqb (key % 256) 0) (drop at bs)) → DoneHere W bs (row_set d i key h at) i r
 done-here W bs d i key h at r few l e =
     stepped bs (notes W (eqb (key % 256) 0) (drop at bs)) r W (row_set d i key h at) i (rw (row-key d i key h at few l, row-place d i key h at few l)) e

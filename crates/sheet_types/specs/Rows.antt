@@ -1,15 +1,14 @@
 -- What the code reads of a type, and what stands in the draft afterwards.
-use Rattle.std.specs.Prelude.{Bool, true, false, cond, List, ◌≡◌, ℕ, ◌+◌, ◌*◌, ◌/◌, ◌%◌, ◌≤◌, ◌<◌, eqb, length, drop, get_or, set}
+use Rattle.std.specs.Prelude.{Bool, true, false, List, ◌≡◌, ℕ, ◌+◌, ◌*◌, ◌/◌, ◌%◌, ◌≤◌, ◌<◌, eqb, length, drop, get_or, set, Result, IfOk}
 use Rattle.definitions.specs.Parse.{Parsed, done, refused, Parser, next, ◌>>=◌, pure, flag, between}
 use Rattle.definitions.specs.Reading.{variant}
 use Rattle.definitions.specs.Records.{Variant}
 use Rattle.definitions.specs.Records as records
-use Rattle.fields.specs.Fields.{fault_of}
-use Rattle.fields.specs.declared.Field.{Field}
-use Rattle.sheet_notes.specs.declared.Skip.{Skip}
+use Rattle.bits.specs.declared.Cursor.{Cursor}
+use Rattle.fields.specs.declared.Fault.{Fault}
+use Rattle.fields.specs.Fields.{of_parsed}
 use Rattle.sheet_notes.specs.Notes.{Notes, notes, of_skip}
 use Rattle.sheet_draft.specs.Draft.{key_at, head_at, place_at, variant_of, type_in, types_in}
-use Rattle.sheet_types.specs.declared.TypesRead.{TypesRead}
 
 -- What stands between the name and the parents of a type: 8 bits (FORMAT 2.6).
 pub record Top : Type 0 where
@@ -32,14 +31,12 @@ abbrev pub top_of : ℕ → Top
 top_of h = record { variant = variant_of (h / 64); virtual = eqb (h / 32 % 2) 1; trait = eqb (h / 16 % 2) 1; count = h % 16 % 9 }
 
 -- An answer as a parser's.
-abbrev pub of_top : List Bool → Field → Parsed Top
-of_top bs (Field.At h c) = done (top_of h) (drop c.at bs)
-of_top bs (Field.Refused r) = refused (fault_of r)
+abbrev pub of_top : List Bool → Result (ℕ × Cursor) Fault → Parsed Top
+of_top = of_parsed top_of
 
 -- A number that was answered is one that is allowed.
-abbrev pub Small : Field → Type 0
-Small (Field.At h c) = (h < 192) × (h % 16 ≤ 8)
-Small (Field.Refused r) = Unit {0}
+abbrev pub Small : Result (ℕ × Cursor) Fault → Type 0
+Small r = IfOk r (λ v. (v.0 < 192) × (v.0 % 16 ≤ 8))
 
 -- A type of these parts.
 abbrev pub type_of : List ℕ → Top → List (List ℕ) → Notes → records.TypeInfo
@@ -67,18 +64,17 @@ abbrev pub NotesDone : ℕ → List Bool → List ℕ → ℕ → Type 0
 NotesDone W bs d i = is_done (notes W (eqb (key_at d i % 256) 0) (drop (place_at d i) bs)) ≡ true
 
 -- So they can of a row that was read.
-abbrev pub DoneHere : ℕ → List Bool → List ℕ → ℕ → Skip → Type 0
-DoneHere W bs d i (Skip.At c) = NotesDone W bs d i
-DoneHere W bs d i (Skip.Refused r) = Unit {0}
+abbrev pub DoneHere : ℕ → List Bool → List ℕ → ℕ → Result Cursor Fault → Type 0
+DoneHere W bs d i r = IfOk r (λ c. NotesDone W bs d i)
 
 -- So they can of the first n rows.
 pub record NotesRead (W : ℕ) (bs : List Bool) (d : List ℕ) (n : ℕ) : Type 0 where
   pub read : (i : ℕ) → i < n → NotesDone W bs d i
 
 -- An answer as a parser's: the type is that of row i.
-abbrev pub of_type_read : ℕ → List Bool → List ℕ → ℕ → Skip → Parsed records.TypeInfo
+abbrev pub of_type_read : ℕ → List Bool → List ℕ → ℕ → Result Cursor Fault → Parsed records.TypeInfo
 of_type_read W bs d i r = next (of_skip bs r) (λ x. pure (type_in W bs d i))
 
 -- An answer as a parser's: the types are those of the first rows.
-abbrev pub of_types_read : ℕ → List Bool → List ℕ → TypesRead → Parsed (List records.TypeInfo)
-of_types_read W bs d r = cond r.ok (done (types_in W bs d r.count) (drop r.at bs)) (refused (fault_of r.fault))
+abbrev pub of_types_read : ℕ → List Bool → List ℕ → Result (ℕ × Cursor) Fault → Parsed (List records.TypeInfo)
+of_types_read W bs d = of_parsed (types_in W bs d) bs

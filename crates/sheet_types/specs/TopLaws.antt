@@ -1,17 +1,18 @@
 -- Laws of the parts of a type.
-use Rattle.std.specs.Prelude.{Bool, true, false, List, ◌≡◌, ℕ, ◌+◌, ◌*◌, ◌/◌, ◌%◌, ◌≤◌, ◌<◌, eqb, leb, length, drop}
+use Rattle.std.specs.Prelude.{Bool, true, false, cond, Option, Some, None, List, ◌≡◌, ℕ, ◌+◌, ◌*◌, ◌/◌, ◌%◌, ◌≤◌, ◌<◌, eqb, leb, length, drop}
 use Rattle.std.proofs.Math.Path.{refl}
 use Rattle.std.proofs.Common.{sym, ap, ◌∙◌}
 use Rattle.std.proofs.Math.Decide.{dec_le}
 use native.Mathlib.Omega.{arith}
 use borrow.Author.Tests.{le-leb, lt-leb, leb-true, leb-false}
-use Rattle.definitions.specs.Bits.{num}
+use Rattle.definitions.specs.Bits.{bits_of, num}
 use Rattle.definitions.specs.Parse.{Parsed, done, refused, Parser, next, ◌>>=◌, pure, field, allowed, between, flag, repeat, counted, past, not_allowed}
 use Rattle.definitions.specs.Reading.{name, variant, annotation, mark, type_info}
 use Rattle.definitions.specs.Records as records
 use Rattle.bits.specs.declared.Cursor.{Cursor}
-use Rattle.bits.specs.declared.Read.TheVariants.{Value, Past}
-use Rattle.bits.specs.Reading.{read_at, pick_read}
+use Rattle.bits.specs.Reading.{read_at}
+use Rattle.bits.specs.ReadLaws.{read-in}
+use Rattle.std.proofs.lemmas.Option.{some_pair_parts}
 use Rattle.bits.specs.NumberLaws.{num-lt}
 use Rattle.sheet_draft.specs.Draft.{variant_of}
 use Rattle.sheet_types.specs.Variants.{variant-number}
@@ -22,22 +23,26 @@ use Rattle.sheet_types.specs.Rows.{Top, top, top_of, type_of}
 -- ---- 8 bits at once
 
 -- what a read tells
-pub read-was : (bs : List Bool) (p n v : ℕ) (c : Cursor) → read_at bs p n ≡ Value v c → (p + n ≤ length bs) × (num n (drop p bs) ≡ v) × (p + n ≡ c.at)
+pub read-was : (bs : List Bool) (p n v : ℕ) (c : Cursor) → read_at bs p n ≡ Some (v, c) → (p + n ≤ length bs) × (num n (drop p bs) ≡ v) × (p + n ≡ c.at)
 unfolding read_at
 read-was bs p n v c e = go (leb (p + n) (length bs)) refl e
   where
-    go : (t : Bool) → leb (p + n) (length bs) ≡ t → pick_read t (Value (num n (drop p bs)) (record { at = p + n })) Past ≡ Value v c →
+    go : (t : Bool) → leb (p + n) (length bs) ≡ t → cond {A = Option (ℕ × Cursor)} t (Some (num n (drop p bs), record { at = p + n })) None ≡ Some (v, c) →
         (p + n ≤ length bs) × (num n (drop p bs) ≡ v) × (p + n ≡ c.at)
-    go true h f = let q : record { at = p + n } ≡ c = cc in (leb-true (p + n) (length bs) h, cc, ap (λ (d : Cursor). d.at) q)
+    go true h f = let z = some_pair_parts _ _ _ _ f in (leb-true (p + n) (length bs) h, z.0, ap (λ (d : Cursor). d.at) z.1)
     go false h f = let z : ◌≡◌ {A = ℕ} 0 1 = cc in absurd (omega arith)
 
-pub read-not : (bs : List Bool) (p n : ℕ) → read_at bs p n ≡ Past → length bs < p + n
+pub read-not : (bs : List Bool) (p n : ℕ) → read_at bs p n ≡ None → length bs < p + n
 unfolding read_at
 read-not bs p n e = go (leb (p + n) (length bs)) refl e
   where
-    go : (t : Bool) → leb (p + n) (length bs) ≡ t → pick_read t (Value (num n (drop p bs)) (record { at = p + n })) Past ≡ Past → length bs < p + n
+    go : (t : Bool) → leb (p + n) (length bs) ≡ t → cond {A = Option (ℕ × Cursor)} t (Some (num n (drop p bs), record { at = p + n })) None ≡ None → length bs < p + n
     go true h f = let z : ◌≡◌ {A = ℕ} 0 1 = cc in absurd (omega arith)
     go false h f = omega (arith, leb-false (p + n) (length bs) h)
+
+-- 8 bits that are there are a read
+pub window-read : (s : List ℕ) (p v : ℕ) → p + 8 ≤ 8 * length s → v ≡ num 8 (drop p (bits_of s)) → read_at (bits_of s) p 8 ≡ Some (v, record { at = p + 8 })
+window-read s p v h e = rw e (read-in s p 8 h)
 
 module _ (bs : List Bool) (p : ℕ) where
   abbrev h : ℕ
@@ -200,7 +205,7 @@ type-parts W bs = go (name W bs)
 -- ---- what the code reads
 
 module _ (bs : List Bool) (p : ℕ) where
-  module _ (v : ℕ) (c : Cursor) (e : read_at bs p 8 ≡ Value v c) where
+  module _ (v : ℕ) (c : Cursor) (e : read_at bs p 8 ≡ Some (v, c)) where
     pub whole_top : v < 192 → v % 16 ≤ 8 → done (top_of v) (drop c.at bs) ≡ top (drop p bs)
     whole_top s k =
         let r = read-was bs p 8 v c e in
@@ -219,18 +224,18 @@ module _ (bs : List Bool) (p : ℕ) where
         let q : num 8 (drop p bs) ≡ v = r.1 in
         sym (top_count bs p r.0 (omega arith) (omega arith))
 
-  module _ (v : ℕ) (c : Cursor) (e : read_at bs p 2 ≡ Value v c) where
+  module _ (v : ℕ) (c : Cursor) (e : read_at bs p 2 ≡ Some (v, c)) where
     pub other-top : v ≡ 3 → refused not_allowed ≡ top (drop p bs)
     other-top s =
         let r = read-was bs p 2 v c e in
         let q : num 2 (drop p bs) ≡ v = r.1 in
         sym (top-variant bs p r.0 (omega arith))
 
-    pub short-top : (v ≡ 3 → ⊥) → read_at bs p 8 ≡ Past → refused past ≡ top (drop p bs)
+    pub short-top : (v ≡ 3 → ⊥) → read_at bs p 8 ≡ None → refused past ≡ top (drop p bs)
     short-top s f =
         let r = read-was bs p 2 v c e in
         let q : num 2 (drop p bs) ≡ v = r.1 in
         sym (top-short bs p r.0 (omega (arith, num-lt 2 (drop p bs), s)) (read-not bs p 8 f))
 
-  pub no_top : read_at bs p 2 ≡ Past → refused past ≡ top (drop p bs)
+  pub no_top : read_at bs p 2 ≡ None → refused past ≡ top (drop p bs)
   no_top e = sym (top-none bs p (read-not bs p 2 e))

@@ -1,5 +1,5 @@
 -- Laws of associates whose words ascend.
-use Rattle.std.specs.Prelude.{Bool, true, false, ◌&&◌, ◌≡◌, ℕ, ◌+◌, ◌*◌, ◌/◌, ◌%◌, ◌≤◌, ◌<◌, eqb, ltb, length, drop}
+use Rattle.std.specs.Prelude.{Bool, true, false, ◌&&◌, ◌≡◌, ℕ, ◌+◌, ◌*◌, ◌/◌, ◌%◌, ◌≤◌, ◌<◌, eqb, ltb, length, drop, Option, Some, None}
 use mathlib.Core.List.Memᴰ
 use mathlib.Core.List.{List, [], ◌∷◌, ◌++◌, map, map-append}
 use Rattle.std.proofs.Common.{⊎_elim, sym, ap, ◌∙◌, subst, arith}
@@ -70,9 +70,6 @@ rising-more rows low top k r h =
       up = omega (arith, h, r.up);
     }
 
-pub no-names-up : (W : ℕ) (bs : List Bool) (p n low : ℕ) (r : Up) → r.ok ≡ false → NamesUp W bs p n low r
-no-names-up W bs p n low r e = record { names = λ t. never t e }
-
 -- ---- one associate
 
 -- its words are not those of one with lower words
@@ -126,11 +123,11 @@ module _ (W : ℕ) (one : Bool) (bs : List Bool) (p low w : ℕ) (l : p + 7 ≤ 
   names-read rows left f =
       rw (field_in bs (p + 3) 4 (p + 7) (omega arith) (omega arith) l, count-is, le-leb 0 (w % 16) (omega arith), le-leb (w % 16) 15 (omega arith)) f
 
-  pub associate-up : w / 16 ≡ 1 → (r : Up) → NamesUp W bs (p + 7) (w % 16) low r → NextUp W one bs p low r
+  pub associate-up : w / 16 ≡ 1 → (r : Option Up) → NamesUp W bs (p + 7) (w % 16) low r → NextUp W one bs p low r
   unfolding allowed rows_for annotation_as repeats_word
-  associate-up k r h = record {
-    associate = λ t.
-        let u = h.names t in
+  associate-up k (Some r) h = record {
+    associate =
+        let u = h.names in
         let g = names-read u.rows (drop r.at bs) u.read in
         let v = some-row u.rows (omega (arith, some, repeat-length (name W) (w % 16) [] (drop (p + 7) bs) u.rows (drop r.at bs) u.read)) in
         record {
@@ -142,12 +139,13 @@ module _ (W : ℕ) (one : Bool) (bs : List Bool) (p low w : ℕ) (l : p + 7 ≤ 
           up = u.up;
         };
   }
+  associate-up k None h = record { associate = tt }
 
-  pub nested-up : one ≡ true → w / 16 ≡ 2 → (r : Up) → NamesUp W bs (p + 7) (w % 16) low r → NextUp W one bs p low r
+  pub nested-up : one ≡ true → w / 16 ≡ 2 → (r : Option Up) → NamesUp W bs (p + 7) (w % 16) low r → NextUp W one bs p low r
   unfolding allowed rows_for annotation_as repeats_word
-  nested-up o k r h = record {
-    associate = λ t.
-        let u = h.names t in
+  nested-up o k (Some r) h = record {
+    associate =
+        let u = h.names in
         let g = names-read u.rows (drop r.at bs) u.read in
         let v = some-row u.rows (omega (arith, some, repeat-length (name W) (w % 16) [] (drop (p + 7) bs) u.rows (drop r.at bs) u.read)) in
         record {
@@ -159,9 +157,7 @@ module _ (W : ℕ) (one : Bool) (bs : List Bool) (p low w : ℕ) (l : p + 7 ≤ 
           up = u.up;
         };
   }
-
-pub no-next-up : (W : ℕ) (one : Bool) (bs : List Bool) (p low : ℕ) (r : Up) → r.ok ≡ false → NextUp W one bs p low r
-no-next-up W one bs p low r e = record { associate = λ t. never t e }
+  nested-up o k None h = record { associate = tt }
 
 -- ---- all of them
 

@@ -1,5 +1,5 @@
 -- What the quick tests of annotations tell.
-use Rattle.std.specs.Prelude.{Bool, true, false, List, map, ◌≡◌, ℕ, ◌/◌, ◌≤◌, ◌<◌, drop, get_or}
+use Rattle.std.specs.Prelude.{Bool, true, false, List, map, ◌≡◌, ℕ, ◌/◌, ◌≤◌, ◌<◌, drop, get_or, Option, IfSome}
 use Rattle.lists.specs.Lists.{In, repeats}
 use Rattle.lists.specs.Tabulating.{tabulate}
 use Rattle.definitions.specs.Parse.{done, repeat}
@@ -34,9 +34,9 @@ pub record UpNames (W : ℕ) (bs : List Bool) (p n low : ℕ) (r : Up) : Type 0 
   pub below : (u : Resource) → In u (map resource_of rows) → u.word < r.top
   pub up : low ≤ r.top
 
--- Where the answer is yes, such names stand there.
-pub record NamesUp (W : ℕ) (bs : List Bool) (p n low : ℕ) (r : Up) : Type 0 where
-  pub names : r.ok ≡ true → UpNames W bs p n low r
+-- Where there is an answer, such names stand there.
+pub record NamesUp (W : ℕ) (bs : List Bool) (p n low : ℕ) (r : Option Up) : Type 0 where
+  pub names : IfSome r (UpNames W bs p n low)
 
 -- The words of an associate are below a number.
 abbrev pub Low : ℕ → Annotation → Type 0
@@ -51,9 +51,9 @@ pub record UpAssociate (W : ℕ) (one : Bool) (bs : List Bool) (p low : ℕ) (r 
   pub below : Low r.top x
   pub up : low ≤ r.top
 
--- Where the answer is yes, such an associate stands there.
-pub record NextUp (W : ℕ) (one : Bool) (bs : List Bool) (p low : ℕ) (r : Up) : Type 0 where
-  pub associate : r.ok ≡ true → UpAssociate W one bs p low r
+-- Where there is an answer, such an associate stands there.
+pub record NextUp (W : ℕ) (one : Bool) (bs : List Bool) (p low : ℕ) (r : Option Up) : Type 0 where
+  pub associate : IfSome r (UpAssociate W one bs p low)
 
 -- Where the answer is yes, n annotations that can be read at a place repeat nothing (FORMAT 2.12).
 pub record PlainEach (W : ℕ) (one : Bool) (bs : List Bool) (p n : ℕ) (r : Bool) : Type 0 where

@@ -1,15 +1,17 @@
 -- Laws of the annotations at a place.
 use mathlib.Core.Bool.{Bool, true, false}
-use Rattle.std.specs.Prelude.{List, [], ◌≡◌, refl, ℕ, ◌+◌, ◌≤◌, length, drop}
+use Rattle.std.specs.Prelude.{List, [], ◌≡◌, refl, ℕ, ◌+◌, ◌≤◌, length, drop, Result, Ok, Err, MatchResult}
 use Rattle.std.proofs.Common.{sym, ap, ◌∙◌, arith}
 use Rattle.lists.specs.Tests.{never}
 use Rattle.definitions.specs.Bits.{num}
 use Rattle.definitions.specs.Parse.{Parsed, done, refused, next, pure, allowed, repeat_onto, counted}
 use Rattle.definitions.specs.Reading.{annotation, mark}
 use Rattle.definitions.specs.Records.{Annotation, Mark}
-use Rattle.fields.specs.Fields.{fault_of}
-use Rattle.records.specs.declared.AnnotationsRead.{AnnotationsRead}
-use Rattle.records.specs.Annotations.{of_annotations, of_annotations_read}
+use Rattle.bits.specs.declared.Cursor.{Cursor}
+use Rattle.fields.specs.declared.Fault.{Fault}
+use Rattle.fields.specs.Fields.{of_parsed}
+use Rattle.records.specs.declared.Annotations.{Annotations}
+use Rattle.records.specs.Annotations.{of_annotations}
 use Rattle.repeats.specs.Repeats.{repeats_in}
 use Rattle.sheet_window.specs.WindowLaws.{field_in}
 use Rattle.sheet_notes.specs.Notes.{Notes, notes}
@@ -35,15 +37,16 @@ annotations-read W one bs e = go (counted 4 0 12 (annotation W one) bs) e
     go (done as' rest) h = (rest, ap (λ (l : List Annotation). done l rest) (sym (at as' rest (counted 3 0 7 mark rest) h)))
     go (refused r) h = never {b = false} h refl
 
--- the annotations that the code read are these
-pub by_value : (W : ℕ) (one : Bool) (bs cs : List Bool) (r : AnnotationsRead) → is_done (notes W one cs) ≡ true → of_annotations_read bs r ≡ counted 4 0 12 (annotation W one) cs
-    → of_annotations r.annotations ≡ (notes_of (notes W one cs)).annotations
-by_value W one bs cs r e f = let a = annotations-read W one cs e in go r.ok (f ∙ a.1)
+-- the annotations that the code read are these, and there are such
+pub by_value : (W : ℕ) (one : Bool) (bs cs : List Bool) (r : Result (Annotations × Cursor) Fault) → is_done (notes W one cs) ≡ true →
+    of_parsed of_annotations bs r ≡ counted 4 0 12 (annotation W one) cs → MatchResult r (λ v. of_annotations v.0 ≡ (notes_of (notes W one cs)).annotations) (λ f. ⊥)
+by_value W one bs cs (Ok (x, c)) e f = let a = annotations-read W one cs e in done-of (f ∙ a.1)
   where
-    go : (t : Bool) → mathlib.Core.Bool.cond t (done (of_annotations r.annotations) (drop r.next.at bs)) (refused (fault_of r.fault)) ≡ done (notes_of (notes W one cs)).annotations (annotations-read W one cs e).0
-        → of_annotations r.annotations ≡ (notes_of (notes W one cs)).annotations
-    go true q = cc
-    go false q = let z : ◌≡◌ {A = ℕ} 0 1 = cc in absurd (omega arith)
+    done-of : {xs ys : List Annotation} {u v : List Bool} → done xs u ≡ done ys v → xs ≡ ys
+    done-of e = cc
+by_value W one bs cs (Err n) e f =
+    let a = f ∙ (annotations-read W one cs e).1 in
+    let z : ◌≡◌ {A = ℕ} 0 1 = cc in omega arith
 
 -- a count of 0: nothing is repeated
 pub none-repeated : (W : ℕ) (one : Bool) (bs : List Bool) (p : ℕ) → p + 4 ≤ length bs → num 4 (drop p bs) ≡ 0 → is_done (notes W one (drop p bs)) ≡ true →

@@ -12,16 +12,16 @@ ghost use Rattle.lists.specs.Lists.{any, repeats};
 ghost use Rattle.sheet_within.specs.Within.{words_in, PlainNames, PlainNotes, NamesUp, NextUp, PlainEach};
 
 use bits::Cursor;
-use sheet_keys::KeyRead;
 
 // The annotations by value: for whatever the tests below leave open.
 fn is_repeating_by_value(s: &[u8], at: usize, limit: usize, single: bool) -> bool
     requires { Addressable s.now × (limit ≤ 255) × (is_done (notes limit single (drop at (bits_of s.now))) ≡ true) }
     ensures { result ≡ repeats_in (notes_of (notes limit single (drop at (bits_of s.now)))).annotations }
 {
-    let r = records::read_annotations(s, Cursor { at }, limit, single);
-    let annotations = r.annotations;
-    repeats::is_repeating(annotations)
+    match records::read_annotations(s, Cursor { at }, limit, single) {
+        Ok((annotations, _)) => repeats::is_repeating(annotations),
+        Err(_) => false,
+    }
 }
 
 // Whether w is the first word of one of the n names, from a place on.
@@ -29,12 +29,10 @@ fn has_word_from(k: &[u64; 15], w: u64, from: usize, n: usize) -> bool
     requires { n ≤ 15 }
     ensures { result ≡ any (eqb w) (drop from (words_in k.now n)) }
 {
-    let mut j = from;
-    while j < n {
+    for j in from..n {
         if w == k[j] / 256 {
             return true;
         }
-        j += 1;
     }
     false
 }
@@ -44,12 +42,10 @@ fn has_word_twice(k: &[u64; 15], n: usize) -> bool
     requires { n ≤ 15 }
     ensures { result ≡ repeats eqb (words_in k.now n) }
 {
-    let mut i: usize = 0;
-    while i < n {
+    for i in 0..n {
         if has_word_from(k, k[i] / 256, i + 1, n) {
             return true;
         }
-        i += 1;
     }
     false
 }
@@ -69,84 +65,59 @@ fn is_plain_list(s: &[u8], at: usize, limit: usize, n: usize) -> bool
         return true;
     }
     let mut k = blank();
-    let r = sheet_keys::read_each_key(s, Cursor { at }, limit, n, &mut k, 0);
-    if !r.ok {
-        return false;
+    match sheet_keys::read_each_key(s, Cursor { at }, limit, n, &mut k, 0) {
+        Ok((count, _)) => !has_word_twice(&k, count),
+        Err(_) => false,
     }
-    !has_word_twice(&k, r.count)
 }
 
-// ok: the place behind what was read, and one more than the greatest first word in it.
+// The place behind what was read, and one more than the greatest first word in it.
 #[derive(Clone, Copy)]
 pub struct Up {
-    pub ok: bool,
     pub top: usize,
     pub at: usize,
 }
 
-fn not_up() -> Up
-    ensures { result.ok ≡ false }
-{
-    Up {
-        ok: false,
-        top: 0,
-        at: 0,
-    }
-}
-
-// n names whose first words ascend from `low` on.
-fn names_up(s: &[u8], at: usize, limit: usize, n: usize, low: usize) -> Up
+// n names whose first words ascend from `low` on, or none.
+fn names_up(s: &[u8], at: usize, limit: usize, n: usize, low: usize) -> Option<Up>
     requires { Addressable s.now × (limit ≤ 255) }
     ensures { NamesUp limit (bits_of s.now) at n low result }
 {
     let mut next = Cursor { at };
     let mut top = low;
-    let mut left = n;
-    while 0 < left {
-        match sheet_keys::read_key(s, next, limit) {
-            KeyRead::At(key, end) => {
-                let a = (key / 256) as usize;
-                if a < top {
-                    return not_up();
-                }
-                top = a + 1;
-                next = end;
-            }
-            KeyRead::Refused(_) => {
-                return not_up();
-            }
+    for _ in 0..n {
+        let Ok((key, end)) = sheet_keys::read_key(s, next, limit) else {
+            return None;
+        };
+        let a = (key / 256) as usize;
+        if a < top {
+            return None;
         }
-        left -= 1;
+        top = a + 1;
+        next = end;
     }
-    Up {
-        ok: true,
-        top,
-        at: next.at,
-    }
+    Some(Up { top, at: next.at })
 }
 
 // One associate with such names, at least one.
-fn associate_up(s: &[u8], at: usize, limit: usize, single: bool, low: usize) -> Up
+fn associate_up(s: &[u8], at: usize, limit: usize, single: bool, low: usize) -> Option<Up>
     requires { Addressable s.now × (limit ≤ 255) }
     ensures { NextUp limit single (bits_of s.now) at low result }
 {
     if s.len() < at / 8 + 4 {
-        return not_up();
+        return None;
     }
     let w = sheet_window::window(s, at, 7);
     if w % 16 == 0 {
-        return not_up();
+        return None;
     }
     if w / 16 == 1 {
         return names_up(s, at + 7, limit, w % 16, low);
     }
-    if !single {
-        return not_up();
-    }
-    if w / 16 == 2 {
+    if single && w / 16 == 2 {
         return names_up(s, at + 7, limit, w % 16, low);
     }
-    not_up()
+    None
 }
 
 // Whether n annotations are associates whose first words ascend from one to the next.
@@ -156,15 +127,12 @@ fn is_plain_each(s: &[u8], at: usize, limit: usize, single: bool, n: usize) -> b
 {
     let mut p = at;
     let mut top: usize = 0;
-    let mut left = n;
-    while 0 < left {
-        let r = associate_up(s, p, limit, single, top);
-        if !r.ok {
+    for _ in 0..n {
+        let Some(up) = associate_up(s, p, limit, single, top) else {
             return false;
-        }
-        p = r.at;
-        top = r.top;
-        left -= 1;
+        };
+        p = up.at;
+        top = up.top;
     }
     true
 }

@@ -1,5 +1,5 @@
 -- Laws of one word: its bytes tested, its head, two words compared.
-use Rattle.std.specs.Prelude.{Bool, true, false, ◌&&◌, ◌||◌, cond, List, [], ◌∷◌, ◌≡◌, ℕ, ◌+◌, ◌*◌, ◌-◌, ◌/◌, ◌%◌, ◌^◌, ◌≤◌, ◌<◌, eqb, ltb, length, drop}
+use Rattle.std.specs.Prelude.{Bool, true, false, ◌&&◌, ◌||◌, cond, List, [], ◌∷◌, ◌≡◌, ℕ, ◌+◌, ◌*◌, ◌-◌, ◌/◌, ◌%◌, ◌^◌, ◌≤◌, ◌<◌, eqb, ltb, length, drop, Result, Ok, Err}
 use Rattle.std.proofs.Math.Bool.{and-false}
 use Rattle.std.proofs.Math.Path.{refl}
 use Rattle.std.proofs.Common.{sym, ap, ap₂, ◌∙◌, arith, eq-eqb, ne_eqb, length-drop}
@@ -11,14 +11,14 @@ use Rattle.lists.specs.Places.{drop-end, before-step, before-right, before-left}
 use Rattle.definitions.specs.Bits.{num, pack_to}
 use Rattle.definitions.specs.Checks.{resource_bytes, self_bytes}
 use Rattle.definitions.specs.Comparisons.{bytes_before}
-use Rattle.definitions.specs.Parse.{done, refused, allowed, repeat, past, not_allowed}
+use Rattle.definitions.specs.Parse.{refused, allowed, repeat, past, not_allowed}
 use Rattle.definitions.specs.Reading.{is_word_byte, word}
 use Rattle.fields.specs.declared.Fault.{Fault}
 use Rattle.fields.specs.Fields.{fault_of}
 use Rattle.bits.specs.NumberLaws.{num-lt, num-split, length-pack_to}
 use Rattle.sheet_window.specs.WindowLaws.{split}
 use Rattle.fields.specs.FieldLaws.{counted-in}
-use Rattle.sheet_words.specs.Words.{spelt, head_of, bytes_of, Held, Tells, Spelled, Begun, Named, refused_word}
+use Rattle.sheet_words.specs.Words.{spelt, head_of, bytes_of, Held, Tells, Spelled, Begun, Named}
 use Rattle.sheet_words.specs.ByteLaws.{bytes-split, bytes_drop, byte-is, bytes-num, bytes-in, bytes_past, word_some}
 use Rattle.sheet_words.specs.HeadLaws.{good-drop, head-less, head_more, head-same, same-split, same-short, head_few}
 use Rattle.sheet_words.specs.declared.Spelt.{Spelt}
@@ -73,8 +73,8 @@ short-value n x bs h e =
 
 -- ---- the parser's answer
 
-pub refused-tells : (bs : List Bool) (r : Fault) (x : _) → refused (fault_of r) ≡ x → Tells bs (refused_word r) x
-refused-tells bs r x e = record { reads = e; held = λ t. Rattle.lists.specs.Tests.never t refl }
+pub refused-tells : (bs : List Bool) (r : Fault) (x : _) → refused (fault_of r) ≡ x → Tells bs (Err r) x
+refused-tells bs r x e = record { reads = e; held = tt }
 
 module _ (bs : List Bool) (q n : ℕ) where
   pub text-past : length bs - q < 8 * n → q ≤ length bs →
@@ -88,39 +88,33 @@ module _ (bs : List Bool) (q n : ℕ) where
     text-bad t = sym (bytes-in is_word_byte n [] (drop q bs) (omega (arith, length-drop q bs)) ∙ rw t refl)
 
     pub text-good : (head : ℕ) → n ≤ 31 → head ≡ head_of 6 (pack_to n (drop q bs)) → all is_word_byte (pack_to n (drop q bs)) ≡ true →
-        Tells bs (record { ok = true; fault = Fault.Past; at = q; count = n; head = head }) (repeat (allowed 8 is_word_byte) n (drop q bs))
+        Tells bs (Ok (record { at = q; count = n; head = head })) (repeat (allowed 8 is_word_byte) n (drop q bs))
     text-good head few f t = record {
       reads = sym (bytes-in is_word_byte n [] (drop q bs) (omega (arith, length-drop q bs)) ∙ rw (t, Seq.drop-drop (8 * n) q bs) refl);
-      held = λ z. record { first = f; good = t; inside = inside; few = few };
+      held = record { first = f; good = t; inside = inside; few = few };
     }
 
 -- the bytes that are there of those that pass the end
 module _ (bs : List Bool) (q n k : ℕ) (some : k ≡ (length bs - q) / 8) (less : k < n) (from : q ≤ length bs) where
-  pub past-good : all is_word_byte (pack_to k (drop q bs)) ≡ true → Tells bs (refused_word Fault.Past) (repeat (allowed 8 is_word_byte) n (drop q bs))
+  pub past-good : all is_word_byte (pack_to k (drop q bs)) ≡ true → Tells bs (Err Fault.Past) (repeat (allowed 8 is_word_byte) n (drop q bs))
   past-good t =
       refused-tells bs Fault.Past _
       (ap (λ (b : Bool). refused (cond b past not_allowed)) (sym (sym (ap (λ (j : ℕ). all is_word_byte (pack_to j (drop q bs))) some) ∙ t)) ∙ text-past bs q n (omega (arith, some, less)) from)
 
-  pub past-bad : all is_word_byte (pack_to k (drop q bs)) ≡ false → Tells bs (refused_word Fault.NotAllowed) (repeat (allowed 8 is_word_byte) n (drop q bs))
+  pub past-bad : all is_word_byte (pack_to k (drop q bs)) ≡ false → Tells bs (Err Fault.NotAllowed) (repeat (allowed 8 is_word_byte) n (drop q bs))
   past-bad t =
       refused-tells bs Fault.NotAllowed _
       (ap (λ (b : Bool). refused (cond b past not_allowed)) (sym (sym (ap (λ (j : ℕ). all is_word_byte (pack_to j (drop q bs))) some) ∙ t)) ∙ text-past bs q n (omega (arith, some, less)) from)
 
 -- an answer for another name of what the parser gives
-pub tells_as : (bs : List Bool) (w : Spelt) (x y : _) → x ≡ y → Tells bs w x → Tells bs w y
+pub tells_as : (bs : List Bool) (w : Result Spelt Fault) (x y : _) → x ≡ y → Tells bs w x → Tells bs w y
 tells_as bs w x y e t = record { reads = t.reads ∙ e; held = t.held }
 
--- a word that was read, and one that was not
-module _ (bs : List Bool) (p : ℕ) (w : Spelt) (t : Spelled bs p w) where
-  pub word-is : w.ok ≡ true → word (drop p bs) ≡ done (bytes_of bs w) (drop (w.at + 8 * w.count) bs)
-  word-is e = sym t.reads ∙ rw e refl
-
-  pub word-not : w.ok ≡ false → word (drop p bs) ≡ refused (fault_of w.fault)
-  word-not e = sym t.reads ∙ rw e refl
-
-  pub word-long : w.ok ≡ true → 0 < w.count
-  unfolding word
-  word-long e = omega (arith, (counted-in 5 1 31 (allowed 8 is_word_byte) (drop p bs) (bytes_of bs w) _ (word-is e)).0, length-pack_to w.count (drop w.at bs))
+-- a word that was read is not empty
+pub word-long : (bs : List Bool) (p : ℕ) (w : Spelt) → Spelled bs p (Ok w) → 0 < w.count
+unfolding word
+word-long bs p w t =
+    omega (arith, (counted-in 5 1 31 (allowed 8 is_word_byte) (drop p bs) (bytes_of bs w) _ (sym t.reads)).0, length-pack_to w.count (drop w.at bs))
 
 -- a length and the 48 bits behind it, out of 53 bits that are there
 pub begun-is : (bs : List Bool) (p w : ℕ) → p + 53 ≤ length bs → w ≡ num 53 (drop p bs) → 0 < w / 281474976710656 →

@@ -1,6 +1,6 @@
 -- What the answers about the words of a sheet mean, for the bits bs of the sheet.
 use mathlib.Core.Bool.{Bool, true, ◌&&◌, cond}
-use Rattle.std.specs.Prelude.{List, [], ◌∷◌, ◌≡◌, ℕ, zero, suc, ◌+◌, ◌*◌, ◌^◌, ◌≤◌, ◌<◌, eqb, length, drop}
+use Rattle.std.specs.Prelude.{List, [], ◌∷◌, ◌≡◌, ℕ, zero, suc, ◌+◌, ◌*◌, ◌^◌, ◌≤◌, ◌<◌, eqb, length, drop, Result, Ok, Err, IfOk}
 use Rattle.std.specs.Int.Bits.{bit_and, bit_or, bit_xor}
 use Rattle.lists.specs.Lists.{all, same_list}
 use Rattle.definitions.specs.Bits.{num, to_bits, pack_to}
@@ -47,12 +47,9 @@ abbrev pub bytes_of : List Bool → Spelt → List ℕ
 bytes_of bs w = pack_to w.count (drop w.at bs)
 
 -- A word as the definitions' parser gives it (FORMAT 2.4).
-abbrev pub of_spelt : List Bool → Spelt → Parsed (List ℕ)
-of_spelt bs w = cond w.ok (done (bytes_of bs w) (drop (w.at + 8 * w.count) bs)) (refused (fault_of w.fault))
-
--- The answer with a fault.
-abbrev pub refused_word : Fault → Spelt
-refused_word r = record { ok = mathlib.Core.Bool.false; fault = r; at = 0; count = 0; head = 0 }
+abbrev pub of_spelt : List Bool → Result Spelt Fault → Parsed (List ℕ)
+of_spelt bs (Ok w) = done (bytes_of bs w) (drop (w.at + 8 * w.count) bs)
+of_spelt bs (Err r) = refused (fault_of r)
 
 -- A word's bytes are in the sheet and allowed, and its head is theirs (FORMAT 1.1).
 pub record Held (bs : List Bool) (w : Spelt) : Type 0 where
@@ -62,13 +59,13 @@ pub record Held (bs : List Bool) (w : Spelt) : Type 0 where
   pub few : w.count ≤ 31
 
 -- An answer is what a parser gives, and where that is a word it is held.
-pub record Tells (bs : List Bool) (w : Spelt) (x : Parsed (List ℕ)) : Type 0 where
-  pub reads : of_spelt bs w ≡ x
-  pub held : w.ok ≡ true → Held bs w
+pub record Tells (bs : List Bool) (r : Result Spelt Fault) (x : Parsed (List ℕ)) : Type 0 where
+  pub reads : of_spelt bs r ≡ x
+  pub held : IfOk r (Held bs)
 
 -- The answer for the word at bit p (FORMAT 2.4).
-abbrev pub Spelled : List Bool → ℕ → Spelt → Type 0
-Spelled bs p w = Tells bs w (word (drop p bs))
+abbrev pub Spelled : List Bool → ℕ → Result Spelt Fault → Type 0
+Spelled bs p r = Tells bs r (word (drop p bs))
 
 -- At bit p stands a length n that is not 0, and behind it the 48 bits x (FORMAT 2.4).
 pub record Begun (bs : List Bool) (p n x : ℕ) : Type 0 where
@@ -105,10 +102,6 @@ abbrev pub told : Parsed (List (List ℕ)) → Parsed Telling
 told x = next x (λ ws. pure (telling_of ws))
 
 -- The answer about all words, as the definitions' parser gives it (FORMAT 2.2).
-abbrev pub of_words_read : List Bool → WordsRead → Parsed Telling
-of_words_read bs r =
-    cond r.ok (done (record { count = r.count; bad = r.bad; resource = r.resource; own = r.own }) (drop r.at bs)) (refused (fault_of r.fault))
-
--- That answer with a fault.
-abbrev pub refused_words : Fault → WordsRead
-refused_words r = record { ok = mathlib.Core.Bool.false; fault = r; count = 0; at = 0; bad = mathlib.Core.Bool.false; resource = 0; own = 0 }
+abbrev pub of_words_read : List Bool → Result WordsRead Fault → Parsed Telling
+of_words_read bs (Ok r) = done (record { count = r.count; bad = r.bad; resource = r.resource; own = r.own }) (drop r.at bs)
+of_words_read bs (Err r) = refused (fault_of r)

@@ -15,8 +15,7 @@ use Rattle.definitions.specs.Comparisons.{bytes_before}
 use Rattle.definitions.specs.Map.{number_of}
 use Rattle.definitions.specs.Parse as parse
 use Rattle.definitions.specs.Parse.{Parsed, done, refused, next, pure, allowed, repeat_onto}
-use Rattle.fields.specs.declared.Fault.{Fault}
-use Rattle.sheet_words.specs.Words.{bytes_of, of_spelt, Held, With, Telling, telling_of, told, refused_word}
+use Rattle.sheet_words.specs.Words.{bytes_of, of_spelt, Held, With, Telling, telling_of, told}
 use Rattle.sheet_words.specs.declared.Spelt.{Spelt}
 use Rattle.sheet_words.specs.declared.Found.{Found}
 
@@ -83,7 +82,7 @@ unfolding bytes_before pack_to
 some_bytes zero bs h = absurd (omega arith)
 some_bytes (suc k) bs h = refl
 
-pub seen_none : (bs : List Bool) (n : ℕ) → Seen bs n [] (refused_word Fault.Past) (record { up = true; resource = n; own = n })
+pub seen_none : (bs : List Bool) (n : ℕ) → Seen bs n [] (record { at = 0; count = 0; head = 0 }) (record { up = true; resource = n; own = n })
 unfolding pack_to Rattle.sheet_words.specs.Words.head_of
 seen_none bs n = record {
   rising = refl;

@@ -1,7 +1,7 @@
 // The words of a sheet, tested where they stand: no table of them is kept.
 #![tactic(auto)]
 
-ghost use Rattle.std.specs.Prelude.{not, ◌&&◌, ◌||◌, cond, ◌≡◌, ◌+◌, ◌*◌, ◌-◌, ◌^◌, ◌≤◌, ◌<◌, eqb, leb, length, drop};
+ghost use Rattle.std.specs.Prelude.{not, ◌&&◌, ◌||◌, cond, ◌≡◌, ◌+◌, ◌*◌, ◌-◌, ◌^◌, ◌≤◌, ◌<◌, eqb, leb, length, drop, IfOk};
 ghost use Rattle.lists.specs.Lists.{all, same_list, list_before};
 ghost use Rattle.definitions.specs.Bits.{bits_of, num, pack_to};
 ghost use Rattle.definitions.specs.Checks.{resource_bytes, self_bytes};
@@ -9,22 +9,21 @@ ghost use Rattle.definitions.specs.Comparisons.{bytes_before};
 ghost use Rattle.definitions.specs.Parse.{allowed, repeat, counted};
 ghost use Rattle.definitions.specs.Reading.{is_word_byte, word};
 ghost use Rattle.bits.specs.Reading.{Addressable};
-ghost use Rattle.sheet_words.specs.Words.{bytes_of, head_of, spelt, marks, refused_word, Held, Tells, Spelled, Begun, Named, With, told, of_words_read, refused_words};
+ghost use Rattle.sheet_words.specs.Words.{bytes_of, head_of, spelt, marks, Held, Tells, Spelled, Begun, Named, With, told, of_words_read};
 
 use bits::Cursor;
-use fields::{Fault, Field};
+use fields::Fault;
 
-// ok: a word of count bytes that stand from bit `at` on; `head` is the first six of them as one number. Else a fault.
+// A word of count bytes that stand from bit `at` on; `head` is the first six of them as one number.
 #[derive(Clone, Copy)]
 pub struct Spelt {
-    pub ok: bool,
-    pub fault: Fault,
     pub at: usize,
     pub count: usize,
     pub head: u64,
 }
 
-// Whether the words so far ascend, and the numbers of `resource` and `self`, the count of all words for one that is not found yet.
+// Whether the words so far ascend, and the numbers of `resource` and `self`: the count of all words for one that is not found yet,
+// as in the definitions.
 #[derive(Clone, Copy)]
 pub struct Found {
     pub up: bool,
@@ -32,12 +31,9 @@ pub struct Found {
     pub own: usize,
 }
 
-// ok: count words, the place behind them, whether they are refused with 5, and the numbers of `resource` and `self`, the count for one that is missing.
-// Else a fault.
+// Count words, the place behind them, whether they are refused with 5, and the numbers of `resource` and `self`, the count for one that is missing.
 #[derive(Clone, Copy)]
 pub struct WordsRead {
-    pub ok: bool,
-    pub fault: Fault,
     pub count: usize,
     pub at: usize,
     pub bad: bool,
@@ -76,6 +72,7 @@ fn is_text(s: &[u8], at: usize, n: usize) -> bool
     requires { Addressable s.now × (at + 8 * n ≤ 8 * length s.now) }
     ensures { result ≡ all is_word_byte (pack_to n (drop at (bits_of s.now))) }
 {
+    // A `while`, since what it leaves is one window more.
     let mut p = at;
     let mut left = n;
     while 6 < left {
@@ -106,82 +103,66 @@ fn head_at(s: &[u8], at: usize, n: usize) -> u64
     sheet_window::wide(s, at, 8 * n) << (48 - 8 * n)
 }
 
-fn word_refused(r: Fault) -> Spelt
-    ensures { result ≡ refused_word r }
-{
-    Spelt {
-        ok: false,
-        fault: r,
-        at: 0,
-        count: 0,
-        head: 0,
-    }
-}
-
 // A word of n bytes from a place on. Where they pass the end, one that is there and not allowed is refused before.
-fn bytes_from(s: &[u8], at: usize, n: usize) -> Spelt
+fn bytes_from(s: &[u8], at: usize, n: usize) -> Result<Spelt, Fault>
     requires { Addressable s.now × (at ≤ 8 * length s.now) × (n ≤ 31) }
     ensures { Tells (bits_of s.now) result (repeat (allowed 8 is_word_byte) n (drop at (bits_of s.now))) }
 {
     let there = (s.len() * 8 - at) / 8;
     if there < n {
         if is_text(s, at, there) {
-            return word_refused(Fault::Past);
+            return Err(Fault::Past);
         }
-        return word_refused(Fault::NotAllowed);
+        return Err(Fault::NotAllowed);
     }
     if is_text(s, at, n) {
-        return Spelt {
-            ok: true,
-            fault: Fault::Past,
-            at: at,
+        return Ok(Spelt {
+            at,
             count: n,
             head: head_at(s, at, n),
-        };
+        });
     }
-    word_refused(Fault::NotAllowed)
+    Err(Fault::NotAllowed)
 }
 
 // A word of any length, anywhere.
-fn plain_word(s: &[u8], at: usize) -> Spelt
+fn plain_word(s: &[u8], at: usize) -> Result<Spelt, Fault>
     requires { Addressable s.now }
     ensures { Spelled (bits_of s.now) at result }
 {
     let total = s.len() * 8;
     if total < at {
-        return word_refused(Fault::Past);
+        return Err(Fault::Past);
     }
     if total - at < 5 {
-        return word_refused(Fault::Past);
+        return Err(Fault::Past);
     }
     let n = sheet_window::wide(s, at, 5) as usize;
     if n == 0 {
-        return word_refused(Fault::NotAllowed);
+        return Err(Fault::NotAllowed);
     }
     bytes_from(s, at + 5, n)
 }
 
 // A word of up to six bytes, which are the first bits of x.
-fn short_word(s: &[u8], at: usize, n: usize, x: u64) -> Spelt
+fn short_word(s: &[u8], at: usize, n: usize, x: u64) -> Result<Spelt, Fault>
     requires { Addressable s.now × Begun (bits_of s.now) at n x × (n ≤ 6) }
     ensures { Spelled (bits_of s.now) at result }
 {
     let k = 48 - 8 * n;
     let v = x >> k;
     if is_spelt(v, n) {
-        return Spelt {
-            ok: true,
-            fault: Fault::Past,
+        return Ok(Spelt {
             at: at + 5,
             count: n,
             head: v << k,
-        };
+        });
     }
-    word_refused(Fault::NotAllowed)
+    Err(Fault::NotAllowed)
 }
 
 // A word of more than six bytes, of which x has the first six.
-fn long_word(s: &[u8], at: usize, n: usize, x: u64) -> Spelt
+fn long_word(s: &[u8], at: usize, n: usize, x: u64) -> Result<Spelt, Fault>
     requires { Addressable s.now × Begun (bits_of s.now) at n x × (6 < n) }
     ensures { Spelled (bits_of s.now) at result }
 {
@@ -191,21 +172,19 @@ fn long_word(s: &[u8], at: usize, n: usize, x: u64) -> Spelt
     }
     if is_spelt(x, 6) {
         if is_text(s, q + 48, n - 6) {
-            return Spelt {
-                ok: true,
-                fault: Fault::Past,
+            return Ok(Spelt {
                 at: q,
                 count: n,
                 head: x,
-            };
+            });
         }
-        return word_refused(Fault::NotAllowed);
+        return Err(Fault::NotAllowed);
     }
-    word_refused(Fault::NotAllowed)
+    Err(Fault::NotAllowed)
 }
 
 // An entry of the word list: its length, 1 to 31, and so many bytes (FORMAT 2.4).
-fn read_word(s: &[u8], at: usize) -> Spelt
+fn read_word(s: &[u8], at: usize) -> Result<Spelt, Fault>
     requires { Addressable s.now }
     ensures { Spelled (bits_of s.now) at result }
 {
@@ -232,22 +211,15 @@ fn rest_before(s: &[u8], a: Spelt, b: Spelt) -> bool
     let q = b.at;
     let n = a.count;
     let m = b.count;
-    let mut i: usize = 6;
-    while i < n {
-        if m <= i {
-            return false;
-        }
+    let both = n.min(m);
+    for i in 6..both {
         let x = sheet_window::wide(s, p + 8 * i, 8);
         let y = sheet_window::wide(s, q + 8 * i, 8);
-        if x < y {
-            return true;
+        if x != y {
+            return x < y;
         }
-        if y < x {
-            return false;
-        }
-        i += 1;
     }
-    i < m
+    n < m && 6 < m
 }
 
 // Whether a word comes before another (FORMAT 1.2).
@@ -269,10 +241,7 @@ fn still_up(s: &[u8], up: bool, a: Spelt, b: Spelt) -> bool
     requires { Addressable s.now × Held (bits_of s.now) a × Held (bits_of s.now) b }
     ensures { result ≡ (up && bytes_before (bytes_of (bits_of s.now) a) (bytes_of (bits_of s.now) b)) }
 {
-    if up {
-        return is_before(s, a, b);
-    }
-    false
+    up && is_before(s, a, b)
 }
 
 // Whether a word is `resource`: its first six bytes, and the two behind them.
@@ -293,12 +262,7 @@ fn is_resource(s: &[u8], w: Spelt) -> bool
 fn first_place(hit: bool, old: usize, i: usize, n: usize) -> usize
     ensures { result ≡ cond (hit && eqb old n) i old }
 {
-    if hit {
-        if old == n {
-            return i;
-        }
-    }
-    old
+    if hit && old == n { i } else { old }
 }
 
 // The places with one word more, the i-th of n.
@@ -333,72 +297,45 @@ fn with_word(s: &[u8], t: Found, last: Spelt, w: Spelt, i: usize, n: usize) -> F
 fn is_bad(t: Found, count: usize) -> bool
     ensures { result ≡ (not t.up || (leb count t.resource || leb count t.own)) }
 {
-    if !t.up {
-        return true;
-    }
-    if count <= t.resource {
-        return true;
-    }
-    count <= t.own
-}
-
-fn words_refused(r: Fault) -> WordsRead
-    ensures { result ≡ refused_words r }
-{
-    WordsRead {
-        ok: false,
-        fault: r,
-        count: 0,
-        at: 0,
-        bad: false,
-        resource: 0,
-        own: 0,
-    }
+    !t.up || count <= t.resource || count <= t.own
 }
 
 // n words.
-fn read_each_word(s: &[u8], c: Cursor, n: usize) -> WordsRead
+fn read_each_word(s: &[u8], c: Cursor, n: usize) -> Result<WordsRead, Fault>
     requires { Addressable s.now × (n ≤ 200) }
-    ensures { (of_words_read (bits_of s.now) result ≡ told (repeat word n (drop c.at (bits_of s.now)))) × (result.count ≤ 200) }
+    ensures { (of_words_read (bits_of s.now) result ≡ told (repeat word n (drop c.at (bits_of s.now)))) × IfOk result (λ w. w.count ≤ 200) }
 {
     let mut at = c.at;
-    let mut last = word_refused(Fault::Past);
+    let mut last = Spelt {
+        at: 0,
+        count: 0,
+        head: 0,
+    };
     let mut t = Found {
         up: true,
         resource: n,
         own: n,
     };
-    let mut left = n;
-    while 0 < left {
-        let w = read_word(s, at);
-        if w.ok {
-            t = with_word(s, t, last, w, n - left, n);
-            at = w.at + 8 * w.count;
-            last = w;
-        } else {
-            let fault = w.fault;
-            return words_refused(fault);
-        }
-        left -= 1;
+    for i in 0..n {
+        let w = read_word(s, at)?;
+        t = with_word(s, t, last, w, i, n);
+        at = w.at + 8 * w.count;
+        last = w;
     }
-    WordsRead {
-        ok: true,
-        fault: Fault::Past,
+    Ok(WordsRead {
         count: n,
         at,
         bad: is_bad(t, n),
         resource: t.resource as u8,
         own: t.own as u8,
-    }
+    })
 }
 
 // The word list, of 2 to 200 words (FORMAT 2.2), and what its spelling tells (FORMAT 1.2).
-pub fn read_words(s: &[u8], c: Cursor) -> WordsRead
+pub fn read_words(s: &[u8], c: Cursor) -> Result<WordsRead, Fault>
     requires { Addressable s.now }
-    ensures { (of_words_read (bits_of s.now) result ≡ told (counted 8 2 200 word (drop c.at (bits_of s.now)))) × (result.count ≤ 200) }
+    ensures { (of_words_read (bits_of s.now) result ≡ told (counted 8 2 200 word (drop c.at (bits_of s.now)))) × IfOk result (λ w. w.count ≤ 200) }
 {
-    match fields::read_between(s, c, 8, 2, 200) {
-        Field::At(n, next) => read_each_word(s, next, n),
-        Field::Refused(r) => words_refused(r),
-    }
+    let (n, next) = fields::read_between(s, c, 8, 2, 200)?;
+    read_each_word(s, next, n)
 }

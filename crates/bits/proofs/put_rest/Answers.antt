@@ -7,7 +7,6 @@ use Rattle.bits.specs.WriteLaws.{put_on}
 use native.Mathlib.Omega.{arith}
 use Rattle.bits.proofs.put_rest.Goals as goal
 
--- src/lib.rt:60:1
 pub returns : goal.returns
 returns c =
     let a = c.args in

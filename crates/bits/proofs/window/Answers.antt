@@ -1,12 +1,6 @@
 use Prim.Native.Nat.{◌/◌}
-use lib.Pow.{pow_pos}
 use Rattle.bits.specs.NumberLaws.{shl_one, field_of, num-three-at}
 use Rattle.bits.proofs.window.Goals as goal
-
-pub nonzero_rem-result : goal.nonzero_rem-result
-nonzero_rem-result c =
-    let n = c.args.n in
-    rw (shl_one n c.requires.0) (pow_pos n)
 
 pub returns : goal.returns
 returns c =

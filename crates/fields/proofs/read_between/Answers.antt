@@ -1,32 +1,21 @@
-use native.Mathlib.Omega.{arith}
-use Rattle.bits.specs.ReadLaws.{field-read}
 use borrow.Author.Tests.{lt-leb, le-leb}
 use Rattle.definitions.specs.Parse.{allowed}
+use Rattle.fields.specs.FieldLaws.{err_was}
 use Rattle.fields.proofs.read_between.Goals as goal
+use Rattle.fields.proofs.read_between.Goals.{then-v-least-via-then-v-least, then-v-least-via-else-v-least+then-most-v}
+
+pub returns-in_err-v : goal.returns-in_err-v
+unfolding allowed
+returns-in_err-v c = rw (err_was _ c.in_err-v.field-0.0 c.from_residual.ensures.1, ← c.read_field.ensures, c.in_err-v.was)
 
 pub returns-then-v-least : goal.returns-then-v-least
 unfolding allowed
 returns-then-v-least c =
-    let b = c in
-    let a = b.args in
-    rw (field-read _ _ a.n (omega arith), ← b.read_at.ensures, b.in-Value.is, lt-leb _ _ c.if-v-least.true)
+    elim c.then-v-least.branch [
+      | then-v-least-via-then-v-least w ↦ rw (← c.read_field.ensures, c.in_ok-v.was, lt-leb _ _ w.if-v-least.true)
+      | then-v-least-via-else-v-least+then-most-v w ↦ rw (← c.read_field.ensures, c.in_ok-v.was, le-leb _ _ w.if-v-least.false, lt-leb _ _ w.if-most-v.true)
+    ]
 
-pub returns-then-most-v : goal.returns-then-most-v
+pub returns : goal.returns
 unfolding allowed
-returns-then-most-v c =
-    let b = c in
-    let a = b.args in
-    rw (field-read _ _ a.n (omega arith), ← b.read_at.ensures, b.in-Value.is, le-leb _ _ c.if-v-least.false, lt-leb _ _ c.if-most-v.true)
-
-pub returns-else-most-v : goal.returns-else-most-v
-unfolding allowed
-returns-else-most-v c =
-    let b = c in
-    let a = b.args in
-    rw (field-read _ _ a.n (omega arith), ← b.read_at.ensures, b.in-Value.is, le-leb _ _ c.if-v-least.false, le-leb _ _ c.if-most-v.false)
-
-pub returns-in-Past : goal.returns-in-Past
-unfolding allowed
-returns-in-Past c =
-    let a = c.args in
-    rw (field-read _ _ a.n (omega arith), ← c.read_at.ensures, c.in-Past.is)
+returns c = rw (← c.read_field.ensures, c.in_ok-v.was, le-leb _ _ c.if-v-least.false, le-leb _ _ c.if-most-v.false)

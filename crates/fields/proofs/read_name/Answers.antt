@@ -1,22 +1,16 @@
 use Rattle.definitions.specs.Reading.{name}
+use Rattle.fields.specs.FieldLaws.{err_was}
 use Rattle.fields.proofs.read_name.Goals as goal
 
-pub returns-in-At-read_word_if_flag : goal.returns-in-At-read_word_if_flag
+pub returns-in_err-first : goal.returns-in_err-first
 unfolding name
-returns-in-At-read_word_if_flag c =
-    let b = c in
-    let a = b in
-    rw (← a.read_word_field.ensures, a.in-At.is, ← b.read_word_if_flag.ensures, b.in-At-read_word_if_flag.is)
+returns-in_err-first c = rw (err_was _ c.in_err-first.field-0.0 c.from_residual.ensures.1, ← c.read_word_field.ensures, c.in_err-first.was)
 
-pub returns-in-Refused-read_word_if_flag : goal.returns-in-Refused-read_word_if_flag
+pub returns-in_err-second : goal.returns-in_err-second
 unfolding name
-returns-in-Refused-read_word_if_flag c =
-    let b = c in
-    let a = b in
-    rw (← a.read_word_field.ensures, a.in-At.is, ← b.read_word_if_flag.ensures, b.in-Refused-read_word_if_flag.is)
+returns-in_err-second c =
+    rw (err_was _ c.in_err-second.field-0.0 c.from_residual-in_err-second.ensures.1, ← c.read_word_field.ensures, c.in_ok-first.was, ← c.read_word_if_flag.ensures, c.in_err-second.was)
 
-pub returns-in-Refused : goal.returns-in-Refused
+pub returns : goal.returns
 unfolding name
-returns-in-Refused c =
-    let a = c in
-    rw (← a.read_word_field.ensures, a.in-Refused.is)
+returns c = rw (← c.read_word_field.ensures, c.in_ok-first.was, ← c.read_word_if_flag.ensures, c.in_ok-second.was)

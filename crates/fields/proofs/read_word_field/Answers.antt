@@ -1,30 +1,24 @@
 use native.Mathlib.Omega.{arith}
-use mathlib.Core.Path.{sym, ◌∙◌}
+use mathlib.Core.Path.{sym, ap, ◌∙◌}
 use Rattle.definitions.specs.Bits.{bits_of}
-use Rattle.bits.specs.ReadLaws.{field-read, read-lt}
 use borrow.Author.Tests.{lt-ltb, le-ltb}
 use Rattle.definitions.specs.Parse.{allowed}
 use Rattle.definitions.specs.Reading.{word_field}
+use Rattle.fields.specs.Fields.{of_field}
+use Rattle.fields.specs.FieldLaws.{err_was, field-lt}
 use Rattle.fields.proofs.read_word_field.Goals as goal
 
+pub returns-in_err-w : goal.returns-in_err-w
+unfolding word_field allowed
+returns-in_err-w c = rw (err_was _ c.in_err-w.field-0.0 c.from_residual.ensures.1, ← c.read_field.ensures, c.in_err-w.was)
+
 pub overflow_cast-result : goal.overflow_cast-result
-overflow_cast-result c =
-    let b = c in
-    let a = b.args in
-    omega (arith, read-lt (bits_of a.s.now) a.c.at 8 b.in-Value.v _ (sym b.read.ensures ∙ b.in-Value.is))
+overflow_cast-result c = omega (arith, field-lt 8 _ c.in_ok-w.w _ (omega arith) (sym c.read_field.ensures ∙ ap (of_field (bits_of c.args.s.now)) c.in_ok-w.was))
 
-pub returns-then-v-limit : goal.returns-then-v-limit
+pub returns-then-w-limit : goal.returns-then-w-limit
 unfolding word_field allowed
-returns-then-v-limit c =
-    let b = c in
-    rw (field-read _ _ 8 (omega arith), ← b.read.ensures, b.in-Value.is, lt-ltb _ _ c.if-v-limit.true)
+returns-then-w-limit c = rw (← c.read_field.ensures, c.in_ok-w.was, lt-ltb _ _ c.if-w-limit.true)
 
-pub returns-else-v-limit : goal.returns-else-v-limit
+pub returns-else-w-limit : goal.returns-else-w-limit
 unfolding word_field allowed
-returns-else-v-limit c =
-    let b = c in
-    rw (field-read _ _ 8 (omega arith), ← b.read.ensures, b.in-Value.is, le-ltb _ _ c.if-v-limit.false)
-
-pub returns-in-Past : goal.returns-in-Past
-unfolding word_field allowed
-returns-in-Past c = rw (field-read _ _ 8 (omega arith), ← c.read.ensures, c.in-Past.is)
+returns-else-w-limit c = rw (← c.read_field.ensures, c.in_ok-w.was, le-ltb _ _ c.if-w-limit.false)

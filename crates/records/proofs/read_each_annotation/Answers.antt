@@ -1,44 +1,39 @@
-use mathlib.Core.Path.{refl, sym, ◌∙◌}
+use mathlib.Core.Path.{refl, sym, ap, ◌∙◌}
 use native.Mathlib.Omega.{arith}
 use Rattle.definitions.specs.Bits.{bits_of}
-use lib.ListN.{drop, length-set}
-use Rattle.lists.specs.Tabulating.{length-mapped}
+use lib.ListN.{drop}
 use Rattle.definitions.specs.Reading.{annotation}
+use Rattle.fields.specs.Fields.{of_parsed, fault_of}
+use Rattle.fields.specs.FieldLaws.{err_was}
+use Rattle.fields.specs.ParseLaws.{repeat-none, repeat-next, repeat-refused}
 use Rattle.records.specs.Annotations.{annotation_of, of_annotations}
-use Rattle.records.specs.AnnotationLaws.{annotations-more}
-use Rattle.fields.specs.Fields.{fault_of}
-use Rattle.fields.specs.ParseLaws.{repeat-none, repeat-done, repeat-refused}
 use Rattle.records.proofs.read_each_annotation.Goals as goal
 
-pub loop-left-init : goal.loop-left-init
-loop-left-init c = (omega (arith, c.no_annotations-annotations.ensures.1), rw c.no_annotations-annotations.ensures.0 refl, search length-mapped)
-
-pub returns-else-r : goal.returns-else-r
-returns-else-r c =
-    let l = c.loop-left in
+pub returns-in_err-annotation : goal.returns-in_err-annotation
+returns-in_err-annotation c =
+    let l = c.loop in
     let a = c.args in
-    let r = c.read_annotation-r in
+    let r = c.in_err-annotation.field-0.0 in
     let bs = bits_of a.s.now in
-    rw (c.annotations_refused.ensures.0, c.annotations_refused.ensures.1)
-    (sym (l.invariant.1 ∙ repeat-refused (of_annotations l.annotations) (annotation a.limit a.single) l.left (drop l.next.at bs) (fault_of r.result.fault) (omega arith)
-    (sym r.ensures ∙ rw c.if-r.false refl)))
+    rw (err_was _ r c.from_residual.ensures.1)
+    (sym (l.invariant.1 ∙ repeat-refused (of_annotations l.annotations) (annotation a.limit a.single) _ (drop l.next.at bs) (fault_of r) (omega arith)
+    (sym c.read_annotation.ensures ∙ ap (of_parsed annotation_of bs) c.in_err-annotation.was)))
 
-pub loop-left-preserved : goal.loop-left-preserved
-loop-left-preserved c =
-    let l = c.loop-left in
+pub loop-preserved : goal.loop-preserved
+loop-preserved c =
+    let l = c.loop in
     let a = c.args in
-    let r = c.read_annotation-r in
+    let v = c.in_ok-annotation in
     let bs = bits_of a.s.now in (
-      omega arith,
+      omega (arith, c.push.ensures.1),
       l.invariant.1
-          ∙ repeat-done (of_annotations l.annotations) (annotation a.limit a.single) l.left (drop l.next.at bs) (annotation_of r.result.annotation) (drop r.result.next.at bs) (omega arith)
-          (sym r.ensures ∙ rw c.if-r.true refl)
-          ∙ rw (← annotations-more l.annotations r.result.annotation (omega arith)) refl,
-      simp length-set l.invariant.2,
+          ∙ repeat-next (of_annotations l.annotations) (annotation a.limit a.single) a.n l.counter (drop l.next.at bs) (annotation_of v.annotation) (drop v.end.at bs) (omega arith)
+          (sym c.read_annotation.ensures ∙ ap (of_parsed annotation_of bs) v.was)
+          ∙ rw c.push.ensures.0 refl,
     )
 
 pub returns : goal.returns
 returns c =
-    let l = c.loop-left in
+    let l = c.loop in
     let a = c.args in
-    sym (l.invariant.1 ∙ repeat-none (of_annotations l.annotations) (annotation a.limit a.single) l.left (drop l.next.at (bits_of a.s.now)) (omega arith))
+    sym (l.invariant.1 ∙ repeat-none (of_annotations l.annotations) (annotation a.limit a.single) _ (drop l.next.at (bits_of a.s.now)) (omega arith))

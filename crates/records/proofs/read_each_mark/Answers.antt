@@ -3,39 +3,37 @@ use native.Mathlib.Omega.{arith}
 use Rattle.definitions.specs.Bits.{bits_of}
 use lib.ListN.{drop}
 use Rattle.definitions.specs.Reading.{mark}
-use Rattle.records.specs.Marks.{mark_of, of_mark_read, of_marks}
-use Rattle.fields.specs.Fields.{fault_of}
-use Rattle.fields.specs.ParseLaws.{repeat-none, repeat-done, repeat-refused}
+use Rattle.fields.specs.Fields.{of_parsed, fault_of}
+use Rattle.fields.specs.FieldLaws.{err_was}
+use Rattle.fields.specs.ParseLaws.{repeat-none, repeat-next, repeat-refused}
+use Rattle.records.specs.Marks.{mark_of, of_marks}
 use Rattle.records.proofs.read_each_mark.Goals as goal
 
-pub loop-left-init : goal.loop-left-init
-loop-left-init c = (omega (arith, c.no_marks-marks.ensures.1), rw c.no_marks-marks.ensures.0 refl)
-
-pub returns-in-Refused : goal.returns-in-Refused
-returns-in-Refused c =
-    let l = c.loop-left in
+pub returns-in_err-mark : goal.returns-in_err-mark
+returns-in_err-mark c =
+    let l = c.loop in
     let a = c.args in
-    let v = c.in-Refused in
+    let r = c.in_err-mark.field-0.0 in
     let bs = bits_of a.s.now in
-    rw (c.marks_refused.ensures.0, c.marks_refused.ensures.1)
-    (sym (l.invariant.1 ∙ repeat-refused (of_marks l.marks) mark l.left (drop l.next.at bs) (fault_of v.r) (omega arith)
-    (sym c.read_mark.ensures ∙ ap (of_mark_read bs) v.is)))
+    rw (err_was _ r c.from_residual.ensures.1)
+    (sym (l.invariant.1 ∙ repeat-refused (of_marks l.marks) mark _ (drop l.next.at bs) (fault_of r) (omega arith)
+    (sym c.read_mark.ensures ∙ ap (of_parsed mark_of bs) c.in_err-mark.was)))
 
-pub loop-left-preserved : goal.loop-left-preserved
-loop-left-preserved c =
-    let l = c.loop-left in
+pub loop-preserved : goal.loop-preserved
+loop-preserved c =
+    let l = c.loop in
     let a = c.args in
-    let v = c.in-At in
+    let v = c.in_ok-mark in
     let bs = bits_of a.s.now in (
-      omega (arith, c.with_mark-marks.ensures.1),
+      omega (arith, c.push.ensures.1),
       l.invariant.1
-          ∙ repeat-done (of_marks l.marks) mark l.left (drop l.next.at bs) (mark_of v.m) (drop v.end.at bs) (omega arith)
-          (sym c.read_mark.ensures ∙ ap (of_mark_read bs) v.is)
-          ∙ rw c.with_mark-marks.ensures.0 refl,
+          ∙ repeat-next (of_marks l.marks) mark a.n l.counter (drop l.next.at bs) (mark_of v.mark) (drop v.end.at bs) (omega arith)
+          (sym c.read_mark.ensures ∙ ap (of_parsed mark_of bs) v.was)
+          ∙ rw c.push.ensures.0 refl,
     )
 
 pub returns : goal.returns
 returns c =
-    let l = c.loop-left in
+    let l = c.loop in
     let a = c.args in
-    sym (l.invariant.1 ∙ repeat-none (of_marks l.marks) mark l.left (drop l.next.at (bits_of a.s.now)) (omega arith))
+    sym (l.invariant.1 ∙ repeat-none (of_marks l.marks) mark _ (drop l.next.at (bits_of a.s.now)) (omega arith))

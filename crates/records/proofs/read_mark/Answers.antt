@@ -1,31 +1,21 @@
-use native.Mathlib.Omega.{arith}
 use borrow.Author.Tests.{eq-eqb, ne_eqb}
-use Rattle.bits.specs.ReadLaws.{field-read}
 use Rattle.definitions.specs.Reading.{mark}
+use Rattle.fields.specs.FieldLaws.{err_was}
 use Rattle.records.proofs.read_mark.Goals as goal
 
-pub returns-in-At : goal.returns-in-At
+pub returns-in_err-flag : goal.returns-in_err-flag
 unfolding mark
-returns-in-At c =
-    let t = c in
-    let i = t in
-    let f = i in
-    rw (field-read _ _ 1 (omega arith), ← f.read.ensures, f.in-Value.is, eq-eqb _ _ i.if-flag-eq1.true, ← t.read_tag.ensures, t.in-At.is)
+returns-in_err-flag c = rw (err_was _ c.in_err-flag.field-0.0 c.from_residual.ensures.1, ← c.read_field.ensures, c.in_err-flag.was)
 
-pub returns-in-Refused : goal.returns-in-Refused
+pub returns-in_err-tag : goal.returns-in_err-tag
 unfolding mark
-returns-in-Refused c =
-    let t = c in
-    let i = t in
-    let f = i in
-    rw (field-read _ _ 1 (omega arith), ← f.read.ensures, f.in-Value.is, eq-eqb _ _ i.if-flag-eq1.true, ← t.read_tag.ensures, t.in-Refused.is)
+returns-in_err-tag c =
+    rw (err_was _ c.in_err-tag.field-0.0 c.from_residual-in_err-tag.ensures.1, ← c.read_field.ensures, c.in_ok-flag.was, eq-eqb _ _ c.if-flag-eq1.true, ← c.read_tag.ensures, c.in_err-tag.was)
+
+pub returns-in_ok-tag : goal.returns-in_ok-tag
+unfolding mark
+returns-in_ok-tag c = rw (← c.read_field.ensures, c.in_ok-flag.was, eq-eqb _ _ c.if-flag-eq1.true, ← c.read_tag.ensures, c.in_ok-tag.was)
 
 pub returns-else-flag-eq1 : goal.returns-else-flag-eq1
 unfolding mark
-returns-else-flag-eq1 c =
-    let f = c in
-    rw (field-read _ _ 1 (omega arith), ← f.read.ensures, f.in-Value.is, ne_eqb _ _ c.if-flag-eq1.false)
-
-pub returns-in-Past : goal.returns-in-Past
-unfolding mark
-returns-in-Past c = rw (field-read _ _ 1 (omega arith), ← c.read.ensures, c.in-Past.is)
+returns-else-flag-eq1 c = rw (← c.read_field.ensures, c.in_ok-flag.was, ne_eqb _ _ c.if-flag-eq1.false)

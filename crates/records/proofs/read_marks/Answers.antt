@@ -1,27 +1,22 @@
-use mathlib.Core.Path.{sym, ap, ◌∙◌}
 use native.Mathlib.Omega.{arith}
-use Rattle.definitions.specs.Bits.{bits_of}
+use mathlib.Core.Path.{sym, ap, ◌∙◌}
 use lib.ListN.{drop}
+use Rattle.definitions.specs.Bits.{bits_of}
 use Rattle.definitions.specs.Parse.{counted}
-use Rattle.fields.specs.FieldLaws.{between_in}
 use Rattle.fields.specs.Fields.{of_field}
+use Rattle.fields.specs.FieldLaws.{err_was, between_in}
 use Rattle.records.proofs.read_marks.Goals as goal
+
+pub returns-in_err-n : goal.returns-in_err-n
+unfolding counted
+returns-in_err-n c = rw (err_was _ c.in_err-n.field-0.0 c.from_residual.ensures.1, ← c.read_between.ensures, c.in_err-n.was)
 
 pub read_each_mark-requires : goal.read_each_mark-requires
 read_each_mark-requires c =
-    let b = c in
-    let a = b.args in
+    let a = c.args in
     let bs = bits_of a.s.now in
-    omega (arith, between_in 3 0 7 (drop a.c.at bs) b.in-At.n _ (sym b.read_between.ensures ∙ ap (of_field bs) b.in-At.is))
+    omega (arith, between_in 3 0 7 (drop a.c.at bs) c.in_ok-n.n _ (sym c.read_between.ensures ∙ ap (of_field bs) c.in_ok-n.was))
 
-pub returns-in-At : goal.returns-in-At
+pub returns : goal.returns
 unfolding counted
-returns-in-At c =
-    let b = c in
-    rw (← b.read_between.ensures, b.in-At.is) c.read_each_mark.ensures
-
-pub returns-in-Refused : goal.returns-in-Refused
-unfolding counted
-returns-in-Refused c =
-    let b = c in
-    rw (← b.read_between.ensures, b.in-Refused.is, c.marks_refused.ensures.0, c.marks_refused.ensures.1)
+returns c = rw (← c.read_between.ensures, c.in_ok-n.was) c.read_each_mark.ensures

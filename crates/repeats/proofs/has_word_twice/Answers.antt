@@ -1,33 +1,18 @@
-use mathlib.Core.Path.{refl, sym, ◌∙◌}
-use native.Mathlib.Omega.{arith}
+use mathlib.Core.Path.{refl, ◌∙◌}
+use Prim.Native.Nat.{◌+◌}
 use lib.Dec.{eqb}
-use Rattle.lists.specs.Places.{repeats-step, repeats-end}
+use lib.ListN.{get_or, drop}
+use borrow.Author.Rules.{rules}
+use Rattle.std.proofs.Common.{tests}
+use Rattle.std.proofs.lemmas.Iterator.{YieldsList-from_range}
+use Rattle.std.proofs.lemmas.Iterator.Search.{any_from_yields_List}
+use Rattle.lists.specs.Lists.{any}
 use Rattle.repeats.specs.Repeats.{words_of}
-use Rattle.repeats.specs.RepeatLaws.{length-words_of, word-of}
+use Rattle.repeats.specs.RepeatLaws.{words-twice}
 use Rattle.repeats.proofs.has_word_twice.Goals as goal
-
-pub loop-i-init : goal.loop-i-init
-loop-i-init c = refl
-
-pub returns-then-has_word_from : goal.returns-then-has_word_from
-returns-then-has_word_from c =
-    let x = c in
-    let l = x.loop-i in
-    let a = x.args.a in
-    sym
-    (l.invariant ∙ repeats-step eqb (words_of a) l.i 0 (omega (arith, length-words_of a))
-    ∙ rw (word-of a l.i (omega arith), ← x.word_at.ensures, ← c.has_word_from.ensures, c.if-has_word_from.true))
-
-pub loop-i-preserved : goal.loop-i-preserved
-loop-i-preserved c =
-    let x = c in
-    let l = x.loop-i in
-    let a = x.args.a in
-    l.invariant ∙ repeats-step eqb (words_of a) l.i 0 (omega (arith, length-words_of a))
-    ∙ rw (word-of a l.i (omega arith), ← x.word_at.ensures, ← c.has_word_from.ensures, c.if-has_word_from.false)
 
 pub returns : goal.returns
 returns c =
-    let l = c.loop-i in
     let a = c.args.a in
-    sym (l.invariant ∙ repeats-end eqb (words_of a) l.i (omega (arith, length-words_of a)))
+    any_from_yields_List (λ i. any (eqb (get_or a.words i 0)) (drop (i + 1) (words_of a))) _ _ _ c.any.ensures.ran (YieldsList-from_range 0 a.count _ refl refl) (λ x b q k. search (rules, tests))
+    ∙ words-twice a

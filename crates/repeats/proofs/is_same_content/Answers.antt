@@ -5,26 +5,18 @@ use Rattle.repeats.proofs.is_same_content.Goals as goal
 
 pub returns-then-is_associate : goal.returns-then-is_associate
 unfolding same_content
-returns-then-is_associate c = let x = c in c.is_same_set.ensures ∙ sym (rw (← x.is_associate.ensures, c.if-is_associate.true))
+returns-then-is_associate c = c.is_same_set.ensures ∙ sym (rw (← c.is_associate.ensures, c.if-is_associate.true))
 
 pub returns-then-k-eq4 : goal.returns-then-k-eq4
 unfolding same_content
-returns-then-k-eq4 c =
-    let y = c in
-    c.is_same_rows.ensures ∙ sym (rw (← y.is_associate.ensures, y.if-is_associate.false, eq-eqb _ _ c.if-k-eq4.true))
+returns-then-k-eq4 c = c.is_same_rows.ensures ∙ sym (rw (← c.is_associate.ensures, c.if-is_associate.false, eq-eqb _ _ c.if-k-eq4.true))
 
 pub returns-then-is_worded : goal.returns-then-is_worded
 unfolding same_content
 returns-then-is_worded c =
-    let w = c in
-    let z = w in
-    let y = z in
     sym
-    (rw (← y.is_associate.ensures, y.if-is_associate.false, ne_eqb _ _ z.if-k-eq4.false, ← w.is_worded.ensures, w.if-is_worded.true, ← c.only_word.ensures, ← c.only_word-then-is_worded.ensures))
+    (rw (← c.is_associate.ensures, c.if-is_associate.false, ne_eqb _ _ c.if-k-eq4.false, ← c.is_worded.ensures, c.if-is_worded.true, ← c.only_word.ensures, ← c.only_word-then-is_worded.ensures))
 
 pub returns : goal.returns
 unfolding same_content
-returns c =
-    let z = c in
-    let y = z in
-    sym (rw (← y.is_associate.ensures, y.if-is_associate.false, ne_eqb _ _ z.if-k-eq4.false, ← c.is_worded.ensures, c.if-is_worded.false))
+returns c = sym (rw (← c.is_associate.ensures, c.if-is_associate.false, ne_eqb _ _ c.if-k-eq4.false, ← c.is_worded.ensures, c.if-is_worded.false))

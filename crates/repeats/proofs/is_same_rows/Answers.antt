@@ -1,40 +1,25 @@
-use mathlib.Core.List.{[]}
 use mathlib.Core.Path.{refl, sym, ◌∙◌}
-use native.Mathlib.Omega.{arith}
 use lib.Dec.{eqb}
+use borrow.Author.Rules.{rules}
+use borrow.Author.Tests.{ne_eqb}
+use Rattle.std.proofs.Common.{tests}
+use Rattle.std.proofs.lemmas.Iterator.{YieldsList-from_range}
+use Rattle.std.proofs.lemmas.Iterator.Search.{all_from_yields_List}
 use Rattle.lists.specs.Lists.{same_list}
-use Rattle.lists.specs.Places.{same_step, same_end, same_length}
-use Rattle.repeats.specs.Repeats.{rows_of}
-use Rattle.repeats.specs.RepeatLaws.{length-rows_of, row_of}
+use Rattle.lists.specs.Places.{same_length}
+use Rattle.repeats.specs.Repeats.{rows_of, row_at}
+use Rattle.repeats.specs.RepeatLaws.{rows-all, length-rows_of}
 use Rattle.repeats.proofs.is_same_rows.Goals as goal
 
-pub loop-i-init : goal.loop-i-init
-loop-i-init c = refl
+pub returns-then-a-b : goal.returns-then-a-b
+returns-then-a-b c =
+    let a = c.args.a.now in
+    let b = c.args.b.now in
+    all_from_yields_List (λ i. same_list eqb (row_at a i) (row_at b i)) _ _ _ c.all.ensures.ran (YieldsList-from_range 0 a.count _ refl refl) (λ x b q k. search (rules, tests))
+    ∙ rows-all a b c.if-a-b.true
 
-pub loop-i-preserved : goal.loop-i-preserved
-loop-i-preserved c =
-    let x = c in
-    let l = x.loop-i in
-    let a = x.args in
-    l.invariant ∙ same_step (same_list eqb) (rows_of a.a) (rows_of a.b) l.i [] (omega (arith, length-rows_of a.a)) (omega (arith, length-rows_of a.b))
-    ∙ rw (row_of a.a l.i (omega arith), row_of a.b l.i (omega arith), ← x.is_same_row.ensures, c.if-is_same_row.true)
-
-pub returns-else-is_same_row : goal.returns-else-is_same_row
-returns-else-is_same_row c =
-    let x = c in
-    let l = x.loop-i in
-    let a = x.args in
-    sym
-    (l.invariant ∙ same_step (same_list eqb) (rows_of a.a) (rows_of a.b) l.i [] (omega (arith, length-rows_of a.a)) (omega (arith, length-rows_of a.b))
-    ∙ rw (row_of a.a l.i (omega arith), row_of a.b l.i (omega arith), ← x.is_same_row.ensures, c.if-is_same_row.false))
-
-pub returns-after-loop-i : goal.returns-after-loop-i
-returns-after-loop-i c =
-    let l = c.loop-i in
-    let a = c.args in
-    sym (l.invariant ∙ same_end (same_list eqb) (rows_of a.a) (rows_of a.b) l.i (omega (arith, length-rows_of a.a)) (omega (arith, length-rows_of a.b)))
-
-pub returns-else-n-b : goal.returns-else-n-b
-returns-else-n-b c =
-    let a = c.args in
-    sym (same_length (same_list eqb) (rows_of a.a) (rows_of a.b) (λ e. c.if-n-b.false (sym (length-rows_of a.a) ∙ e ∙ length-rows_of a.b)))
+pub returns-else-a-b : goal.returns-else-a-b
+returns-else-a-b c =
+    let a = c.args.a.now in
+    let b = c.args.b.now in
+    ne_eqb _ _ c.if-a-b.false ∙ sym (same_length (same_list eqb) (rows_of a) (rows_of b) (λ e. c.if-a-b.false (sym (length-rows_of a) ∙ e ∙ length-rows_of b)))

@@ -1,34 +1,18 @@
-use mathlib.Core.Path.{refl, sym, ◌∙◌}
-use native.Mathlib.Omega.{arith}
+use mathlib.Core.Path.{refl, ◌∙◌}
 use lib.Dec.{eqb}
+use lib.ListN.{get_or}
+use borrow.Author.Rules.{rules}
+use Rattle.std.proofs.Common.{tests}
+use Rattle.std.proofs.lemmas.Iterator.{YieldsList-from_range}
+use Rattle.std.proofs.lemmas.Iterator.Search.{all_from_yields_List}
 use Rattle.lists.specs.Lists.{any}
-use Rattle.lists.specs.Places.{all-step, all_end}
 use Rattle.repeats.specs.Repeats.{words_of}
-use Rattle.repeats.specs.RepeatLaws.{length-words_of, word-of}
+use Rattle.repeats.specs.RepeatLaws.{words-all}
 use Rattle.repeats.proofs.is_within.Goals as goal
-
-pub loop-i-init : goal.loop-i-init
-loop-i-init c = refl
-
-pub loop-i-preserved : goal.loop-i-preserved
-loop-i-preserved c =
-    let x = c in
-    let l = x.loop-i in
-    let a = x.args in
-    l.invariant ∙ all-step (λ w. any (eqb w) (words_of a.b)) (words_of a.a) l.i 0 (omega (arith, length-words_of a.a))
-    ∙ rw (word-of a.a l.i (omega arith), ← x.word_at.ensures, ← c.has_word_from.ensures, c.if-has_word_from.true)
-
-pub returns-else-has_word_from : goal.returns-else-has_word_from
-returns-else-has_word_from c =
-    let x = c in
-    let l = x.loop-i in
-    let a = x.args in
-    sym
-    (l.invariant ∙ all-step (λ w. any (eqb w) (words_of a.b)) (words_of a.a) l.i 0 (omega (arith, length-words_of a.a))
-    ∙ rw (word-of a.a l.i (omega arith), ← x.word_at.ensures, ← c.has_word_from.ensures, c.if-has_word_from.false))
 
 pub returns : goal.returns
 returns c =
-    let l = c.loop-i in
-    let a = c.args in
-    sym (l.invariant ∙ all_end (λ w. any (eqb w) (words_of a.b)) (words_of a.a) l.i (omega (arith, length-words_of a.a)))
+    let a = c.args.a.now in
+    let ws = words_of c.args.b.now in
+    all_from_yields_List (λ i. any (eqb (get_or a.words i 0)) ws) _ _ _ c.all.ensures.ran (YieldsList-from_range 0 a.count _ refl refl) (λ x b q k. search (rules, tests))
+    ∙ words-all a ws

@@ -4,7 +4,7 @@ use Rattle.repeats.specs.RepeatLaws.{only-word}
 use Rattle.repeats.proofs.only_word.Goals as goal
 
 pub returns-then-a-eq0 : goal.returns-then-a-eq0
-returns-then-a-eq0 c = sym (only-word c.args.a ∙ rw (eq-eqb _ _ c.if-a-eq0.true))
+returns-then-a-eq0 c = sym (only-word c.args.a.now ∙ rw (eq-eqb _ _ c.if-a-eq0.true))
 
 pub returns-else-a-eq0 : goal.returns-else-a-eq0
-returns-else-a-eq0 c = c.word_at.ensures ∙ sym (only-word c.args.a ∙ rw (ne_eqb _ _ c.if-a-eq0.false))
+returns-else-a-eq0 c = sym (only-word c.args.a.now ∙ rw (ne_eqb _ _ c.if-a-eq0.false))

@@ -16,13 +16,13 @@ returns-then-left-ge8 c =
     let a = c.args in
     sym (fill-long (drop a.c.at (bits_of a.s.now)) (omega (arith, length-drop a.c.at (bits_of a.s.now), length-bits_of a.s.now)))
 
-pub returns-in-Value : goal.returns-in-Value
-returns-in-Value c =
+pub returns-in-Some : goal.returns-in-Some
+returns-in-Some c =
     let b = c in
     let a = b.args in
-    sym (fill-read a.s.now a.c.at _ (omega arith) (omega arith) ∙ ap fill_of (sym b.read.ensures ∙ b.in-Value.is))
+    sym (fill-read a.s.now a.c.at _ (omega arith) (omega arith) ∙ ap fill_of (sym b.read.ensures ∙ b.in-Some.is))
 
-pub returns-in-Past : goal.returns-in-Past
-returns-in-Past c =
+pub returns-in-None : goal.returns-in-None
+returns-in-None c =
     let a = c.args in
-    sym (fill-read a.s.now a.c.at _ (omega arith) (omega arith) ∙ ap fill_of (sym c.read.ensures ∙ c.in-Past.is))
+    sym (fill-read a.s.now a.c.at _ (omega arith) (omega arith) ∙ ap fill_of (sym c.read.ensures ∙ c.in-None.is))

@@ -1,92 +1,67 @@
-use Rattle.decoding.specs.Decoding.{turned_back}
 use Rattle.sheet_repeats.specs.declared.Sizes.{Sizes}
+use Rattle.std.proofs.lemmas.Result.{err_from_is_err_and}
 use Rattle.sheet_decode.specs.DecodeLaws.{listed, not_listed, low, back_as, fill-back, words_back, twice-back, passes}
 use Rattle.sheet_repeats.specs.TwiceLaws.{twice-is}
 use Rattle.definitions.specs.Bits.{bits_of}
-use lib.ListN.{length, drop}
-use borrow.Author.Tests.{not-true, not-false}
-use native.Mathlib.Omega.{arith}
-use mathlib.Core.Path.{◌≡◌, refl, sym, ap, ◌∙◌}
-use borrow.Author.Rules.{rules}
+use mathlib.Core.Path.{refl, sym, ◌∙◌}
 use Rattle.sheet_decode.proofs.decode.Goals as goal
 
--- src/lib.rt:153:9
-pub returns-then-not-l : goal.returns-then-not-l
-returns-then-not-l c =
-    let s = c in
-    let bytes = s.args.s.now in
-    let x = c.read_lists-l in
-    let l = x.result in
-    let d = x.new.d in
-    let t = x.new.t in
-    back_as bytes d s.args.entries.now t c.turned_back.result _ c.turned_back.ensures
-    (not_listed bytes d t l x.ensures.0 (not-true _ c.if-not-l.true) ∙ ap turned_back (sym c.number_of.ensures))
+pub returns-in_err-l : goal.returns-in_err-l
+returns-in_err-l c =
+    let bytes = c.args.s.now in
+    let x = c.read_lists in
+    let p = err_from_is_err_and c.from_residual.result c.from_residual.ensures.1 in
+    rw p.1 (back_as bytes _ _ p.2 (not_listed bytes x.new.d x.new.t c.in_err-l.field-0.0 (rw c.in_err-l.was at x.ensures.0)))
 
--- src/lib.rt:156:9
 pub returns-then-is_bad_fill : goal.returns-then-is_bad_fill
 returns-then-is_bad_fill c =
-    let s = c in
-    let bytes = s.args.s.now in
-    let x = c.read_lists-l in
-    let l = x.result in
-    let d = x.new.d in
-    let t = x.new.t in
-    let h = listed bytes d t l x.ensures.0 (not-false _ c.if-not-l.false) in
-    back_as bytes d s.args.entries.now t c.turned_back-then-is_bad_fill.result _ c.turned_back-then-is_bad_fill.ensures (fill-back bytes d t l h (sym c.is_bad_fill.ensures ∙ c.if-is_bad_fill.true))
+    let bytes = c.args.s.now in
+    let x = c.read_lists in
+    let l = c.in_ok-l.l in
+    let h = listed bytes x.new.d x.new.t l (rw c.in_ok-l.was at x.ensures.0) in
+    back_as bytes _ 7 refl (fill-back bytes x.new.d x.new.t l h (sym c.is_bad_fill.ensures ∙ c.if-is_bad_fill.true))
 
--- src/lib.rt:159:9
 pub returns-then-l : goal.returns-then-l
 returns-then-l c =
-    let s = c in
-    let bytes = s.args.s.now in
-    let x = c.read_lists-l in
-    let l = x.result in
-    let d = x.new.d in
-    let t = x.new.t in
-    let h = listed bytes d t l x.ensures.0 (not-false _ c.if-not-l.false) in
-    back_as bytes d s.args.entries.now t c.turned_back-then-l.result _ c.turned_back-then-l.ensures (words_back bytes d t l h (sym c.is_bad_fill.ensures ∙ c.if-is_bad_fill.false) c.if-l.true)
+    let bytes = c.args.s.now in
+    let x = c.read_lists in
+    let l = c.in_ok-l.l in
+    let h = listed bytes x.new.d x.new.t l (rw c.in_ok-l.was at x.ensures.0) in
+    back_as bytes _ 5 refl (words_back bytes x.new.d x.new.t l h (sym c.is_bad_fill.ensures ∙ c.if-is_bad_fill.false) c.if-l.true)
 
--- src/lib.rt:161:5
 pub order_by_key-requires : goal.order_by_key-requires
 order_by_key-requires c =
-    let s = c in
-    let bytes = s.args.s.now in
-    let x = c.read_lists-l in
-    let l = x.result in
-    let d = x.new.d in
-    let t = x.new.t in
-    let h = listed bytes d t l x.ensures.0 (not-false _ c.if-not-l.false) in
-    (x.ensures.1.count, s.requires.2, low bytes d t l h)
+    let bytes = c.args.s.now in
+    let x = c.read_lists in
+    let l = c.in_ok-l.l in
+    let h = listed bytes x.new.d x.new.t l (rw c.in_ok-l.was at x.ensures.0) in
+    ((rw c.in_ok-l.was at x.ensures.2).count, c.requires.2, low bytes x.new.d x.new.t l h)
 
--- src/lib.rt:168:9
 pub returns-then-is_something_twice : goal.returns-then-is_something_twice
 returns-then-is_something_twice c =
-    let s = c in
-    let bytes = s.args.s.now in
-    let x = c.read_lists-l in
-    let l = x.result in
+    let bytes = c.args.s.now in
+    let x = c.read_lists in
+    let l = c.in_ok-l.l in
     let d = x.new.d in
     let t = x.new.t in
-    let h = listed bytes d t l x.ensures.0 (not-false _ c.if-not-l.false) in
+    let h = listed bytes d t l (rw c.in_ok-l.was at x.ensures.0) in
     let n : Sizes = record { words = l.width; types = l.count; extensions = l.extensions } in
     let en = c.order_by_key.ensures in
     let entries = c.order_by_key.new.entries in
-    let z = sym (c.is_something_twice.ensures ∙ twice-is h.s (bits_of bytes) d entries t n x.ensures.1.count en h.width h.types h.extensions) in
-    back_as bytes d entries t c.turned_back-then-is_something_twice.result _ c.turned_back-then-is_something_twice.ensures
+    let z = sym (c.is_something_twice.ensures ∙ twice-is h.s (bits_of bytes) d entries t n (rw c.in_ok-l.was at x.ensures.2).count en h.width h.types h.extensions) in
+    back_as bytes _ 6 refl
     (twice-back bytes d t l h (sym c.is_bad_fill.ensures ∙ c.if-is_bad_fill.false) c.if-l.false (z ∙ c.if-is_something_twice.true))
 
--- src/lib.rt:142:1
 pub returns : goal.returns
 returns c =
-    let s = c in
-    let bytes = s.args.s.now in
-    let x = c.read_lists-l in
-    let l = x.result in
+    let bytes = c.args.s.now in
+    let x = c.read_lists in
+    let l = c.in_ok-l.l in
     let d = x.new.d in
     let t = x.new.t in
-    let h = listed bytes d t l x.ensures.0 (not-false _ c.if-not-l.false) in
+    let h = listed bytes d t l (rw c.in_ok-l.was at x.ensures.0) in
     let n : Sizes = record { words = l.width; types = l.count; extensions = l.extensions } in
     let en = c.order_by_key.ensures in
     let entries = c.order_by_key.new.entries in
-    let z = sym (c.is_something_twice.ensures ∙ twice-is h.s (bits_of bytes) d entries t n x.ensures.1.count en h.width h.types h.extensions) in
-    passes bytes d t l h (sym c.is_bad_fill.ensures ∙ c.if-is_bad_fill.false) c.if-l.false (z ∙ c.if-is_something_twice.false) s.requires.0 entries en x.ensures.1 _ refl refl refl refl refl refl
+    let z = sym (c.is_something_twice.ensures ∙ twice-is h.s (bits_of bytes) d entries t n (rw c.in_ok-l.was at x.ensures.2).count en h.width h.types h.extensions) in
+    passes bytes d t l h (sym c.is_bad_fill.ensures ∙ c.if-is_bad_fill.false) c.if-l.false (z ∙ c.if-is_something_twice.false) c.requires.0 entries en x.ensures.1 (rw c.in_ok-l.was at x.ensures.2) _ refl refl refl refl refl

@@ -1,70 +1,66 @@
 use Rattle.sheet_extensions.specs.RecordLaws.{records-none, records-more, few-none, few-more}
 use Rattle.sheet_extensions.specs.Records.{record_in, records_in}
-use Rattle.fields.specs.ParseLaws.{repeat-none, repeat-done, repeat-refused}
+use Rattle.fields.specs.FieldLaws.{err_was}
+use Rattle.fields.specs.ParseLaws.{repeat-none, repeat-next, repeat-refused}
 use Rattle.definitions.specs.Reading.{extension}
 use Rattle.definitions.specs.Parse.{done}
 use Rattle.definitions.specs.Bits.{bits_of}
 use Rattle.fields.specs.Fields.{fault_of}
 use lib.ListN.{drop}
+use native.Mathlib.Nat.{sub-zero}
 use Prim.Native.Nat.{ℕ}
 use mathlib.Core.Path.{◌≡◌, refl, sym, ap, ◌∙◌}
 use native.Mathlib.Omega.{arith}
 use Rattle.sheet_extensions.proofs.read_each_record.Goals as goal
 
--- src/lib.rt:90:5
-pub loop-left-init : goal.loop-left-init
-loop-left-init c =
+pub loop-e-init : goal.loop-e-init
+loop-e-init c =
     let a = c.args in
-    (omega arith, c.requires.3, few-none a.t.now, rw (records-none a.t.now) refl)
+    (c.requires.3, few-none a.t.now, rw (sub-zero a.n, records-none a.t.now) refl)
 
--- src/lib.rt:91:15
 pub read_record-requires : goal.read_record-requires
 read_record-requires c =
-    let l = c.loop-left in
     let m = c.requires in
-    (m.0, m.1, omega (arith, m.2, l.invariant.0), l.invariant.1)
+    (m.0, m.1, omega (arith, m.2), c.loop-e.invariant.0)
 
--- src/lib.rt:96:17
-pub returns-in-Refused : goal.returns-in-Refused
-returns-in-Refused c =
-    let l = c.loop-left in
+pub returns-in_err-next : goal.returns-in_err-next
+returns-in_err-next c =
+    let l = c.loop-e in
     let a = c.args in
     let x = c.read_record.ensures in
     let bs = bits_of a.s.now in
-    let v = c.in-Refused in (
-      sym (l.invariant.3 ∙ repeat-refused (records_in l.t l.e) (extension a.limit) l.left (drop l.next.at bs) (fault_of v.r) (omega arith)
-          (sym x.0 ∙ rw v.is refl)),
-      x.1.size ∙ l.invariant.1,
-      omega arith,
+    let r = c.in_err-next.field-0.0 in
+    rw (err_was _ r c.from_residual.ensures.1) (
+      sym (l.invariant.2 ∙ repeat-refused (records_in l.t l.e) (extension a.limit) _ (drop l.next.at bs) (fault_of r) (omega arith)
+          (sym x.0 ∙ rw c.in_err-next.was refl)),
+      x.1.size ∙ l.invariant.0,
+      tt,
     )
 
--- src/lib.rt:90:5
-pub loop-left-preserved : goal.loop-left-preserved
-loop-left-preserved c =
-    let l = c.loop-left in
+pub loop-e-preserved : goal.loop-e-preserved
+loop-e-preserved c =
+    let l = c.loop-e in
     let a = c.args in
     let x = c.read_record.ensures in
     let bs = bits_of a.s.now in
-    let v = c.in-At in
+    let v = c.in_ok-next in
     let u = c.read_record.new.t in (
-      omega arith,
-      x.1.size ∙ l.invariant.1,
-      few-more l.e l.t u x.1 (rw v.is at x.2) l.invariant.2,
-      l.invariant.3
-          ∙ repeat-done (records_in l.t l.e) (extension a.limit) l.left (drop l.next.at bs) (record_in u l.e) (drop v.end.at bs) (omega arith)
-          (sym x.0 ∙ rw v.is refl)
-          ∙ rw (records-more l.e l.t u l.invariant.2 x.1) refl,
+      x.1.size ∙ l.invariant.0,
+      few-more l.e l.t u x.1 (rw v.was at x.2) l.invariant.1,
+      l.invariant.2
+          ∙ repeat-next (records_in l.t l.e) (extension a.limit) a.n l.e (drop l.next.at bs) (record_in u l.e) (drop v.next.at bs) (omega arith)
+          (sym x.0 ∙ rw v.was refl)
+          ∙ rw (records-more l.e l.t u l.invariant.1 x.1) refl,
     )
 
--- src/lib.rt:83:1
 pub returns : goal.returns
 returns c =
-    let l = c.loop-left in
+    let l = c.loop-e in
     let a = c.args in
     let bs = bits_of a.s.now in
     let q : l.e ≡ a.n = omega arith in (
       ap (λ (k : ℕ). done (records_in l.t k) (drop l.next.at bs)) (sym q)
-          ∙ sym (l.invariant.3 ∙ repeat-none (records_in l.t l.e) (extension a.limit) l.left (drop l.next.at bs) (omega arith)),
-      l.invariant.1,
-      omega (arith, c.requires.2),
+          ∙ sym (l.invariant.2 ∙ repeat-none (records_in l.t l.e) (extension a.limit) _ (drop l.next.at bs) (omega arith)),
+      l.invariant.0,
+      c.requires.2,
     )

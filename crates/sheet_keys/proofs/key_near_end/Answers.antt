@@ -1,11 +1,8 @@
+use Rattle.fields.specs.FieldLaws.{err_was}
 use Rattle.sheet_keys.proofs.key_near_end.Goals as goal
 
-pub returns-in-At : goal.returns-in-At
-returns-in-At c =
-    let b = c in
-    rw (← b.read_name.ensures, b.in-At.is, c.key_of.ensures)
+pub returns-in_err-n : goal.returns-in_err-n
+returns-in_err-n c = rw (err_was _ c.in_err-n.field-0.0 c.from_residual.ensures.1, ← c.read_name.ensures, c.in_err-n.was)
 
-pub returns-in-Refused : goal.returns-in-Refused
-returns-in-Refused c =
-    let b = c in
-    rw (← b.read_name.ensures, b.in-Refused.is)
+pub returns : goal.returns
+returns c = rw (← c.read_name.ensures, c.in_ok-n.was, c.key_of.ensures)

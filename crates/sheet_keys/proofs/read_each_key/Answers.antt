@@ -1,4 +1,5 @@
 use native.Mathlib.Omega.{arith}
+use native.Mathlib.Nat.{sub-zero}
 use mathlib.Core.Path.{◌≡◌, refl, sym, ap, ◌∙◌}
 use Prim.Native.Nat.{ℕ, ◌+◌}
 use lib.ListN.{drop}
@@ -6,50 +7,51 @@ use Rattle.definitions.specs.Bits.{bits_of}
 use Rattle.definitions.specs.Parse.{done}
 use Rattle.definitions.specs.Reading.{name}
 use Rattle.fields.specs.Fields.{fault_of}
-use Rattle.fields.specs.ParseLaws.{repeat-none, repeat-done, repeat-refused}
+use Rattle.fields.specs.FieldLaws.{err_was}
+use Rattle.fields.specs.ParseLaws.{repeat-none, repeat-next, repeat-refused}
 use Rattle.sheet_keys.specs.Keys.{name_of_key, of_key_read, names_from}
 use Rattle.sheet_keys.specs.KeyLaws.{names-none, names_more, kept-all, kept_set}
 use Rattle.sheet_keys.proofs.read_each_key.Goals as goal
 
-pub loop-left-init : goal.loop-left-init
-loop-left-init c =
+pub loop-i-init : goal.loop-i-init
+loop-i-init c =
     let a = c.args in
-    (omega arith, kept-all _ _, rw (names-none a.out.now a.base) refl)
+    (kept-all _ _, rw (sub-zero a.n, names-none a.out.now a.base) refl)
 
-pub returns-in-Refused : goal.returns-in-Refused
-returns-in-Refused c =
-    let l = c.loop-left in
+pub returns-in_err-key : goal.returns-in_err-key
+returns-in_err-key c =
+    let l = c.loop-i in
     let a = c.args in
-    let v = c.in-Refused in
-    let bs = bits_of a.s.now in (
-      sym (l.invariant.2 ∙ repeat-refused (names_from l.out a.base l.i) (name a.limit) l.left (drop l.next.at bs) (fault_of v.r) (omega arith)
-          (sym c.read_key.ensures ∙ ap (of_key_read bs) v.is)),
-      l.invariant.1,
-      omega arith,
+    let r = c.in_err-key.field-0.0 in
+    let bs = bits_of a.s.now in
+    rw (err_was _ r c.from_residual.ensures.1) (
+      sym (l.invariant.1 ∙ repeat-refused (names_from l.out a.base l.i) (name a.limit) _ (drop l.next.at bs) (fault_of r) (omega arith)
+          (sym c.read_key.ensures ∙ ap (of_key_read bs) c.in_err-key.was)),
+      l.invariant.0,
+      tt,
     )
 
-pub loop-left-preserved : goal.loop-left-preserved
-loop-left-preserved c =
-    let l = c.loop-left in
+pub loop-i-preserved : goal.loop-i-preserved
+loop-i-preserved c =
+    let l = c.loop-i in
     let a = c.args in
-    let v = c.in-At in
+    let v = c.in_ok-key in
     let bs = bits_of a.s.now in
-    let h = l.invariant.1.size in (
-      omega arith,
-      kept_set a.base (a.base + l.i) v.key a.out.now l.out l.invariant.1 (omega arith),
-      l.invariant.2
-          ∙ repeat-done (names_from l.out a.base l.i) (name a.limit) l.left (drop l.next.at bs) (name_of_key v.key) (drop v.end.at bs) (omega arith)
-          (sym c.read_key.ensures ∙ ap (of_key_read bs) v.is)
+    let h = l.invariant.0.size in (
+      kept_set a.base (a.base + l.i) v.key a.out.now l.out l.invariant.0 (omega arith),
+      l.invariant.1
+          ∙ repeat-next (names_from l.out a.base l.i) (name a.limit) a.n l.i (drop l.next.at bs) (name_of_key v.key) (drop v.end.at bs) (omega arith)
+          (sym c.read_key.ensures ∙ ap (of_key_read bs) v.was)
           ∙ rw (names_more l.out a.base l.i v.key (omega arith)) refl,
     )
 
 pub returns : goal.returns
 returns c =
-    let l = c.loop-left in
+    let l = c.loop-i in
     let a = c.args in
     let e : l.i ≡ a.n = omega arith in (
       ap (λ (k : ℕ). done (names_from l.out a.base k) (drop l.next.at (bits_of a.s.now))) (sym e)
-          ∙ sym (l.invariant.2 ∙ repeat-none (names_from l.out a.base l.i) (name a.limit) l.left (drop l.next.at (bits_of a.s.now)) (omega arith)),
-      l.invariant.1,
+          ∙ sym (l.invariant.1 ∙ repeat-none (names_from l.out a.base l.i) (name a.limit) _ (drop l.next.at (bits_of a.s.now)) (omega arith)),
+      l.invariant.0,
       omega arith,
     )

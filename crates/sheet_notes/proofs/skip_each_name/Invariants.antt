@@ -1,13 +1,11 @@
 use mathlib.Core.Path.{◌≡◌}
+use Prim.Native.Nat.{◌-◌}
 use lib.ListN.{drop}
 use Rattle.definitions.specs.Bits.{bits_of}
 use Rattle.definitions.specs.Reading.{name}
 use Rattle.sheet_notes.specs.Notes.{steps}
 use Rattle.sheet_notes.proofs.skip_each_name.Given as goal
 
-abbrev pub invariant-loop-left : goal.invariant-loop-left
-invariant-loop-left l =
-    steps (name l.limit) l.n (drop l.initial.next.at (bits_of l.s)) ≡ steps (name l.limit) l.left (drop l.next.at (bits_of l.s))
-
-abbrev pub decreases-loop-left : goal.decreases-loop-left
-decreases-loop-left l = l.left
+abbrev pub invariant-loop : goal.invariant-loop
+invariant-loop l =
+    steps (name l.limit) l.n (drop l.initial.next.at (bits_of l.s)) ≡ steps (name l.limit) (l.n - l.counter) (drop l.next.at (bits_of l.s))

@@ -1,12 +1,10 @@
+use Rattle.fields.specs.FieldLaws.{err_was}
 use Rattle.sheet_notes.specs.NoteLaws.{notes-steps}
 use Rattle.sheet_notes.proofs.skip_lists.Goals as goal
 
-pub returns-in-At : goal.returns-in-At
-returns-in-At c =
-    let b = c in
-    rw (notes-steps _ _ _, ← b.skip_annotations.ensures, b.in-At.is) c.skip_marks.ensures
+pub returns-in_err-next : goal.returns-in_err-next
+returns-in_err-next c =
+    rw (err_was _ c.in_err-next.field-0.0 c.from_residual.ensures.1, notes-steps _ _ _, ← c.skip_annotations.ensures, c.in_err-next.was)
 
-pub returns-in-Refused : goal.returns-in-Refused
-returns-in-Refused c =
-    let b = c in
-    rw (notes-steps _ _ _, ← b.skip_annotations.ensures, b.in-Refused.is)
+pub returns : goal.returns
+returns c = rw (notes-steps _ _ _, ← c.skip_annotations.ensures, c.in_ok-next.was) c.skip_marks.ensures

@@ -1,15 +1,14 @@
 use Rattle.definitions.specs.Reading.{mark}
+use Rattle.fields.specs.FieldLaws.{err_was}
 use Rattle.sheet_notes.specs.NoteLaws.{counted-steps}
 use Rattle.sheet_notes.proofs.skip_marks.Goals as goal
 
-pub returns-in-At : goal.returns-in-At
-returns-in-At c =
-    let b = c in
-    let a = b.args in
-    rw (counted-steps mark 3 0 7 _, ← b.read_between.ensures, b.in-At.is) c.skip_each_mark.ensures
+pub returns-in_err-n : goal.returns-in_err-n
+returns-in_err-n c =
+    let a = c.args in
+    rw (err_was _ c.in_err-n.field-0.0 c.from_residual.ensures.1, counted-steps mark 3 0 7 _, ← c.read_between.ensures, c.in_err-n.was)
 
-pub returns-in-Refused : goal.returns-in-Refused
-returns-in-Refused c =
-    let b = c in
-    let a = b.args in
-    rw (counted-steps mark 3 0 7 _, ← b.read_between.ensures, b.in-Refused.is)
+pub returns : goal.returns
+returns c =
+    let a = c.args in
+    rw (counted-steps mark 3 0 7 _, ← c.read_between.ensures, c.in_ok-n.was) c.skip_each_mark.ensures

@@ -2,14 +2,11 @@ use Rattle.sheet_repeats.specs.TwiceLaws.{length-keys, key_in}
 use Rattle.sheet_repeats.specs.Twice.{keys_in}
 use Rattle.catalogue.specs.Layout.{extension_key_at}
 use Rattle.lists.specs.Places.{any_step, any-end}
-use Rattle.lists.specs.Lists.{any}
-use lib.ListN.{drop}
 use lib.Dec.{eqb}
 use borrow.Author.Tests.{eq-eqb, ne_eqb}
-use Prim.Native.Nat.{ℕ, ◌-◌, ◌<◌}
-use mathlib.Core.Path.{◌≡◌, refl, sym, ap, ◌∙◌}
+use Prim.Native.Nat.{◌<◌}
+use mathlib.Core.Path.{refl, sym, ◌∙◌}
 use native.Mathlib.Omega.{arith}
-use borrow.Author.Rules.{rules}
 use Rattle.sheet_repeats.proofs.has_key_from.Goals as goal
 
 -- src/lib.rt:37:5

@@ -1,18 +1,15 @@
 use Rattle.sheet_repeats.specs.TwiceLaws.{length-keys, key_in}
 use Rattle.sheet_repeats.specs.Twice.{keys_in}
 use Rattle.lists.specs.Places.{repeats-step, repeats-end}
-use Rattle.lists.specs.Lists.{repeats}
-use lib.ListN.{drop}
 use lib.Dec.{eqb}
-use Prim.Native.Nat.{ℕ, ◌-◌, ◌+◌, ◌≤◌, ◌<◌}
-use mathlib.Core.Path.{◌≡◌, refl, sym, ap, ◌∙◌}
+use Prim.Native.Nat.{◌<◌}
+use mathlib.Core.Path.{refl, sym, ◌∙◌}
 use native.Mathlib.Omega.{arith}
-use borrow.Author.Rules.{rules}
 use Rattle.sheet_repeats.proofs.has_key_twice.Goals as goal
 
 -- src/lib.rt:59:5
 pub loop-i-init : goal.loop-i-init
-loop-i-init c = (omega arith, refl)
+loop-i-init c = refl
 
 -- src/lib.rt:61:13
 pub returns-then-has_key_from : goal.returns-then-has_key_from
@@ -23,7 +20,7 @@ returns-then-has_key_from c =
     let h : l.i < a.n = omega arith in
     let s = repeats-step eqb (keys_in t a.n) l.i 0 (omega (arith, h, length-keys t a.n)) in
     let k = key_in t a.n l.i h ∙ sym c.extension_key_at.ensures in
-    sym (l.invariant.1 ∙ s ∙ rw (k, ← c.has_key_from.ensures, c.if-has_key_from.true))
+    sym (l.invariant ∙ s ∙ rw (k, ← c.has_key_from.ensures, c.if-has_key_from.true))
 
 -- src/lib.rt:59:5
 pub loop-i-preserved : goal.loop-i-preserved
@@ -34,7 +31,7 @@ loop-i-preserved c =
     let h : l.i < a.n = omega arith in
     let s = repeats-step eqb (keys_in t a.n) l.i 0 (omega (arith, h, length-keys t a.n)) in
     let k = key_in t a.n l.i h ∙ sym c.extension_key_at.ensures in
-    (omega arith, l.invariant.1 ∙ s ∙ rw (k, ← c.has_key_from.ensures, c.if-has_key_from.false))
+    l.invariant ∙ s ∙ rw (k, ← c.has_key_from.ensures, c.if-has_key_from.false)
 
 -- src/lib.rt:54:1
 pub returns : goal.returns
@@ -42,4 +39,4 @@ returns c =
     let l = c.loop-i in
     let a = c.args in
     let t = a.t.now in
-    sym (l.invariant.1 ∙ repeats-end eqb (keys_in t a.n) l.i (omega (arith, length-keys t a.n)))
+    sym (l.invariant ∙ repeats-end eqb (keys_in t a.n) l.i (omega (arith, length-keys t a.n)))

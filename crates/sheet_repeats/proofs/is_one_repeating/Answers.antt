@@ -3,17 +3,13 @@ use Rattle.sheet_draft.specs.Draft.{type_in, types_in}
 use Rattle.repeats.specs.Repeats.{type_repeats}
 use Rattle.definitions.specs.Bits.{bits_of}
 use Rattle.lists.specs.Places.{any_step, any-end}
-use Rattle.lists.specs.Lists.{any}
-use lib.ListN.{drop}
-use Prim.Native.Nat.{ℕ, ◌+◌, ◌-◌, ◌≤◌, ◌<◌}
-use mathlib.Core.Path.{◌≡◌, refl, sym, ap, ◌∙◌}
+use mathlib.Core.Path.{refl, sym, ◌∙◌}
 use native.Mathlib.Omega.{arith}
-use borrow.Author.Rules.{rules}
 use Rattle.sheet_repeats.proofs.is_one_repeating.Goals as goal
 
 -- src/lib.rt:67:5
 pub loop-i-init : goal.loop-i-init
-loop-i-init c = (omega arith, refl)
+loop-i-init c = refl
 
 -- src/lib.rt:70:12
 pub is_repeating_at-requires : goal.is_repeating_at-requires
@@ -35,7 +31,7 @@ returns-then-is_repeating_at c =
     let g = any_step type_repeats L l.i T (omega (arith, length_types a.limit bs d a.n)) in
     let x = row-repeats a.limit bs d a.n l.i T (omega arith) in
     let e = rw (c.key_at.ensures, c.place_at-at.ensures) at c.is_repeating_at.ensures in
-    sym (l.invariant.1 ∙ g ∙ rw (x, ← e, c.if-is_repeating_at.true))
+    sym (l.invariant ∙ g ∙ rw (x, ← e, c.if-is_repeating_at.true))
 
 -- src/lib.rt:67:5
 pub loop-i-preserved : goal.loop-i-preserved
@@ -50,7 +46,7 @@ loop-i-preserved c =
     let g = any_step type_repeats L l.i T (omega (arith, length_types a.limit bs d a.n)) in
     let x = row-repeats a.limit bs d a.n l.i T (omega arith) in
     let e = rw (c.key_at.ensures, c.place_at-at.ensures) at c.is_repeating_at.ensures in
-    (omega arith, l.invariant.1 ∙ g ∙ rw (x, ← e, c.if-is_repeating_at.false))
+    l.invariant ∙ g ∙ rw (x, ← e, c.if-is_repeating_at.false)
 
 -- src/lib.rt:62:1
 pub returns : goal.returns
@@ -58,4 +54,4 @@ returns c =
     let l = c.loop-i in
     let a = c.args in
     let bs = bits_of a.s.now in
-    sym (l.invariant.1 ∙ any-end type_repeats (types_in a.limit bs a.d.now a.n) l.i (omega (arith, length_types a.limit bs a.d.now a.n)))
+    sym (l.invariant ∙ any-end type_repeats (types_in a.limit bs a.d.now a.n) l.i (omega (arith, length_types a.limit bs a.d.now a.n)))

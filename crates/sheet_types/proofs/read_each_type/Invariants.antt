@@ -4,16 +4,12 @@ use Rattle.definitions.specs.Reading.{type_info}
 use Rattle.definitions.specs.Parse.{repeat_onto, repeat}
 use Rattle.definitions.specs.Bits.{bits_of}
 use lib.ListN.{length, drop}
-use Prim.Native.Nat.{◌+◌}
+use Prim.Native.Nat.{◌-◌}
 use mathlib.Core.Path.{◌≡◌}
 use Rattle.sheet_types.proofs.read_each_type.Given as goal
 
-abbrev pub invariant-loop-left : goal.invariant-loop-left
-invariant-loop-left l =
-    (l.i + l.left ≡ l.n)
-    × (length l.d ≡ 704)
+abbrev pub invariant-loop-i : goal.invariant-loop-i
+invariant-loop-i l =
+    (length l.d ≡ 704)
     × NotesRead l.limit (bits_of l.s) l.d l.i
-    × (repeat (type_info l.limit) l.n (drop l.initial.next.at (bits_of l.s)) ≡ repeat_onto (types_in l.limit (bits_of l.s) l.d l.i) (type_info l.limit) l.left (drop l.next.at (bits_of l.s)))
-
-abbrev pub decreases-loop-left : goal.decreases-loop-left
-decreases-loop-left l = l.left
+    × (repeat (type_info l.limit) l.n (drop l.initial.next.at (bits_of l.s)) ≡ repeat_onto (types_in l.limit (bits_of l.s) l.d l.i) (type_info l.limit) (l.n - l.i) (drop l.next.at (bits_of l.s)))

@@ -1,31 +1,26 @@
-use Rattle.sheet_types.specs.RowLaws.{read_none}
 use mathlib.Core.Path.{sym, ap, ◌∙◌}
-use native.Mathlib.Omega.{arith}
 use lib.ListN.{drop}
 use Rattle.definitions.specs.Bits.{bits_of}
 use Rattle.definitions.specs.Parse.{counted}
-use Rattle.fields.specs.FieldLaws.{between_in}
+use Rattle.fields.specs.FieldLaws.{err_was, between_in}
 use Rattle.fields.specs.Fields.{of_field}
 use Rattle.sheet_types.proofs.read_types.Goals as goal
 
+pub returns-in_err-n : goal.returns-in_err-n
+unfolding counted
+returns-in_err-n c =
+    rw (err_was _ c.in_err-n.field-0.0 c.from_residual.ensures.1) (rw (← c.read_between.ensures, c.in_err-n.was), c.requires.2, tt)
+
 pub read_each_type-requires : goal.read_each_type-requires
 read_each_type-requires c =
-    let b = c in
-    let a = b.args in
-    let m = b.requires in
+    let a = c.args in
+    let m = c.requires in
     let bs = bits_of a.s.now in
-    let h = between_in 7 0 64 (drop a.c.at bs) b.in-At.n _ (sym b.read_between.ensures ∙ ap (of_field bs) b.in-At.is) in
+    let h = between_in 7 0 64 (drop a.c.at bs) c.in_ok-n.n _ (sym c.read_between.ensures ∙ ap (of_field bs) c.in_ok-n.was) in
     (m.0, m.1, h.1, m.2)
 
-pub returns-in-At : goal.returns-in-At
+pub returns : goal.returns
 unfolding counted
-returns-in-At c =
-    let b = c in
+returns c =
     let e = c.read_each_type.ensures in
-    (rw (← b.read_between.ensures, b.in-At.is) e.0, e.1, e.2, e.3)
-
-pub returns-in-Refused : goal.returns-in-Refused
-unfolding counted
-returns-in-Refused c =
-    let b = c in
-    (rw (← b.read_between.ensures, b.in-Refused.is), b.requires.2, omega arith, read_none _ _ _)
+    (rw (← c.read_between.ensures, c.in_ok-n.was) e.0, e.1, e.2)

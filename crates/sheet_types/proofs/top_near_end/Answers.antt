@@ -6,28 +6,28 @@ use Rattle.sheet_types.proofs.top_near_end.Goals as goal
 pub returns-then-h-ge192 : goal.returns-then-h-ge192
 returns-then-h-ge192 c =
     let b = c in
-    (large-top _ _ _ _ (sym b.read.ensures ∙ b.in-Value.is) (omega arith), tt)
+    (large-top _ _ _ _ (sym b.read.ensures ∙ b.in-Some.is) (omega arith), tt)
 
 pub returns-then-h-gt8 : goal.returns-then-h-gt8
 returns-then-h-gt8 c =
     let b = c in
-    (many-top _ _ _ _ (sym b.read.ensures ∙ b.in-Value.is) (omega arith) (omega arith), tt)
+    (many-top _ _ _ _ (sym b.read.ensures ∙ b.in-Some.is) (omega arith) (omega arith), tt)
 
 pub returns-else-h-gt8 : goal.returns-else-h-gt8
 returns-else-h-gt8 c =
     let b = c in
-    (whole_top _ _ _ _ (sym b.read.ensures ∙ b.in-Value.is) (omega arith) (omega arith), (omega arith, omega arith))
+    (whole_top _ _ _ _ (sym b.read.ensures ∙ b.in-Some.is) (omega arith) (omega arith), (omega arith, omega arith))
 
 pub returns-then-v-eq3 : goal.returns-then-v-eq3
 returns-then-v-eq3 c =
     let b = c in
-    (other-top _ _ _ _ (sym b.read-in-Past.ensures ∙ b.in-Value-read.is) c.if-v-eq3.true, tt)
+    (other-top _ _ _ _ (sym b.read-in-None.ensures ∙ b.in-Some-read.is) c.if-v-eq3.true, tt)
 
 pub returns-else-v-eq3 : goal.returns-else-v-eq3
 returns-else-v-eq3 c =
     let b = c in
-    (short-top _ _ _ _ (sym b.read-in-Past.ensures ∙ b.in-Value-read.is) c.if-v-eq3.false (sym b.read.ensures ∙ b.in-Past.is), tt)
+    (short-top _ _ _ _ (sym b.read-in-None.ensures ∙ b.in-Some-read.is) c.if-v-eq3.false (sym b.read.ensures ∙ b.in-None.is), tt)
 
-pub returns-in-Past-read : goal.returns-in-Past-read
-returns-in-Past-read c =
-    (no_top _ _ (sym c.read-in-Past.ensures ∙ c.in-Past-read.is), tt)
+pub returns-in-None-read : goal.returns-in-None-read
+returns-in-None-read c =
+    (no_top _ _ (sym c.read-in-None.ensures ∙ c.in-None-read.is), tt)

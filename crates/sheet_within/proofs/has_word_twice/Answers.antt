@@ -9,7 +9,7 @@ use Rattle.sheet_within.proofs.has_word_twice.Goals as goal
 
 -- src/lib.rt:49:5
 pub loop-i-init : goal.loop-i-init
-loop-i-init c = (omega arith, refl)
+loop-i-init c = refl
 
 -- src/lib.rt:51:13
 pub returns-then-has_word_from : goal.returns-then-has_word_from
@@ -20,7 +20,7 @@ returns-then-has_word_from c =
     let h : l.i < a.n = omega arith in
     let s = repeats-step eqb (words_in k a.n) l.i 0 (omega (arith, h, length-words k a.n)) in
     let x = word_in k a.n l.i h in
-    sym (l.invariant.1 ∙ s ∙ rw (x, ← c.has_word_from.ensures, c.if-has_word_from.true))
+    sym (l.invariant ∙ s ∙ rw (x, ← c.has_word_from.ensures, c.if-has_word_from.true))
 
 -- src/lib.rt:49:5
 pub loop-i-preserved : goal.loop-i-preserved
@@ -31,7 +31,7 @@ loop-i-preserved c =
     let h : l.i < a.n = omega arith in
     let s = repeats-step eqb (words_in k a.n) l.i 0 (omega (arith, h, length-words k a.n)) in
     let x = word_in k a.n l.i h in
-    (omega arith, l.invariant.1 ∙ s ∙ rw (x, ← c.has_word_from.ensures, c.if-has_word_from.false))
+    l.invariant ∙ s ∙ rw (x, ← c.has_word_from.ensures, c.if-has_word_from.false)
 
 -- src/lib.rt:44:1
 pub returns : goal.returns
@@ -39,4 +39,4 @@ returns c =
     let l = c.loop-i in
     let a = c.args in
     let k = a.k.now in
-    sym (l.invariant.1 ∙ repeats-end eqb (words_in k a.n) l.i (omega (arith, length-words k a.n)))
+    sym (l.invariant ∙ repeats-end eqb (words_in k a.n) l.i (omega (arith, length-words k a.n)))

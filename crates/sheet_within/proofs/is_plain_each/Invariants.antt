@@ -4,13 +4,11 @@ use Rattle.definitions.specs.Reading.{annotation}
 use Rattle.definitions.specs.Parse.{repeat, repeat_onto}
 use Rattle.definitions.specs.Bits.{bits_of}
 use lib.ListN.{drop}
+use Prim.Native.Nat.{◌-◌}
 use mathlib.Core.Path.{◌≡◌}
 use mathlib.Core.List.{List}
 use Rattle.sheet_within.proofs.is_plain_each.Given as goal
 
-abbrev pub invariant-loop-left : goal.invariant-loop-left
-invariant-loop-left l =
-    (xs : List Annotation) × (repeat (annotation l.limit l.single) l.n (drop l.at (bits_of l.s)) ≡ repeat_onto xs (annotation l.limit l.single) l.left (drop l.p (bits_of l.s))) × Apart xs l.top
-
-abbrev pub decreases-loop-left : goal.decreases-loop-left
-decreases-loop-left l = l.left
+abbrev pub invariant-loop : goal.invariant-loop
+invariant-loop l =
+    (xs : List Annotation) × (repeat (annotation l.limit l.single) l.n (drop l.at (bits_of l.s)) ≡ repeat_onto xs (annotation l.limit l.single) (l.n - l.counter) (drop l.p (bits_of l.s))) × Apart xs l.top

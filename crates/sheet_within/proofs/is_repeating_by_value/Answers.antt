@@ -5,10 +5,16 @@ use Rattle.repeats.specs.Repeats.{repeats_in}
 use Rattle.sheet_within.specs.WithinLaws.{by_value}
 use Rattle.sheet_within.proofs.is_repeating_by_value.Goals as goal
 
-pub returns : goal.returns
-returns c =
-    let s = c in
-    let a = s.args in
+pub returns-in-Ok : goal.returns-in-Ok
+returns-in-Ok c =
+    let a = c.args in
     let bs = bits_of a.s.now in
-    let r = c.read_annotations-r in
-    c.is_repeating.ensures ∙ ap repeats_in (by_value a.limit a.single bs (drop a.at bs) r.result s.requires.2 r.ensures)
+    let r = c.read_annotations in
+    c.is_repeating.ensures ∙ ap repeats_in (rw c.in-Ok.is at (by_value a.limit a.single bs (drop a.at bs) r.result c.requires.2 r.ensures))
+
+pub returns-in-Err : goal.returns-in-Err
+returns-in-Err c =
+    let a = c.args in
+    let bs = bits_of a.s.now in
+    let r = c.read_annotations in
+    absurd (rw c.in-Err.is at (by_value a.limit a.single bs (drop a.at bs) r.result c.requires.2 r.ensures))

@@ -12,8 +12,7 @@ returns-then-is_text c =
     let a = b.args in
     let bs = bits_of a.s.now in
     let l = length-bits_of a.s.now in
-    rw c.word_refused.ensures
-    (past-good bs a.at a.n _ (omega (arith, l)) c.if-there-n.true (omega (arith, l, b.requires.1)) (sym c.is_text.ensures ∙ c.if-is_text.true))
+    past-good bs a.at a.n _ (omega (arith, l)) c.if-there-n.true (omega (arith, l, b.requires.1)) (sym c.is_text.ensures ∙ c.if-is_text.true)
 
 pub returns-then-there-n : goal.returns-then-there-n
 returns-then-there-n c =
@@ -21,8 +20,7 @@ returns-then-there-n c =
     let a = b.args in
     let bs = bits_of a.s.now in
     let l = length-bits_of a.s.now in
-    rw c.word_refused-then-there-n.ensures
-    (past-bad bs a.at a.n _ (omega (arith, l)) c.if-there-n.true (omega (arith, l, b.requires.1)) (sym c.is_text.ensures ∙ c.if-is_text.false))
+    past-bad bs a.at a.n _ (omega (arith, l)) c.if-there-n.true (omega (arith, l, b.requires.1)) (sym c.is_text.ensures ∙ c.if-is_text.false)
 
 pub returns-then-is_text-2 : goal.returns-then-is_text-2
 returns-then-is_text-2 c =
@@ -38,5 +36,4 @@ returns c =
     let a = b.args in
     let bs = bits_of a.s.now in
     let l = length-bits_of a.s.now in
-    rw c.word_refused-2.ensures
-    (refused-tells bs Fault.NotAllowed _ (text-bad bs a.at a.n (omega (arith, l, b.requires, c.if-there-n.false)) (sym c.is_text-2.ensures ∙ c.if-is_text-2.false)))
+    refused-tells bs Fault.NotAllowed _ (text-bad bs a.at a.n (omega (arith, l, b.requires, c.if-there-n.false)) (sym c.is_text-2.ensures ∙ c.if-is_text-2.false))

@@ -80,11 +80,10 @@ returns-then-is_spelt c =
     let bs = bits_of a.s.now in
     let l = length-bits_of a.s.now in
     let q = a.at + 5 in
-    rw c.word_refused.ensures
-    (refused-tells bs Fault.NotAllowed _
+    refused-tells bs Fault.NotAllowed _
     (text-bad bs q a.n (omega (arith, l, h.there, c.if-s-q.false))
     (text-six bs q a.n a.x b.requires.2 h.bits (sym c.is_spelt.ensures ∙ c.if-is_spelt.true) ∙ sym c.is_text.ensures ∙ c.if-is_text.false)
-    ∙ begun-word bs a.at a.n a.x h))
+    ∙ begun-word bs a.at a.n a.x h)
 
 pub returns : goal.returns
 returns c =
@@ -94,7 +93,6 @@ returns c =
     let bs = bits_of a.s.now in
     let l = length-bits_of a.s.now in
     let q = a.at + 5 in
-    rw c.word_refused-2.ensures
-    (refused-tells bs Fault.NotAllowed _
+    refused-tells bs Fault.NotAllowed _
     (text-bad bs q a.n (omega (arith, l, h.there, c.if-s-q.false)) (text-not bs q a.n a.x b.requires.2 h.bits (sym c.is_spelt.ensures ∙ c.if-is_spelt.false))
-    ∙ begun-word bs a.at a.n a.x h))
+    ∙ begun-word bs a.at a.n a.x h)

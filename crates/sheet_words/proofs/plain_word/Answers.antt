@@ -13,7 +13,7 @@ returns-then-total-at c =
     let a = b.args in
     let bs = bits_of a.s.now in
     let l = length-bits_of a.s.now in
-    rw c.word_refused.ensures (refused-tells bs Fault.Past _ (word-past bs a.at 0 (omega (arith, l, c.if-total-at.true))))
+    refused-tells bs Fault.Past _ (word-past bs a.at 0 (omega (arith, l, c.if-total-at.true)))
 
 pub returns-then-total-at-lt5 : goal.returns-then-total-at-lt5
 returns-then-total-at-lt5 c =
@@ -21,7 +21,7 @@ returns-then-total-at-lt5 c =
     let a = b.args in
     let bs = bits_of a.s.now in
     let l = length-bits_of a.s.now in
-    rw c.word_refused-then-total-at-lt5.ensures (refused-tells bs Fault.Past _ (word-past bs a.at 0 (omega (arith, l, c.if-total-at-lt5.true, c.if-total-at.false))))
+    refused-tells bs Fault.Past _ (word-past bs a.at 0 (omega (arith, l, c.if-total-at-lt5.true, c.if-total-at.false)))
 
 pub returns-then-n-eq0 : goal.returns-then-n-eq0
 returns-then-n-eq0 c =
@@ -29,8 +29,7 @@ returns-then-n-eq0 c =
     let a = b.args in
     let bs = bits_of a.s.now in
     let l = length-bits_of a.s.now in
-    rw c.word_refused-then-n-eq0.ensures
-    (refused-tells bs Fault.NotAllowed _ (word-empty bs a.at _ (omega (arith, l, c.if-total-at-lt5.false, c.if-total-at.false)) c.wide-n.ensures c.if-n-eq0.true))
+    refused-tells bs Fault.NotAllowed _ (word-empty bs a.at _ (omega (arith, l, c.if-total-at-lt5.false, c.if-total-at.false)) c.wide-n.ensures c.if-n-eq0.true)
 
 pub bytes_from-requires : goal.bytes_from-requires
 bytes_from-requires c =

@@ -1,91 +1,60 @@
 use native.Mathlib.Omega.{arith}
 use mathlib.Core.Path.{refl, sym, ◌∙◌}
-use borrow.Author.Tests.{lt-ltb, le-ltb, eq-eqb, ne_eqb}
+use borrow.Author.Tests.{lt-ltb, le-ltb, eq-eqb, ne_eqb, ltb-true, ltb-false}
+use mathlib.Core.Bool.{or-false}
+use lib.Dec.{ltb}
+use Rattle.lists.specs.Tests.{by, same_test}
 use Rattle.definitions.specs.Bits.{bits_of}
 use Rattle.bits.specs.NumberLaws.{length-bits_of}
 use Rattle.sheet_words.specs.WordLaws.{rest-step, rest-right, rest-left}
 use Rattle.sheet_words.proofs.rest_before.Goals as goal
 
-pub loop-i-init : goal.loop-i-init
-loop-i-init c = (omega arith, refl)
-
-pub returns-then-m-i : goal.returns-then-m-i
-returns-then-m-i c =
-    let l = c.loop-i in
-    let b = c in
-    let bs = bits_of b.args.s.now in
-    let p = b.args.a in
-    let q = b.args.b in
-    sym (l.invariant.1 ∙ rest-right bs p.at q.at p.count q.count l.i (omega arith) c.if-m-i.true)
-
-pub overflow_mul-i : goal.overflow_mul-i
-overflow_mul-i c =
-    let l = c.loop-i in
-    let b = c in
-    let bs = bits_of b.args.s.now in
-    let p = b.args.a in
-    let q = b.args.b in
-    record { fits = omega (arith, b.requires.0, b.requires.1.inside, b.requires.1.few, b.requires.2.inside, b.requires.2.few, length-bits_of b.args.s.now, l.invariant.0) }
-
 pub overflow_add-p : goal.overflow_add-p
-overflow_add-p c =
-    let l = c.loop-i in
-    let b = c in
-    let bs = bits_of b.args.s.now in
-    let p = b.args.a in
-    let q = b.args.b in
-    record { fits = omega (arith, b.requires.0, b.requires.1.inside, b.requires.1.few, b.requires.2.inside, b.requires.2.few, length-bits_of b.args.s.now, l.invariant.0) }
-
-pub overflow_mul-i-in-loop-i : goal.overflow_mul-i-in-loop-i
-overflow_mul-i-in-loop-i c =
-    let l = c.loop-i in
-    let b = c in
-    let bs = bits_of b.args.s.now in
-    let p = b.args.a in
-    let q = b.args.b in
-    record { fits = omega (arith, b.requires.0, b.requires.1.inside, b.requires.1.few, b.requires.2.inside, b.requires.2.few, length-bits_of b.args.s.now, l.invariant.0) }
+overflow_add-p c = record { fits = omega (arith, c.requires.0, c.requires.1.inside, c.requires.1.few, length-bits_of c.args.s.now) }
 
 pub overflow_add-q : goal.overflow_add-q
-overflow_add-q c =
-    let l = c.loop-i in
-    let b = c in
-    let bs = bits_of b.args.s.now in
-    let p = b.args.a in
-    let q = b.args.b in
-    record { fits = omega (arith, b.requires.0, b.requires.1.inside, b.requires.1.few, b.requires.2.inside, b.requires.2.few, length-bits_of b.args.s.now, l.invariant.0) }
+overflow_add-q c = record { fits = omega (arith, c.requires.0, c.requires.2.inside, c.requires.2.few, length-bits_of c.args.s.now) }
 
 pub returns-then-x-y : goal.returns-then-x-y
 returns-then-x-y c =
     let l = c.loop-i in
-    let b = c in
-    let bs = bits_of b.args.s.now in
-    let p = b.args.a in
-    let q = b.args.b in
-    sym (l.invariant.1 ∙ rest-step bs p.at q.at p.count q.count l.i (omega arith) (omega arith) _ _ c.wide-x.ensures c.wide-y.ensures ∙ rw (lt-ltb _ _ c.if-x-y.true) refl)
-
-pub returns-then-y-x : goal.returns-then-y-x
-returns-then-y-x c =
-    let l = c.loop-i in
-    let b = c in
-    let bs = bits_of b.args.s.now in
-    let p = b.args.a in
-    let q = b.args.b in
-    sym (l.invariant.1 ∙ rest-step bs p.at q.at p.count q.count l.i (omega arith) (omega arith) _ _ c.wide-x.ensures c.wide-y.ensures ∙ rw (le-ltb c.wide-x.result c.wide-y.result (omega arith), ne_eqb c.wide-x.result c.wide-y.result (λ e. omega arith)) refl)
+    let bs = bits_of c.args.s.now in
+    let p = c.args.a in
+    let q = c.args.b in
+    sym
+    (l.invariant.1
+    ∙ rest-step bs p.at q.at p.count q.count l.i (omega arith) (omega arith) _ _ c.wide-x.ensures c.wide-y.ensures
+    ∙ rw (ne_eqb c.wide-x.result c.wide-y.result c.if-x-y.true) (or-false (ltb c.wide-x.result c.wide-y.result)))
 
 pub loop-i-preserved : goal.loop-i-preserved
 loop-i-preserved c =
     let l = c.loop-i in
-    let b = c in
-    let bs = bits_of b.args.s.now in
-    let p = b.args.a in
-    let q = b.args.b in
+    let bs = bits_of c.args.s.now in
+    let p = c.args.a in
+    let q = c.args.b in
     (omega arith, l.invariant.1 ∙ rest-step bs p.at q.at p.count q.count l.i (omega arith) (omega arith) _ _ c.wide-x.ensures c.wide-y.ensures ∙ rw (le-ltb c.wide-x.result c.wide-y.result (omega arith), eq-eqb c.wide-x.result c.wide-y.result (omega arith)) refl)
 
-pub returns : goal.returns
-returns c =
+pub returns-then-n-m : goal.returns-then-n-m
+returns-then-n-m c =
     let l = c.loop-i in
-    let b = c in
-    let bs = bits_of b.args.s.now in
-    let p = b.args.a in
-    let q = b.args.b in
-    sym (l.invariant.1 ∙ rest-left bs p.at q.at p.count q.count l.i (omega arith))
+    let p = c.args.a in
+    let q = c.args.b in
+    sym
+    (l.invariant.1
+    ∙ rest-left (bits_of c.args.s.now) p.at q.at p.count q.count l.i (omega arith)
+    ∙ same_test
+    (λ h. lt-ltb 6 q.count (omega (arith, ltb-true l.i q.count h)))
+    (λ h. lt-ltb l.i q.count (omega (arith, ltb-true 6 q.count h))))
+
+pub returns-else-n-m : goal.returns-else-n-m
+returns-else-n-m c =
+    let l = c.loop-i in
+    let p = c.args.a in
+    let q = c.args.b in
+    let bs = bits_of c.args.s.now in
+    rw (le-ltb p.count q.count c.if-n-m.false)
+    (sym
+    (l.invariant.1
+    ∙ by (ltb l.i p.count)
+    (λ h. rest-right bs p.at q.at p.count q.count l.i (ltb-true l.i p.count h) (omega arith))
+    (λ h. rest-left bs p.at q.at p.count q.count l.i (ltb-false l.i p.count h) ∙ le-ltb l.i q.count (omega arith))))

@@ -1,5 +1,5 @@
 use mathlib.Core.Path.{◌≡◌}
-use Prim.Native.Nat.{◌-◌, ◌≤◌}
+use Prim.Native.Nat.{◌+◌, ◌-◌, ◌≤◌}
 use lib.ListN.{drop}
 use Rattle.lists.specs.Lists.{list_before}
 use Rattle.definitions.specs.Bits.{bits_of, pack_to}
@@ -7,7 +7,4 @@ use Rattle.sheet_words.proofs.rest_before.Given as goal
 
 abbrev pub invariant-loop-i : goal.invariant-loop-i
 invariant-loop-i l =
-    (6 ≤ l.i) × (list_before (drop 6 (pack_to l.n (drop l.p (bits_of l.s)))) (drop 6 (pack_to l.m (drop l.q (bits_of l.s)))) ≡ list_before (drop l.i (pack_to l.n (drop l.p (bits_of l.s)))) (drop l.i (pack_to l.m (drop l.q (bits_of l.s)))))
-
-abbrev pub decreases-loop-i : goal.decreases-loop-i
-decreases-loop-i l = l.n - l.i
+    (l.i ≤ 6 + (l.both - 6)) × (list_before (drop 6 (pack_to l.n (drop l.p (bits_of l.s)))) (drop 6 (pack_to l.m (drop l.q (bits_of l.s)))) ≡ list_before (drop l.i (pack_to l.n (drop l.p (bits_of l.s)))) (drop l.i (pack_to l.m (drop l.q (bits_of l.s)))))

@@ -41,7 +41,6 @@ returns c =
     let bs = bits_of a.s.now in
     let q = a.at + 5 in
     let e = short-value a.n a.x (drop q bs) few h.bits in
-    rw c.word_refused.ensures
-    (refused-tells bs Fault.NotAllowed _
+    refused-tells bs Fault.NotAllowed _
     (text-bad bs q a.n (omega (arith, h.there, few)) (sym (text-last bs q a.n _ e) ∙ sym c.is_spelt.ensures ∙ c.if-is_spelt.false)
-    ∙ begun-word bs a.at a.n a.x h))
+    ∙ begun-word bs a.at a.n a.x h)

@@ -8,11 +8,6 @@ returns-then-total-at c =
     let a = c.args in
     sym (read_past a.s.now a.self.at a.n (omega arith))
 
-pub returns-then-total-at-2 : goal.returns-then-total-at-2
-returns-then-total-at-2 c =
-    let a = c.args in
-    sym (read_past a.s.now a.self.at a.n (omega arith))
-
 pub returns : goal.returns
 returns c =
     let a = c.args in

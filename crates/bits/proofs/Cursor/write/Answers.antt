@@ -8,19 +8,16 @@ use Rattle.bits.specs.NumberLaws.{length-to_bits}
 use Rattle.bits.specs.WriteLaws.{put-none, put_on}
 use Rattle.bits.proofs.Cursor.write.Goals as goal
 
--- src/lib.rt:97:13
 pub returns-then-n-eq0 : goal.returns-then-n-eq0
 returns-then-n-eq0 c =
     let a = c.args in
     record { holds = sym (put-none _ a.self.at a.n a.v (omega arith)); next = omega (arith, length-to_bits a.n a.v) }
 
--- src/lib.rt:101:13
 pub returns-then-n-room : goal.returns-then-n-room
 returns-then-n-room c =
     let a = c.args in
     record { holds = c.put_chunk.ensures; next = omega (arith, length-to_bits a.n a.v) }
 
--- src/lib.rt:90:5
 pub returns : goal.returns
 returns c =
     let a = c.args in

@@ -1,7 +1,0 @@
-use Rattle.sheet_window.specs.WideLaws.{wide_of}
-use Rattle.sheet_window.proofs.wide.Goals as goal
-
-pub returns : goal.returns
-returns c =
-    let a = c.args in
-    wide_of a.s.now a.at a.n _ c.requires.1 c.eight_near.ensures
