@@ -7,6 +7,8 @@ use Rattle.std.proofs.Math.Path.{refl, sym, ap}
 use borrow.Author.Tests.{eq-eqb, ne_eqb, eqb-true, eqb-false, lt-ltb, le-ltb}
 use lib.ListN.{length, get_or, take, set}
 use Rattle.std.proofs.lemmas.List.{take-set-le}
+use Rattle.std.specs.Bool.{then_some}
+use Rattle.std.specs.List.{list_any}
 use Rattle.lists.specs.Lists.{any, null, filter, set_of, list_before}
 use Rattle.lists.specs.Tests.{by, never, or_right, neither}
 use Rattle.lists.specs.Appending.{map-append, filter-append, any_append}
@@ -19,7 +21,7 @@ use Rattle.definitions.specs.Comparisons.{dom_before}
 use Rattle.definitions.specs.Checks.{kind_of, resources_of}
 use Rattle.definitions.specs.Annotations.{Overlap, nothing, whole, by_word, overlaps, overlap_of, alias_of, same_alias, has_associated_word, doms_in, united, shared, less, some_if, with_resources, unless_empty, intersection_by, intersection, difference_by, difference}
 use Rattle.annotations.specs.declared.AnnotationInfo.{AnnotationInfo}
-use Rattle.annotations.specs.Reading.{dom_at, doms_of, pairs, resources_in, of_kind, info_of, Held, With}
+use Rattle.annotations.specs.Reading.{dom_at, doms_of, pairs, resources_in, of_kind, info_of, part_of, Held, With}
 
 -- ---- resources in two arrays
 
@@ -61,7 +63,7 @@ upto-length (suc k) (w ∷ ws) (d ∷ ds) p q = ap suc (upto-length k ws ds (le_
 -- ---- whether a word stands there, by the words alone
 
 abbrev pub member : List ℕ → ℕ → Bool
-member ws w = any (λ v. eqb v w) ws
+member ws w = list_any (λ v. eqb v w) ws
 
 pub member-step : (ws : List ℕ) (j w : ℕ) → j < length ws → member (take (j + 1) ws) w ≡ (member (take j ws) w || eqb (get_or ws j 0) w)
 member-step ws j w h = rw (add-one, take-suc ws j 0 h, any_append (λ v. eqb v w) (take j ws) (get_or ws j 0 ∷ []), or-false)
@@ -289,10 +291,16 @@ not_null : (us : List AssociatedResource) → ltb 0 (length us) ≡ not (null us
 not_null [] = refl
 not_null (u ∷ us) = lt-ltb 0 (suc (length us)) (omega arith)
 
+-- an annotation, or none
+pub part_then : (b : Bool) (x : AnnotationInfo) → part_of (then_some b x) ≡ some_if b (info_of x)
+unfolding part_of
+part_then true x = refl
+part_then false x = refl
+
 -- x with other resources, none if there are none
 remade : (x r : AnnotationInfo) (us : List AssociatedResource) → With x us r → with_resources (info_of x) us ≡ info_of r
-    → some_if (ltb 0 r.count) (info_of r) ≡ unless_empty (info_of x) us
-remade x r us w e = ap (λ (n : ℕ). some_if (ltb 0 n) (info_of r)) w.count ∙ ap₂ some_if (not_null us) (sym e)
+    → part_of (then_some (ltb 0 r.count) r) ≡ unless_empty (info_of x) us
+remade x r us w e = part_then (ltb 0 r.count) r ∙ ap (λ (n : ℕ). some_if (ltb 0 n) (info_of r)) w.count ∙ ap₂ some_if (not_null us) (sym e)
 
 with-is : (k : ℕ) (x r : AnnotationInfo) (us : List AssociatedResource) → With x us r → x.kind ≡ k → with_resources (of_kind k x.tag (resources_in x)) us ≡ of_kind k r.tag us
     → with_resources (info_of x) us ≡ info_of r
@@ -304,7 +312,7 @@ with-is k x r us w e q =
 pub record ByWord (x y : AnnotationInfo) : Type 0 where
   pub left : resources_of (info_of x) ≡ resources_in x
   pub right : resources_of (info_of y) ≡ resources_in y
-  pub made : (r : AnnotationInfo) (us : List AssociatedResource) → With x us r → some_if (ltb 0 r.count) (info_of r) ≡ unless_empty (info_of x) us
+  pub made : (r : AnnotationInfo) (us : List AssociatedResource) → With x us r → part_of (then_some (ltb 0 r.count) r) ≡ unless_empty (info_of x) us
 
 resources-one : (x : AnnotationInfo) → x.kind ≡ 1 → resources_of (info_of x) ≡ resources_in x
 unfolding info_of

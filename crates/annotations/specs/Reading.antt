@@ -1,15 +1,14 @@
 -- An annotation as the code holds it, read as the definitions' AnnotationInfo.
-use Rattle.std.specs.Prelude.{List, [], ◌∷◌, map, ◌≡◌, ℕ, zero, suc, ◌<◌, ◌≤◌, take, length}
-use Rattle.std.proofs.Math.Option.{Option}
+use Rattle.std.specs.Prelude.{List, [], ◌∷◌, map, ◌≡◌, ℕ, zero, suc, ◌<◌, ◌≤◌, take, length, Option, Some, None}
+use Rattle.std.proofs.Math.Option.{none, some}
 use Rattle.lists.specs.Lists.{each}
 use Rattle.rows.specs.declared.Row.{Row}
 use Rattle.rows.specs.Rows.{has}
 use Rattle.rows.specs.Lists.{below}
 use Rattle.definitions.specs.Records.{Name, Dom, AssociatedResource, AnnotationOf, make_list, associate, nest_associate, alias, inherit, derive, no_derive}
 use Rattle.definitions.specs.Comparisons.{dotted}
-use Rattle.definitions.specs.Annotations.{some_if, nothing, whole, by_word}
+use Rattle.definitions.specs.Annotations.{nothing, whole, by_word}
 use Rattle.annotations.specs.declared.AnnotationInfo.{AnnotationInfo}
-use Rattle.annotations.specs.declared.Part.{Part}
 use Rattle.annotations.specs.declared.Overlap.{Overlap}
 
 -- a dom set as a row of bits, in the order of doms (FORMAT 1.6): 0 is none, d + 1 the word d
@@ -46,8 +45,10 @@ of_kind (suc (suc (suc (suc (suc (suc k)))))) t us = no_derive
 unfoldable pub info_of : AnnotationInfo → AnnotationOf AssociatedResource
 info_of x = of_kind x.kind x.tag (resources_in x)
 
-unfoldable pub part_of : Part → Option (AnnotationOf AssociatedResource)
-part_of p = some_if p.some (info_of p.annotation)
+-- what is left of an annotation, or what two share, if there is any
+unfoldable pub part_of : Option AnnotationInfo → Rattle.std.proofs.Math.Option.Option (AnnotationOf AssociatedResource)
+part_of None = none
+part_of (Some x) = some (info_of x)
 
 -- what every annotation of the code meets
 pub record Held (x : AnnotationInfo) : Type 0 where

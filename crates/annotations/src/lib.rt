@@ -2,6 +2,7 @@
 #![tactic(auto)]
 
 ghost use Rattle.std.specs.Prelude.{◌≡◌, ◌++◌, [], ◌<◌, ◌≤◌, ltb, get_or};
+ghost use Rattle.std.specs.Bool.{then_some};
 ghost use Rattle.lists.specs.Lists.{set_of};
 ghost use Rattle.definitions.specs.Comparisons.{dom_before};
 ghost use Rattle.definitions.specs.Annotations.{overlaps, nothing, same_alias, has_associated_word, doms_in, shared, less, intersection, difference};
@@ -21,15 +22,8 @@ pub struct AnnotationInfo {
     pub doms: [Row; 15],
 }
 
-// What is left of an annotation, or what two share, if there is any.
-#[derive(Clone, Copy)]
-pub struct Part {
-    pub some: bool,
-    pub annotation: AnnotationInfo,
-}
-
 // What two annotations have in common: nothing; the whole, if they are equal; the resources of equal words.
-#[derive(Clone, Copy)]
+#[derive(Clone, Copy, PartialEq, Eq)]
 pub enum Overlap {
     Nothing,
     Whole,
@@ -136,14 +130,7 @@ pub fn has_word(y: AnnotationInfo, w: u8) -> bool
 {
     let count = y.count;
     let words = y.words;
-    let mut j = 0;
-    while j < count {
-        if words[j] == w {
-            return true;
-        }
-        j += 1;
-    }
-    false
+    words.iter().take(count).any(|v| *v == w)
 }
 
 // The doms d, and those that y gives the word (FORMAT 8.8).
@@ -155,13 +142,11 @@ pub fn united(d: Row, y: AnnotationInfo, w: u8) -> Row
     let words = y.words;
     let doms = y.doms;
     let mut out = d;
-    let mut j: usize = 0;
-    while j < count {
+    for j in 0..count {
         if words[j] == w {
             let e = doms[j];
             out = rows::in_either(out, e);
         }
-        j += 1;
     }
     out
 }
@@ -178,8 +163,7 @@ pub fn shared_resources(x: AnnotationInfo, y: AnnotationInfo) -> AnnotationInfo
     let mut out = words;
     let mut sets = doms;
     let mut k: usize = 0;
-    let mut i: usize = 0;
-    while i < count {
+    for i in 0..count {
         let w = words[i];
         let d = doms[i];
         let e = united(d, y, w);
@@ -188,7 +172,6 @@ pub fn shared_resources(x: AnnotationInfo, y: AnnotationInfo) -> AnnotationInfo
         if has_word(y, w) {
             k += 1;
         }
-        i += 1;
     }
     AnnotationInfo {
         kind: x.kind,
@@ -210,8 +193,7 @@ pub fn less_resources(x: AnnotationInfo, y: AnnotationInfo) -> AnnotationInfo
     let mut out = words;
     let mut sets = doms;
     let mut k: usize = 0;
-    let mut i: usize = 0;
-    while i < count {
+    for i in 0..count {
         let w = words[i];
         let d = doms[i];
         out[k] = w;
@@ -219,7 +201,6 @@ pub fn less_resources(x: AnnotationInfo, y: AnnotationInfo) -> AnnotationInfo
         if !has_word(y, w) {
             k += 1;
         }
-        i += 1;
     }
     AnnotationInfo {
         kind: x.kind,
@@ -231,51 +212,34 @@ pub fn less_resources(x: AnnotationInfo, y: AnnotationInfo) -> AnnotationInfo
 }
 
 // An associate without resources is none (FORMAT 8.8).
-fn unless_empty(x: AnnotationInfo) -> Part
-    ensures { result ≡ record { some = ltb 0 x.count; annotation = x } }
+fn unless_empty(x: AnnotationInfo) -> Option<AnnotationInfo>
+    ensures { result ≡ then_some (ltb 0 x.count) x }
 {
-    Part {
-        some: x.count > 0,
-        annotation: x,
-    }
+    (x.count > 0).then_some(x)
 }
 
 // What two annotations share (FORMAT 8.8): x itself, if x and y are equal and of a kind that is shared whole; the shared
 // resources of two associates of one kind; otherwise none.
-pub fn intersection(x: AnnotationInfo, y: AnnotationInfo) -> Part
+pub fn intersection(x: AnnotationInfo, y: AnnotationInfo) -> Option<AnnotationInfo>
     requires { Held x × Held y }
     ensures { part_of result ≡ intersection (info_of x) (info_of y) }
 {
-    let both = overlap_of(x.kind, y.kind);
-    match both {
-        Overlap::Nothing => Part {
-            some: false,
-            annotation: x,
-        },
-        Overlap::Whole => Part {
-            some: same_alias(x, y),
-            annotation: x,
-        },
+    match overlap_of(x.kind, y.kind) {
+        Overlap::Nothing => None,
+        Overlap::Whole => same_alias(x, y).then_some(x),
         Overlap::ByWord => unless_empty(shared_resources(x, y)),
     }
 }
 
 // What x has and y has not (FORMAT 8.8): none of an equal annotation of a kind that is shared whole; the other resources of
 // an associate less one of its kind; otherwise x, even where both are equal Derives or Inherits.
-pub fn difference(x: AnnotationInfo, y: AnnotationInfo) -> Part
+pub fn difference(x: AnnotationInfo, y: AnnotationInfo) -> Option<AnnotationInfo>
     requires { Held x × Held y }
     ensures { part_of result ≡ difference (info_of x) (info_of y) }
 {
-    let both = overlap_of(x.kind, y.kind);
-    match both {
-        Overlap::Nothing => Part {
-            some: true,
-            annotation: x,
-        },
-        Overlap::Whole => Part {
-            some: !same_alias(x, y),
-            annotation: x,
-        },
+    match overlap_of(x.kind, y.kind) {
+        Overlap::Nothing => Some(x),
+        Overlap::Whole => (!same_alias(x, y)).then_some(x),
         Overlap::ByWord => unless_empty(less_resources(x, y)),
     }
 }

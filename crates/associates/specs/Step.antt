@@ -17,6 +17,8 @@ use Rattle.interpretation.specs.Emit.{emit}
 use Rattle.interpretation.specs.Judged.{is_unknown, is_other}
 use Rattle.duplicates.specs.Held.{Makings, makings_in, held_items}
 use Rattle.associates.specs.declared.Progress.{Progress}
+use Rattle.associates.specs.declared.Standing.{Standing}
+use Rattle.associates.specs.declared.Standing.TheVariants.{Going, Failed, Ended}
 
 -- how far an annotation is, with the makings of its type
 pub record Reached : Type 0 where
@@ -25,8 +27,19 @@ pub record Reached : Type 0 where
   pub rows : ℕ
   pub made : Makings
 
+-- an annotation that ended failed as well
+abbrev pub failed_in : Standing → Bool
+failed_in Going = false
+failed_in Failed = true
+failed_in Ended = true
+
+abbrev pub ended_in : Standing → Bool
+ended_in Going = false
+ended_in Failed = false
+ended_in Ended = true
+
 abbrev pub reached : Progress → List ℕ → Reached
-reached p numbers = record { failed = p.failed; ended = p.ended; rows = p.rows; made = makings_in numbers p.made }
+reached p numbers = record { failed = failed_in p.standing; ended = ended_in p.standing; rows = p.rows; made = makings_in numbers p.made }
 
 -- the rows that a verdict adds
 abbrev pub rows_in : LineType → ℕ → Verdict → List records.Row

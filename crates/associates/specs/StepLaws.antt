@@ -1,5 +1,5 @@
 -- Laws of one word of an annotation.
-use Rattle.std.specs.Prelude.{Bool, true, false, List, [], ◌∷◌, map, ◌≡◌, refl, ℕ, ◌≤◌, ◌<◌}
+use Rattle.std.specs.Prelude.{Bool, true, false, List, [], ◌∷◌, map, find, Option, Some, None, is_some, ◌≡◌, refl, ℕ, ◌<◌}
 use Rattle.std.proofs.Math.Bool.{cond}
 use Rattle.std.proofs.Common.{sym, ◌∙◌, subst, arith}
 use Rattle.std.proofs.Math.Path.{ap}
@@ -7,7 +7,8 @@ use Rattle.lists.specs.Lists.{null, filter, first_of}
 use Rattle.lists.specs.Tests.{never}
 use Rattle.lists.specs.Appending.{map-map}
 use Rattle.rows.specs.declared.Row.{Row}
-use Rattle.rows.specs.Next.{First}
+use Rattle.rows.specs.Rows.{has}
+use Rattle.rows.specs.Lists.{below}
 use Rattle.definitions.specs.Records as records
 use Rattle.definitions.specs.Records.{Name, Item, Sheet}
 use Rattle.definitions.specs.Map.{LineType, LineMap}
@@ -20,7 +21,7 @@ use Rattle.synth_classes.specs.declared.Site.{Site}
 use Rattle.synth_classes.specs.declared.Origin.{Origin}
 use Rattle.synth_classes.specs.Classes.{unknown_at, other_at}
 use Rattle.synth_classes.specs.Made.{class_name, classes_of, created}
-use Rattle.synth_classes.specs.Walks.{among, first-there, first-none}
+use Rattle.synth_classes.specs.Walks.{found-first, found-none}
 use Rattle.synth_classes.specs.Known.{Known, name-known}
 use Rattle.interpretation.specs.Emit.{emit_bytes, emit, name-bytes}
 use Rattle.interpretation.specs.Judged.{is_unknown, is_other, unknown_doms, name_in, unknown_row}
@@ -96,13 +97,15 @@ by-verdict {t} {T} {r} {doms} {ps} {limit} {s} {b} {p} {b'} e x = subst (λ z. S
 -- ---- the steps
 
 -- whether there is an unknown class
-pub some-unknown : (t : List ℕ) (doms : Row) (w d : ℕ) → First (among doms (unknown_at t w)) 201 0 d → d < 201 → null (unknown_doms t doms w) ≡ false
+pub some-unknown : (t : List ℕ) (doms : Row) (w : ℕ) (r : Option ℕ) → r ≡ find (unknown_at t w) (below (has doms) 201) → is_some r ≡ true → null (unknown_doms t doms w) ≡ false
 unfolding unknown_doms
-some-unknown t doms w d first h = ap null (first-there (among doms (unknown_at t w)) d first h)
+some-unknown t doms w (Some d) e h = ap null (found-first doms (unknown_at t w) d (sym e)).1
+some-unknown t doms w None e h = never h refl
 
-pub none-unknown : (t : List ℕ) (doms : Row) (w d : ℕ) → First (among doms (unknown_at t w)) 201 0 d → 201 ≤ d → null (unknown_doms t doms w) ≡ true
+pub none-unknown : (t : List ℕ) (doms : Row) (w : ℕ) (r : Option ℕ) → r ≡ find (unknown_at t w) (below (has doms) 201) → is_some r ≡ false → null (unknown_doms t doms w) ≡ true
 unfolding unknown_doms
-none-unknown t doms w d first h = ap null (first-none (among doms (unknown_at t w)) d first h)
+none-unknown t doms w (Some d) e h = never refl h
+none-unknown t doms w None e h = ap null (found-none doms (unknown_at t w) (sym e))
 
 null-map : {A B : Type 0} (f : A → B) (l : List A) → null (map f l) ≡ null l
 null-map f [] = refl
@@ -156,17 +159,17 @@ module _ (t : List ℕ) (site : Site) (o : Origin) (limit : ℕ) (s : Reached) (
             (record { rows = no_rows limit _; ended = refl; failed = refl; items = refl });
       }
 
-  module _ (e : null ds ≡ true) (f : s.failed ≡ false) (d : ℕ) (first : First (among o.doms (other_at t r)) 201 0 d) where
+  module _ (e : null ds ≡ true) (f : s.failed ≡ false) (first : Option ℕ) (found : first ≡ find (other_at t r) (below (has o.doms) 201)) where
     -- a class that is no resource
-    pub step_other : (n u v y z : ℕ) (b' : List ℕ) → d < 201 → two_words u v ≡ name_in t T → two_words y z ≡ class_name r d
+    pub step_other : (d n u v y z : ℕ) (b' : List ℕ) → first ≡ Some d → two_words u v ≡ name_in t T → two_words y z ≡ class_name r d
         → (b', n) ≡ emit_bytes limit (b, s.rows) (5 ∷ u ∷ v ∷ y ∷ z ∷ r ∷ [])
         → Stepped t site o limit s b (record { failed = true; ended = false; rows = n; made = s.made }) b'
-    step_other n u v y z b' l p q w =
+    step_other d n u v y z b' l p q w =
         record {
           count = omega arith;
           right = λ x k h.
               let m = line_map x in
-              let i = other-classes x t k o.doms r hw ∙ ap (map (class_name r)) (first-there (among o.doms (other_at t r)) d first l) in
+              let i = other-classes x t k o.doms r hw ∙ ap (map (class_name r)) (found-first o.doms (other_at t r) d (sym found ∙ l)).1 in
               by-verdict
               (verdict-other m T r o.doms o.parents s.failed (items_held m T s.made) (class_name r d) (unknown-null x k ∙ e) f (first-with (is_other m) (classes_of o.doms r) _ _ i))
               (record {
@@ -177,13 +180,13 @@ module _ (t : List ℕ) (site : Site) (o : Origin) (limit : ℕ) (s : Reached) (
               });
         }
 
-    none_other : (x : Sheet) → Known x t → 201 ≤ d → first_of (is_other (line_map x)) (classes_of o.doms r) ≡ []
+    none_other : (x : Sheet) → Known x t → first ≡ None → first_of (is_other (line_map x)) (classes_of o.doms r) ≡ []
     none_other x k l =
         first-without (is_other (line_map x)) (classes_of o.doms r)
-        (other-classes x t k o.doms r hw ∙ ap (map (class_name r)) (first-none (among o.doms (other_at t r)) d first l))
+        (other-classes x t k o.doms r hw ∙ ap (map (class_name r)) (found-none o.doms (other_at t r) (sym found ∙ l)))
 
     -- a duplicate
-    pub step-duplicate : (n u v : ℕ) (c : Bool) (b' : List ℕ) → 201 ≤ d → Repeated t site o s.made s.made.count c → c ≡ true → two_words u v ≡ name_in t T
+    pub step-duplicate : (n u v : ℕ) (c : Bool) (b' : List ℕ) → first ≡ None → Repeated t site o s.made s.made.count c → c ≡ true → two_words u v ≡ name_in t T
         → (b', n) ≡ emit_bytes limit (b, s.rows) (6 ∷ u ∷ v ∷ 255 ∷ 255 ∷ r ∷ [])
         → Stepped t site o limit s b (record { failed = true; ended = false; rows = n; made = s.made }) b'
     step-duplicate n u v c b' l a g p w =
@@ -202,7 +205,7 @@ module _ (t : List ℕ) (site : Site) (o : Origin) (limit : ℕ) (s : Reached) (
         }
 
     -- a making
-    pub step-makes : (c : Bool) (made : Makings) → 201 ≤ d → Repeated t site o s.made s.made.count c → c ≡ false → Keeps s.made r o.doms o.parents made
+    pub step-makes : (c : Bool) (made : Makings) → first ≡ None → Repeated t site o s.made s.made.count c → c ≡ false → Keeps s.made r o.doms o.parents made
         → Stepped t site o limit s b (record { failed = false; ended = false; rows = s.rows; made = made }) b
     step-makes c made l a g w =
         record {

@@ -4,17 +4,25 @@
 ghost use Rattle.std.specs.Prelude.{true, false, ◌≡◌};
 ghost use Rattle.lists.specs.Lists.{null};
 ghost use Rattle.interpretation.specs.Judged.{unknown_doms};
-ghost use Rattle.associates.specs.Step.{reached, Ready, Stepped};
+ghost use Rattle.associates.specs.Step.{failed_in, reached, Ready, Stepped};
 
-use fields::Name;
+use interpretation::Reason;
 use synth_classes::{Origin, Site};
 
-// How far an annotation is: whether a row 5 or 6 stands, whether it ended, the count of rows, and that of the makings of its
-// type.
+// How an annotation stands (FORMAT 8.10).
+#[derive(Clone, Copy, PartialEq, Eq)]
+pub enum Standing {
+    // No row stands.
+    Going,
+    // A row of kind 5 or 6 stands: it ends at the next word.
+    Failed,
+    Ended,
+}
+
+// How far an annotation is: how it stands, the count of rows, and that of the makings of its type.
 #[derive(Clone, Copy)]
 pub struct Progress {
-    pub failed: bool,
-    pub ended: bool,
+    pub standing: Standing,
     pub rows: usize,
     pub made: usize,
 }
@@ -31,44 +39,34 @@ fn interpret_known(
     limit: usize,
 ) -> Progress
     requires ready { Ready site limit (reached s made.old) buf.old }
-    requires word_value { (null (unknown_doms t.now origin.doms site.word) ≡ true) × (s.failed ≡ false) }
+    requires word_value { (null (unknown_doms t.now origin.doms site.word) ≡ true) × (failed_in s.standing ≡ false) }
     ensures { Stepped t.now site origin limit (reached s made.old) buf.old (reached result made.new) buf.new }
 {
-    let n = s.rows;
-    let count = s.made;
-    let word = site.word;
-    let doms = origin.doms;
     let subject = synth_classes::name_at(t, site.place);
-    let k = interpretation::first_other(t, doms, word);
-    if k < 201 {
-        let other = synth_classes::class_name(k, word);
-        let rows = interpretation::put_row(buf, limit, n, 5, subject, other, word);
+    if let Some(dom) = interpretation::first_other(t, origin.doms, site.word) {
+        let class = synth_classes::class_name(dom as usize, site.word);
+        let reason = Reason::NoResource(class);
+        let rows = interpretation::put_reason(buf, limit, s.rows, subject, reason, site.word);
         return Progress {
-            failed: true,
-            ended: false,
-            rows: rows,
-            made: count,
+            standing: Standing::Failed,
+            rows,
+            made: s.made,
         };
     }
-    if duplicates::is_duplicate(t, site, origin, made, count) {
-        let none = Name {
-            first: 255,
-            second: 255,
-        };
-        let rows = interpretation::put_row(buf, limit, n, 6, subject, none, word);
+    if duplicates::is_duplicate(t, site, origin, made, s.made) {
+        let reason = Reason::Duplicate;
+        let rows = interpretation::put_reason(buf, limit, s.rows, subject, reason, site.word);
         return Progress {
-            failed: true,
-            ended: false,
-            rows: rows,
-            made: count,
+            standing: Standing::Failed,
+            rows,
+            made: s.made,
         };
     }
-    duplicates::put_making(made, count, word, doms, origin.parents);
+    duplicates::put_making(made, s.made, site.word, origin);
     Progress {
-        failed: false,
-        ended: false,
-        rows: n,
-        made: count + 1,
+        standing: Standing::Going,
+        rows: s.rows,
+        made: s.made + 1,
     }
 }
 
@@ -86,24 +84,28 @@ pub fn interpret_word(
     requires { Ready site limit (reached s made.old) buf.old }
     ensures { Stepped t.now site origin limit (reached s made.old) buf.old (reached result made.new) buf.new }
 {
-    let n = s.rows;
-    let doms = origin.doms;
-    if interpretation::next_unknown(t, doms, site.word, 0) < 201 {
-        let rows = interpretation::unknown_rows(t, site.place, doms, site.word, buf, limit, n);
+    if interpretation::first_unknown(t, origin.doms, site.word).is_some() {
+        let rows = interpretation::unknown_rows(
+            t,
+            site.place,
+            origin.doms,
+            site.word,
+            buf,
+            limit,
+            s.rows,
+        );
         return Progress {
-            failed: true,
-            ended: true,
-            rows: rows,
+            standing: Standing::Ended,
+            rows,
             made: s.made,
         };
     }
-    if s.failed {
-        return Progress {
-            failed: true,
-            ended: true,
-            rows: n,
+    match s.standing {
+        Standing::Going => interpret_known(t, site, origin, s, made, buf, limit),
+        Standing::Failed | Standing::Ended => Progress {
+            standing: Standing::Ended,
+            rows: s.rows,
             made: s.made,
-        };
+        },
     }
-    interpret_known(t, site, origin, s, made, buf, limit)
 }

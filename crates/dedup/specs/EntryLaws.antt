@@ -1,6 +1,6 @@
 -- The dedup keeps entries apart and none empty, and there are no more entries than words.
 use mathlib.Core.Bool.{Bool, true, false, ◌&&◌, ◌||◌, not, or-false}
-use Rattle.std.specs.Prelude.{List, [], ◌∷◌, ◌++◌, ◌≡◌, refl, ℕ, zero, suc, ◌<◌, ◌≤◌, length, get_or, set, take}
+use Rattle.std.specs.Prelude.{List, [], ◌∷◌, ◌++◌, ◌≡◌, refl, ℕ, zero, suc, ◌<◌, ◌≤◌, length, get_or, set, take, replicate}
 use Rattle.std.proofs.Common.{append-nil, sym, ap, ap₂, ◌∙◌, subst, arith, get_or-take, length-take-le}
 use native.Mathlib.Nat.{le_of_suc-le-suc}
 use Rattle.std.specs.Int.Bits.{bit_and, bit_or, bit_xor, and_zero_r, and_self, xor_zero_r, xor_self}
@@ -250,20 +250,15 @@ with_parents a n = record { kind = a.kind; words = a.words; parents = bit_or a.p
 abbrev pub zeros : Entry
 zeros = record { kind = 0; words = record { a = 0; b = 0; c = 0; d = 0 }; parents = 0 }
 
-pub record SameWords (x y : Row) (r : Bool) : Type 0 where
-  pub equal : r ≡ true → x ≡ y
+-- no entries
+abbrev pub no_entries : List Entry
+no_entries = replicate 201 zeros
 
--- a search from below the count finds a first entry that has words
-pub record SearchFrom (first : Entry) (count r : ℕ) : Type 0 where
-  pub most : r ≤ count
-  pub stands : r < count → stands first ≡ true
-
--- a place below the count is that of an entry with the newcomer's words, in a list whose first entry has words
-pub record PlaceOf (l : Entries) (n : Entry) (r : ℕ) : Type 0 where
-  pub long : l.count ≤ length l.items
-  pub most : r ≤ l.count
-  pub same : r < l.count → (get_or l.items r zeros).words ≡ n.words
-  pub first : r < l.count → stands (get_or l.items 0 zeros) ≡ true
+-- a place of the list is that of an entry with these words, and the first entry has words
+pub record PlaceOf (l : Entries) (words : Row) (r : ℕ) : Type 0 where
+  pub within : r < l.count
+  pub same : (get_or l.items r zeros).words ≡ words
+  pub first : stands (get_or l.items 0 zeros) ≡ true
 
 pub standing-is : (e : Entry) → (length (unless_empty e) ≡ 0 → ⊥) → stands e ≡ true
 unfolding unless_empty

@@ -42,11 +42,12 @@ full_by : (l : List Entry) (i : ℕ) → i < length l → stands (get_or l 0 zer
 full_by [] i h p u = refl
 full_by (a ∷ l) i h p u = rw p u
 
-join-under : (l r : Entries) (n : Entry) (i : ℕ) → Kept l → Sound n → PlaceOf l n i → i < l.count → r.count ≡ l.count
+join-under : (l r : Entries) (n : Entry) (i : ℕ) → Kept l → Sound n → l.count ≤ length l.items → PlaceOf l n.words i → r.count ≡ l.count
     → r.items ≡ set l.items i (inter (get_or l.items i zeros) n) → entries_of r ≡ join (entries_of l) n
 unfolding entries_of
-join-under l r n i k s p h c e =
-    let t : length (take l.count l.items) ≡ l.count = length-take-le l.count l.items p.long in
+join-under l r n i k s b p c e =
+    let h = p.within in
+    let t : length (take l.count l.items) ≡ l.count = length-take-le l.count l.items b in
     let g : get_or (take l.count l.items) i zeros ≡ get_or l.items i zeros = get_or-take l.count l.items i zeros h in
     let f : get_or (take l.count l.items) 0 zeros ≡ get_or l.items 0 zeros = get_or-take l.count l.items 0 zeros (omega arith) in
     ap₂ (λ (m : ℕ) (z : List Entry). take m z) c e
@@ -55,11 +56,11 @@ join-under l r n i k s p h c e =
     ∙ sym
     (join-some (take l.count l.items) n (λ q. absurd (omega arith))
     ∙ merge-same (take l.count l.items) i zeros n k.apart
-    (full_by (take l.count l.items) i (omega arith) (ap stands f ∙ p.first h) k.full) s (omega arith) (ap (λ (x : Entry). x.words) g ∙ p.same h))
+    (full_by (take l.count l.items) i (omega arith) (ap stands f ∙ p.first) k.full) s (omega arith) (ap (λ (x : Entry). x.words) g ∙ p.same))
 
-pub joins-shared : (l r : Entries) (n : Entry) (i : ℕ) → Kept l → Sound n → PlaceOf l n i → i < l.count → r.count ≡ l.count
+pub joins-shared : (l r : Entries) (n : Entry) (i : ℕ) → Kept l → Sound n → l.count ≤ length l.items → PlaceOf l n.words i → r.count ≡ l.count
     → r.items ≡ set l.items i (inter (get_or l.items i zeros) n) → Joins l n r
-joins-shared l r n i k s p h c e = joins-by l r n k s (join-under l r n i k s p h c e) (omega (arith, c, k.room))
+joins-shared l r n i k s b p c e = joins-by l r n k s (join-under l r n i k s b p c e) (omega (arith, c, k.room))
 
 -- ---- one entry of a parent more
 

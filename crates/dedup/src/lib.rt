@@ -1,9 +1,9 @@
 // What a type inherits: `InheritedAnnotation` and its dedup, after compile.rs.
 #![tactic(auto)]
 
-ghost use Rattle.std.specs.Prelude.{◌≡◌, [], ◌∷◌, map, ◌<◌, ◌≤◌, length};
+ghost use Rattle.std.specs.Prelude.{◌≡◌, [], ◌∷◌, map, ◌<◌, ◌≤◌, length, IfSome};
 ghost use Rattle.dedup.specs.Entries.{overlap_at, shared_by, left_by, inter, diff, unless_empty, merge, join_all, entries_of, Sound, Apart};
-ghost use Rattle.dedup.specs.EntryLaws.{SameWords, SearchFrom};
+ghost use Rattle.dedup.specs.EntryLaws.{PlaceOf, no_entries};
 ghost use Rattle.dedup.specs.Reading.{no_doms, under_place, Kept, Good, Nothing, Unites, Joins, JoinsAll};
 
 use annotations::Overlap;
@@ -18,7 +18,8 @@ pub struct Entry {
     pub parents: u64,
 }
 
-// The first `count` entries stand. No two share a word, so there are at most 200; one place is to spare.
+// The first `count` entries stand. No two share a word, so there are at most 200; one place is to spare. An array beside its
+// count, since the synthesis has fixed memory and no heap.
 #[derive(Clone, Copy)]
 pub struct Entries {
     pub count: usize,
@@ -37,8 +38,7 @@ fn shared_words(k: u8, j: u8, x: Row, y: Row) -> Row
     requires { (k < 7) × (j < 7) }
     ensures { result ≡ shared_by (overlap_at k j) x y }
 {
-    let both = annotations::overlap_of(k, j);
-    match both {
+    match annotations::overlap_of(k, j) {
         Overlap::Nothing => rows::empty_row(),
         Overlap::Whole => x,
         Overlap::ByWord => rows::in_both(x, y),
@@ -50,8 +50,7 @@ fn left_words(k: u8, j: u8, x: Row, y: Row) -> Row
     requires { (k < 7) × (j < 7) }
     ensures { result ≡ left_by (overlap_at k j) x y }
 {
-    let both = annotations::overlap_of(k, j);
-    match both {
+    match annotations::overlap_of(k, j) {
         Overlap::Nothing => x,
         Overlap::Whole => rows::empty_row(),
         Overlap::ByWord => rows::in_first(x, y),
@@ -68,7 +67,7 @@ pub fn intersection(x: Entry, y: Entry) -> Entry
     let words = shared_words(x.kind, y.kind, v, w);
     Entry {
         kind: x.kind,
-        words: words,
+        words,
         parents: x.parents | y.parents,
     }
 }
@@ -83,7 +82,7 @@ pub fn difference(x: Entry, y: Entry) -> Entry
     let words = left_words(x.kind, y.kind, v, w);
     Entry {
         kind: x.kind,
-        words: words,
+        words,
         parents: x.parents,
     }
 }
@@ -105,10 +104,7 @@ fn alone(l: Entries, newcomer: Entry) -> Entries
 {
     let mut items = l.items;
     items[0] = newcomer;
-    Entries {
-        count: 1,
-        items: items,
-    }
+    Entries { count: 1, items }
 }
 
 // The list that a newcomer has joined: each earlier entry split into its rest and what it shares, behind all of them the
@@ -123,8 +119,7 @@ pub fn merged(l: Entries, newcomer: Entry) -> Entries
     let mut out = l.items;
     let mut n = newcomer;
     let mut k: usize = 0;
-    let mut i: usize = 0;
-    while i < count {
+    for i in 0..count {
         let a = l.items[i];
         let v = a.words;
         let w = n.words;
@@ -141,7 +136,6 @@ pub fn merged(l: Entries, newcomer: Entry) -> Entries
             k += 1;
             n = difference(n, a);
         }
-        i += 1;
     }
     out[k] = n;
     k += standing(n);
@@ -149,22 +143,6 @@ pub fn merged(l: Entries, newcomer: Entry) -> Entries
         count: k,
         items: out,
     }
-}
-
-// Whether two sets of words are one.
-fn same_words(x: Row, y: Row) -> bool
-    ensures { SameWords x y result }
-{
-    if x.a != y.a {
-        return false;
-    }
-    if x.b != y.b {
-        return false;
-    }
-    if x.c != y.c {
-        return false;
-    }
-    x.d == y.d
 }
 
 // A newcomer joins a list. The first of a list stays as it is, an associate without resources as well.
@@ -180,18 +158,20 @@ pub fn dedup_inherited_annotations_one(l: Entries, newcomer: Entry) -> Entries
 }
 
 // No entries.
-fn no_entries() -> [Entry; 201] {
+pub fn no_entries() -> [Entry; 201]
+    ensures { result ≡ no_entries }
+{
     let words = rows::empty_row();
     let e = Entry {
         kind: 0,
-        words: words,
+        words,
         parents: 0,
     };
     [e; 201]
 }
 
 // Dom sets in which nothing stands.
-fn no_doms() -> [Row; 200]
+pub fn no_doms() -> [Row; 200]
     ensures { result ≡ no_doms }
 {
     let r = rows::empty_row();
@@ -203,15 +183,9 @@ pub fn nothing() -> Inherited
     ensures { Nothing result }
 {
     let items = no_entries();
-    let list = Entries {
-        count: 0,
-        items: items,
-    };
+    let list = Entries { count: 0, items };
     let doms = no_doms();
-    Inherited {
-        list: list,
-        doms: doms,
-    }
+    Inherited { list, doms }
 }
 
 // The doms of both, word by word. A word that an entry has not has no doms, so that all words go alike.
@@ -219,25 +193,30 @@ pub fn united(doms: [Row; 200], given: [Row; 200]) -> [Row; 200]
     ensures { Unites doms given result }
 {
     let mut out = doms;
-    let mut w: usize = 0;
-    while w < 200 {
+    for w in 0..200 {
         let x = doms[w];
         let y = given[w];
         let z = rows::in_either(x, y);
         out[w] = z;
-        w += 1;
     }
     out
 }
 
-// Where the search begins: at the end, if the first entry has no words.
-fn search_from(first: Entry, count: usize) -> usize
-    ensures { SearchFrom first count result }
+// Where an entry with these words stands, in a list whose first entry has words.
+fn place_of(l: &Entries, words: Row) -> Option<usize>
+    requires { l.now.count ≤ 200 }
+    ensures { IfSome result (PlaceOf l.now words) }
 {
+    let first = l.items[0];
     if standing(first) == 0 {
-        return count;
+        return None;
     }
-    0
+    for at in 0..l.count {
+        if l.items[at].words == words {
+            return Some(at);
+        }
+    }
+    None
 }
 
 // The entries of a parent join a list, one after the other, under that parent. Most stand there, from another parent, and are
@@ -249,34 +228,20 @@ pub fn joined_entries(l: Entries, p: Entries, parent: u64) -> Entries
 {
     let count = p.count;
     let mut out = l;
-    let mut i: usize = 0;
-    while i < count {
+    for i in 0..count {
         let e = p.items[i];
-        let words = e.words;
         let n = Entry {
-            kind: e.kind,
-            words: words,
             parents: parent,
+            ..e
         };
-        let size = out.count;
-        let first = out.items[0];
-        let mut at = search_from(first, size);
-        while at < size {
-            let x = out.items[at];
-            let v = x.words;
-            if same_words(v, words) {
-                break;
+        match place_of(&out, e.words) {
+            Some(at) => {
+                let y = out.items[at];
+                let both = intersection(y, n);
+                out.items[at] = both;
             }
-            at += 1;
+            None => out = dedup_inherited_annotations_one(out, n),
         }
-        if at < size {
-            let y = out.items[at];
-            let both = intersection(y, n);
-            out.items[at] = both;
-        } else {
-            out = dedup_inherited_annotations_one(out, n);
-        }
-        i += 1;
     }
     out
 }
@@ -293,8 +258,5 @@ pub fn dedup_inherited_annotations(h: Inherited, p: Inherited, parent: u64) -> I
     let d = h.doms;
     let g = p.doms;
     let doms = united(d, g);
-    Inherited {
-        list: list,
-        doms: doms,
-    }
+    Inherited { list, doms }
 }

@@ -1,6 +1,6 @@
 -- Laws of held makings.
 use mathlib.Core.Bool.{Bool, true, false, ◌||◌, not, or-false, and-false}
-use Rattle.std.specs.Prelude.{List, [], ◌∷◌, ◌≡◌, ℕ, zero, suc, ◌+◌, ◌*◌, ◌-◌, ◌/◌, ◌%◌, ◌≤◌, ◌<◌, eqb, ltb, length, get_or, set}
+use Rattle.std.specs.Prelude.{List, Option, is_some, [], ◌∷◌, ◌≡◌, ℕ, zero, suc, ◌+◌, ◌*◌, ◌-◌, ◌/◌, ◌%◌, ◌≤◌, ◌<◌, eqb, ltb, length, get_or, set}
 use Rattle.std.proofs.Math.Path.{refl, ap, ap₂}
 use Rattle.std.proofs.Common.{sym, ◌∙◌, add-one, length-set}
 use native.Mathlib.Omega.{arith}
@@ -23,7 +23,7 @@ use Rattle.catalogue.specs.Layout.{key_at}
 use Rattle.sheet_keys.specs.Keys.{name_of_key}
 use Rattle.synth_classes.specs.declared.Site.{Site}
 use Rattle.synth_classes.specs.declared.Origin.{Origin}
-use Rattle.synth_classes.specs.Classes.{place_of}
+use Rattle.synth_classes.specs.Classes.{place_if, place_of}
 use Rattle.synth_classes.specs.Made.{created}
 use Rattle.synth_classes.specs.Known.{Known, name-known, type-known}
 use Rattle.synth_same.specs.Same.{SameMaking}
@@ -224,14 +224,18 @@ module _ (s : Sheet) (t : List ℕ) (known : Known s t) (T word : ℕ) (h : T < 
       ∙ ap (λ l. not (null l)) (type-known s t known k)
       ∙ by (ltb (place_of t k) 64) (λ z. rw z) (λ z. rw z)
 
+some-low : (x : ℕ) → is_some (place_if x) ≡ ltb x 64
+some-low x = by (ltb x 64) (λ e. rw e) (λ e. rw e)
+
 pub declared-three : (t : List ℕ) (T word key : ℕ) → key ≡ key_at t T → (key % 256 ≡ 0 → ⊥) → Declared t T word false
 declared-three t T word key e h = record { right = λ s k l. sym (ap (λ x. not (null x)) (two-words s t k T word l (λ z. h (ap (λ (y : ℕ). y % 256) e ∙ z)))) }
 
-pub declared-two : (t : List ℕ) (T word key p : ℕ) → key ≡ key_at t T → key % 256 ≡ 0 → word < 255 → p ≡ place_of t (key / 256 % 256 * 256 + (word + 1)) → Declared t T word (ltb p 64)
+pub declared-two : (t : List ℕ) (T word key : ℕ) (p : Option ℕ) → key ≡ key_at t T → key % 256 ≡ 0 → word < 255 → p ≡ place_if (place_of t (key / 256 % 256 * 256 + (word + 1))) → Declared t T word (is_some p)
 declared-two t T word key p e h w q =
     record {
       right = λ s k l.
-          ap (λ (x : ℕ). ltb x 64) (q ∙ ap (λ (x : ℕ). place_of t (x / 256 % 256 * 256 + (word + 1))) e)
+          ap is_some q ∙ some-low (place_of t (key / 256 % 256 * 256 + (word + 1)))
+          ∙ ap (λ (x : ℕ). ltb x 64) (ap (λ (x : ℕ). place_of t (x / 256 % 256 * 256 + (word + 1))) e)
           ∙ sym (one-word s t k T word l (ap (λ (y : ℕ). y % 256) (sym e) ∙ h) w);
     }
 
@@ -265,9 +269,9 @@ module _ (t : List ℕ) (site : Site) (o : Origin) (h : Makings) where
 
   -- ---- a duplicate
 
-  pub repeated-declared : (n : ℕ) (r : Bool) → Declared t site.place site.word r → r ≡ true → Repeated t site o h n true
+  pub repeated-declared : (n : ℕ) (r : Bool) → Declared t site.place site.word r → r ≡ true → Repeated t site o h n r
   unfolding is_duplicate
-  repeated-declared n r d q = record { right = λ s k l. rw (← d.right s k l, q) refl }
+  repeated-declared n r d q = record { right = λ s k l. q ∙ rw (← d.right s k l, q) refl }
 
   pub repeated-made : (n : ℕ) (r x : Bool) → Declared t site.place site.word r → r ≡ false → Made t site o h n x → Repeated t site o h n x
   unfolding is_duplicate

@@ -4,21 +4,20 @@
 ghost use Rattle.std.specs.Prelude.{◌+◌, ◌≤◌, ◌<◌};
 ghost use Rattle.duplicates.specs.Held.{makings_in, Keeps, Declared, Made, Repeated};
 
-use rows::Row;
 use synth_classes::{Origin, Site};
 
 // The makings of one type are lent as numbers, as they were made, six to a making: its word, the four of its doms, and the
 // direct parents that it comes from. An own word is made at most once for each of 12 annotations of 15 words, an inherited
 // one once, so that there are at most 380.
 // One making more, behind the first count.
-pub fn put_making(made: &mut [u64; 2280], count: usize, word: u8, doms: Row, parents: u64)
+pub fn put_making(made: &mut [u64; 2280], count: usize, word: u8, origin: Origin)
     requires { count < 380 }
-    ensures { Keeps (makings_in made.old count) word doms parents (makings_in made.new (count + 1)) }
+    ensures { Keeps (makings_in made.old count) word origin.doms origin.parents (makings_in made.new (count + 1)) }
 {
     let at = 6 * count;
     made[at] = word as u64;
-    store::put_row(made, at + 1, doms);
-    made[at + 5] = parents;
+    store::put_row(made, at + 1, origin.doms);
+    made[at + 5] = origin.parents;
 }
 
 // Whether T.r is declared. A two-word T gives three-word names, which are never declared.
@@ -32,7 +31,7 @@ pub fn is_declared(t: &[u64; 1544], site: Site) -> bool
     }
     let first = (key / 256 % 256) as usize;
     let second = site.word as usize;
-    synth_classes::place_of(t, first, second + 1) < 64
+    synth_classes::place_of(t, first, second + 1).is_some()
 }
 
 // Whether an earlier making of the type is identical to that of a word. Only those of the same word are compared.
@@ -47,8 +46,7 @@ pub fn is_made(
     ensures { Made t.now site origin (makings_in made.now count) count result }
 {
     let number = site.word as u64;
-    let mut i: usize = 0;
-    while i < count {
+    for i in 0..count {
         let at = 6 * i;
         if made[at] == number {
             let doms = store::row_at(made, at + 1);
@@ -58,7 +56,6 @@ pub fn is_made(
                 return true;
             }
         }
-        i += 1;
     }
     false
 }
@@ -74,8 +71,5 @@ pub fn is_duplicate(
     requires { (site.place < 64) × (site.word < 255) × (count ≤ 380) }
     ensures { Repeated t.now site origin (makings_in made.now count) count result }
 {
-    if is_declared(t, site) {
-        return true;
-    }
-    is_made(t, site, origin, made, count)
+    is_declared(t, site) || is_made(t, site, origin, made, count)
 }

@@ -60,10 +60,7 @@ pub record Takes (h : Inherited) (bs : List Bool) (x : ℕ) (st : List ℕ) (pla
   pub dedup : (T : TypeInfo) → Noted bs x T.annotations → (g : Inherited) → Fits g → Good g → Holds st place g → (names : List Name) → ascends name_before names ≡ true
       → inherited_of names r ≡ dedup_onto (inherited_of names h) (hands_under (names_at names (2 ^ place)) T (inherited_of names g))
 
--- likewise for a parent that counts
-pub record HandsIf (bs : List Bool) (x : ℕ) (st : List ℕ) (place : ℕ) (counts : Bool) : Type 0 where
-  pub from : counts ≡ true → HandsFrom bs x st place
-
+-- likewise for a parent that counts, and nothing for one that does not
 pub record TakesIf (h : Inherited) (bs : List Bool) (x : ℕ) (st : List ℕ) (place : ℕ) (counts : Bool) (r : Inherited) : Type 0 where
   pub taken : counts ≡ true → Takes h bs x st place r
   pub passed : counts ≡ false → r ≡ h

@@ -5,10 +5,9 @@
 ghost use Rattle.std.specs.Prelude.{◌≡◌, ◌<◌};
 ghost use Rattle.bits.specs.Reading.{Addressable};
 ghost use Rattle.definitions.specs.Bits.{bits_of};
-ghost use Rattle.rows.specs.Rows.{has_bit};
 ghost use Rattle.dedup.specs.Reading.{Good};
 ghost use Rattle.order_table.specs.Form.{form_of};
-ghost use Rattle.handing.specs.Handing.{Fits, HandsFrom, Takes, HandsIf, TakesIf, Ready, Gathered, KeepsIt};
+ghost use Rattle.handing.specs.Handing.{Fits, HandsFrom, Takes, Ready, Gathered, KeepsIt};
 
 use dedup::Inherited;
 
@@ -19,44 +18,22 @@ fn inherit_from(h: Inherited, s: &[u8], x: u64, store: &[u64], place: usize) -> 
     ensures { Takes h (bits_of s.now) x store.now place result }
 {
     let own = own_associates::own_associates(s, x);
-    let list = own.items;
-    let count = own.count;
     let p = store::fetch(store, place);
     let one: u64 = 1;
     let bit = one << place;
-    inheritance::inherit_parent(h, list, count, p, bit)
+    inheritance::inherit_parent(h, &own.items[..own.count], p, bit)
 }
 
-// The same for a parent that counts; one that does not hands on nothing, as does one without annotations that inherits nothing.
-fn inherit_if(
-    h: Inherited,
-    s: &[u8],
-    x: u64,
-    store: &[u64],
-    place: usize,
-    counts: bool,
-) -> Inherited
+// The same, but one without annotations that inherits nothing hands on nothing.
+fn inherit_any(h: Inherited, s: &[u8], x: u64, store: &[u64], place: usize) -> Inherited
     requires addressable { Addressable s.now × Good h × Fits h }
-    requires hands_if { HandsIf (bits_of s.now) x store.now place counts }
-    ensures { TakesIf h (bits_of s.now) x store.now place counts result }
+    requires hands_from { HandsFrom (bits_of s.now) x store.now place }
+    ensures { Takes h (bits_of s.now) x store.now place result }
 {
-    if counts {
-        if x == 0 {
-            if store[1601 * place] == 0 {
-                return h;
-            }
-        }
-        return inherit_from(h, s, x, store, place);
+    if x == 0 && store[1601 * place] == 0 {
+        return h;
     }
-    h
-}
-
-// Whether the parent listed at i has its flag.
-fn flagged(flags: u64, i: usize) -> bool
-    requires { i < 64 }
-    ensures { result ≡ has_bit flags i }
-{
-    (flags >> i) & 1 == 1
+    inherit_from(h, s, x, store, place)
 }
 
 // What the listed parents of type t with a flag hand on, in their order, as the dedup leaves it. A listing at which the call
@@ -76,12 +53,11 @@ pub fn gather(
     let count = order_table::count_at(l, t);
     let base = 8 * t;
     let mut out = dedup::nothing();
-    let mut i: usize = 0;
-    while i < count {
-        let place = order_table::place_at(l, base + i);
-        let counts = flagged(flags, i);
-        out = inherit_if(out, s, notes[place], store, place, counts);
-        i += 1;
+    for i in 0..count {
+        if bitsets::has(flags, i) {
+            let place = order_table::place_at(l, base + i);
+            out = inherit_any(out, s, notes[place], store, place);
+        }
     }
     out
 }

@@ -1,28 +1,26 @@
 -- The steps of the loop.
-use Rattle.std.specs.Prelude.{Bool, true, false, ◌&&◌, ◌||◌, List, [], ◌∷◌, ◌++◌, ◌≡◌, refl, ℕ, ◌+◌, ◌*◌, ◌%◌, ◌^◌, ◌<◌, eqb}
+use Rattle.std.specs.Prelude.{Bool, true, false, ◌&&◌, ◌||◌, List, [], ◌∷◌, ◌++◌, ◌≡◌, refl, ℕ, ◌+◌, eqb}
 use Rattle.std.proofs.Math.Bool.{or-false, and-true, and-false}
 use Rattle.std.proofs.Common.{sym, ap, ap₂, ◌∙◌, arith, ne_eqb, eq-eqb}
-use Rattle.std.specs.Int.Bits.{bit_or}
 use Rattle.lists.specs.Lists.{all}
 use Rattle.lists.specs.Appending.{all_append}
 use Rattle.rows.specs.Rows.{has_bit}
-use Rattle.rows.specs.RowLaws.{bit-either, bit-one, bit-none, one_shifted}
+use Rattle.rows.specs.RowLaws.{bit-none}
+use Rattle.bitsets.specs.Bitsets.{more}
+use Rattle.bitsets.specs.BitLaws.{bit-more}
 use Rattle.ordering.specs.Lists.{tab, tab-step, tab-same}
 use Rattle.ordering.specs.declared.Parents.{Parents}
 use Rattle.hearing.specs.declared.Flags.{Flags}
 use Rattle.hearing.specs.Hearing.{hands_at, WithFlag, FlagsTo, WithOk}
 
-shifted : (row i k : ℕ) → i < 64 → has_bit (bit_or row (1 * 2 ^ i % 2 ^ 64)) k ≡ (has_bit row k || eqb i k)
-shifted row i k h = bit-either row (1 * 2 ^ i % 2 ^ 64) k ∙ ap (λ (b : Bool). has_bit row k || b) (ap (λ (n : ℕ). has_bit n k) (one_shifted i h) ∙ bit-one i k)
-
-pub flag-yes : (f : Flags) (i : ℕ) (b : Bool) → b ≡ true → i < 64 → WithFlag f i b (record { row = bit_or f.row (1 * 2 ^ i % 2 ^ 64); «all» = f.all })
-flag-yes f i b e h = rw e (record { bits = λ k. shifted f.row i k h ∙ ap (λ (c : Bool). has_bit f.row k || c) (sym (and-true (eqb i k))); whole = sym (and-true f.all) })
+pub flag-yes : (f : Flags) (i : ℕ) (b : Bool) → b ≡ true → WithFlag f i b (record { row = more f.row i; «all» = f.all })
+flag-yes f i b e = rw e (record { bits = λ k. bit-more f.row i k ∙ ap (λ (c : Bool). has_bit f.row k || c) (sym (and-true (eqb i k))); whole = sym (and-true f.all) })
 
 pub flag-no : (f : Flags) (i : ℕ) (b : Bool) → b ≡ false → WithFlag f i b (record { row = f.row; «all» = false })
 flag-no f i b e = rw e (record { bits = λ k. sym (ap (λ (c : Bool). has_bit f.row k || c) (and-false (eqb i k)) ∙ or-false (has_bit f.row k)); whole = sym (and-false f.all) })
 
-pub ok-yes : (ok t : ℕ) (a b : Bool) → a ≡ true → b ≡ true → t < 64 → WithOk ok t (a && b) (bit_or ok (1 * 2 ^ t % 2 ^ 64))
-ok-yes ok t a b e f h = rw (e, f) (record { bits = λ k. shifted ok t k h ∙ ap (λ (c : Bool). has_bit ok k || c) (sym (and-true (eqb t k))) })
+pub ok-yes : (ok t : ℕ) (a b : Bool) → a ≡ true → b ≡ true → WithOk ok t (a && b) (more ok t)
+ok-yes ok t a b e f = rw (e, f) (record { bits = λ k. bit-more ok t k ∙ ap (λ (c : Bool). has_bit ok k || c) (sym (and-true (eqb t k))) })
 
 pub ok-no : (ok t : ℕ) (w : Bool) → w ≡ false → WithOk ok t w ok
 ok-no ok t w e = rw e (record { bits = λ k. sym (ap (λ (c : Bool). has_bit ok k || c) (and-false (eqb t k)) ∙ or-false (has_bit ok k)) })

@@ -16,23 +16,12 @@ pub struct Flags {
     pub all: bool,
 }
 
-// Whether bit k is set.
-fn stands(row: u64, k: usize) -> bool
-    requires { k < 64 }
-    ensures { result ≡ has_bit row k }
-{
-    (row >> k) & 1 == 1
-}
-
 // Listing i was not the first to reach its parent, or the call of the parent succeeded.
 fn passes(fresh: u8, i: usize, ok: u64, place: usize) -> bool
     requires { (i < 8) × (place < 64) }
     ensures { result ≡ (not (has_bit fresh i) || has_bit ok place) }
 {
-    if stands(fresh as u64, i) {
-        return stands(ok, place);
-    }
-    true
+    !bitsets::has(u64::from(fresh), i) || bitsets::has(ok, place)
 }
 
 // The flags with that of listing i.
@@ -41,16 +30,12 @@ fn with_flag(f: Flags, i: usize, handed: bool) -> Flags
     ensures { WithFlag f i handed result }
 {
     if handed {
-        let one: u64 = 1;
-        let bit = one << i;
-        return Flags {
-            row: f.row | bit,
-            all: f.all,
-        };
-    }
-    Flags {
-        row: f.row,
-        all: false,
+        Flags {
+            row: bitsets::with_one(f.row, i),
+            ..f
+        }
+    } else {
+        Flags { all: false, ..f }
     }
 }
 
@@ -63,12 +48,10 @@ pub fn flags_of(l: &[u64; 577], t: usize, fresh: u8, ok: u64) -> Flags
     let count = order_table::count_at(l, t);
     let base = 8 * t;
     let mut flags = Flags { row: 0, all: true };
-    let mut i: usize = 0;
-    while i < count {
+    for i in 0..count {
         let place = order_table::place_at(l, base + i);
         let handed = passes(fresh, i, ok, place);
         flags = with_flag(flags, i, handed);
-        i += 1;
     }
     flags
 }
@@ -78,12 +61,9 @@ pub fn with_ok(ok: u64, t: usize, heard: bool, clean: bool) -> u64
     requires { t < 64 }
     ensures { WithOk ok t (heard && clean) result }
 {
-    if heard {
-        if clean {
-            let one: u64 = 1;
-            let bit = one << t;
-            return ok | bit;
-        }
+    if heard && clean {
+        bitsets::with_one(ok, t)
+    } else {
+        ok
     }
-    ok
 }

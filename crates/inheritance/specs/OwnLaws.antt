@@ -4,7 +4,7 @@ use Rattle.std.proofs.Common.{map-id, ⊎_elim, ap₂, ◌∙◌, add-one, not-s
 use Rattle.std.proofs.Math.Option.{some}
 use Rattle.std.proofs.Math.Path.{sym, ap}
 use Rattle.std.proofs.lemmas.Bool.{eqb-false}
-use lib.Seq.{take-suc, get_or-set_same, get_or-set_other, get_or-take, length-take-le}
+use lib.Seq.{take-suc, take-length, get_or-set_same, get_or-set_other, get_or-take, length-take-le}
 use Rattle.lists.specs.Lists.{ascends, include, set_of}
 use Rattle.lists.specs.Tests.{eqb-flip, by, never, or_left, or_right, and_left, and_right}
 use Rattle.lists.specs.Appending.{map-append}
@@ -22,7 +22,7 @@ use Rattle.dedup.specs.declared.Inherited.{Inherited}
 use Rattle.dedup.specs.Entries.{entries_of, Sound, covers}
 use Rattle.dedup.specs.Reading.{resources_at, names_at, read, read_all, table_of, inherited_of, joined, Good, Joins, JoinsAll, under'}
 use Rattle.dedup.specs.ReadingLaws.{read_is, same_tables, join-clean}
-use Rattle.inheritance.specs.Own.{words_in, rows_in, Own, row_for, WordsOf, DomsWith, inherited_kind, handed, JoinsOwn, zeros, JoinsOwns, JoinsParent}
+use Rattle.inheritance.specs.Own.{words_in, rows_in, Own, row_for, WordsOf, DomsWith, inherited_kind, handed, JoinsOwn, zeros, AllOwn, JoinsOwns, JoinsParent}
 
 -- ---- ascending words
 
@@ -230,3 +230,15 @@ joins-parent-by h f r own count p parent a b =
           ∙ ap (λ z. dedup_onto z (map (under' (names_at names parent)) (inherited_of names p))) (a.dedup names asc)
           ∙ sym (onto-append (inherited_of names h) (map (handed (names_at names parent)) (take count own)) (map (under' (names_at names parent)) (inherited_of names p)));
     }
+
+-- ---- the first of an array, as a slice
+
+pub all-taken : (own : List AnnotationInfo) (n : ℕ) → n ≤ length own → AllOwn own n → AllOwn (take n own) (length (take n own))
+all-taken own n h a =
+    rw (length-take-le n own h)
+    record { few = a.few; each = λ i l. rw (get_or-take n own i zeros l) (a.each i l) }
+
+pub joins-taken : (h : Inherited) (own : List AnnotationInfo) (n : ℕ) (p : Inherited) (parent : ℕ) (r : Inherited)
+    → JoinsParent h (take n own) (length (take n own)) p parent r → JoinsParent h own n p parent r
+joins-taken h own n p parent r j =
+    record { good = j.good; dedup = λ names asc. rw (take-length (take n own)) at (j.dedup names asc) }

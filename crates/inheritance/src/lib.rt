@@ -2,7 +2,7 @@
 // `inherit_annotations`.
 #![tactic(auto)]
 
-ghost use Rattle.std.specs.Prelude.{◌≡◌, ◌<◌, ◌≤◌};
+ghost use Rattle.std.specs.Prelude.{◌≡◌, ◌<◌, ◌≤◌, length};
 ghost use Rattle.dedup.specs.Reading.{Good};
 ghost use Rattle.inheritance.specs.Own.{Own, WordsOf, inherited_kind, DomsWith, JoinsOwn, AllOwn, JoinsOwns, JoinsParent};
 
@@ -18,12 +18,10 @@ pub fn words_of(a: AnnotationInfo) -> Row
     let count = a.count;
     let words = a.words;
     let mut row = rows::empty_row();
-    let mut i: usize = 0;
-    while i < count {
+    for i in 0..count {
         let w = words[i] as usize;
         let one = rows::alone(w);
         row = rows::in_either(row, one);
-        i += 1;
     }
     row
 }
@@ -37,14 +35,12 @@ pub fn doms_with(doms: [Row; 200], a: AnnotationInfo) -> [Row; 200]
     let words = a.words;
     let given = a.doms;
     let mut out = doms;
-    let mut i: usize = 0;
-    while i < count {
+    for i in 0..count {
         let w = words[i] as usize;
         let x = out[w];
         let y = given[i];
         let z = rows::in_either(x, y);
         out[w] = z;
-        i += 1;
     }
     out
 }
@@ -68,48 +64,36 @@ pub fn inherit_own(h: Inherited, a: AnnotationInfo, parent: u64) -> Inherited
     let words = words_of(a);
     let kind = inherited_kind(a.kind);
     let n = Entry {
-        kind: kind,
-        words: words,
+        kind,
+        words,
         parents: parent,
     };
     let l = h.list;
     let list = dedup::dedup_inherited_annotations_one(l, n);
     let d = h.doms;
     let doms = doms_with(d, a);
-    Inherited {
-        list: list,
-        doms: doms,
-    }
+    Inherited { list, doms }
 }
 
-// The first `count` of a parent's own associates join, in their order.
-pub fn inherit_owns(h: Inherited, own: [AnnotationInfo; 12], count: usize, parent: u64) -> Inherited
+// A parent's own associates join, in their order.
+pub fn inherit_owns(h: Inherited, own: &[AnnotationInfo], parent: u64) -> Inherited
     requires good { Good h }
-    requires all_own { AllOwn own count }
-    ensures { JoinsOwns h own count parent result }
+    requires all_own { AllOwn own.now (length own.now) }
+    ensures { JoinsOwns h own.now (length own.now) parent result }
 {
     let mut out = h;
-    let mut i: usize = 0;
-    while i < count {
-        let a = own[i];
-        out = inherit_own(out, a, parent);
-        i += 1;
+    for a in own {
+        out = inherit_own(out, *a, parent);
     }
     out
 }
 
 // One parent more: its own associates, then what it inherits itself, all under it.
-pub fn inherit_parent(
-    h: Inherited,
-    own: [AnnotationInfo; 12],
-    count: usize,
-    p: Inherited,
-    parent: u64,
-) -> Inherited
+pub fn inherit_parent(h: Inherited, own: &[AnnotationInfo], p: Inherited, parent: u64) -> Inherited
     requires good { Good h }
-    requires all_own { AllOwn own count × Good p }
-    ensures { JoinsParent h own count p parent result }
+    requires all_own { AllOwn own.now (length own.now) × Good p }
+    ensures { JoinsParent h own.now (length own.now) p parent result }
 {
-    let first = inherit_owns(h, own, count, parent);
+    let first = inherit_owns(h, own, parent);
     dedup::dedup_inherited_annotations(first, p, parent)
 }

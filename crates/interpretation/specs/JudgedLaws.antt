@@ -1,5 +1,5 @@
 -- Laws of a word's classes.
-use Rattle.std.specs.Prelude.{Bool, true, false, ◌&&◌, not, ◌≡◌, ℕ, ◌+◌, ◌-◌, ◌≤◌, ◌<◌, ltb, length}
+use Rattle.std.specs.Prelude.{Bool, true, false, not, Some, None, is_some, ◌≡◌, ℕ, ◌<◌, ltb, length}
 use mathlib.Core.List.{List, [], ◌∷◌, map}
 use Rattle.std.proofs.Math.Path.{refl, sym, ap}
 use Rattle.std.proofs.Common.{◌∙◌}
@@ -9,36 +9,37 @@ use Rattle.lists.specs.Lists.{filter, first_of}
 use Rattle.lists.specs.Tests.{by}
 use Rattle.emitting.specs.Emitting as emitting
 use Rattle.rows.specs.declared.Row.{Row}
-use Rattle.rows.specs.Lists.{between, below}
-use Rattle.rows.specs.Next.{First}
-use Rattle.rows.specs.NextLaws.{from_next, from-there}
+use Rattle.rows.specs.Rows.{has}
+use Rattle.rows.specs.Lists.{below}
 use Rattle.definitions.specs.Records as records
 use Rattle.definitions.specs.Records.{Name, Sheet}
 use Rattle.definitions.specs.Packing.{row_bytes}
-use Rattle.fields.specs.Fields.{two_words}
+use Rattle.fields.specs.declared.Name as held
+use Rattle.fields.specs.Fields.{two_words, name_of}
 use Rattle.line_laws.specs.Statements.{line_map}
 use Rattle.catalogue.specs.Layout.{head_at}
 use Rattle.catalogue.specs.Catalogue.{is_resource_head}
-use Rattle.synth_classes.specs.Classes.{place_in, unknown_at, other_at}
+use Rattle.synth_classes.specs.Classes.{place_if, place_in, unknown_at, other_at}
+use Rattle.synth_classes.specs.ClassLaws.{place-some, place-none}
 use Rattle.synth_classes.specs.Made.{class_name, classes_of}
-use Rattle.synth_classes.specs.Walks.{among, classes-with}
+use Rattle.synth_classes.specs.Walks.{among, among-kept, classes-with}
 use Rattle.synth_classes.specs.Known.{Known, unknown-known, other-known}
-use Rattle.interpretation.specs.Emit.{emit_bytes, emit, name-bytes}
+use Rattle.interpretation.specs.declared.Reason.TheVariants.{Unknown}
+use Rattle.interpretation.specs.Emit.{emit_bytes, emit, bytes_of, name-bytes}
 use Rattle.interpretation.specs.Judged.{is_unknown, is_other, unknown_doms, name_in, unknown_row}
 
 -- what the place of a class tells
-module _ (t : List ℕ) (word k p : ℕ) (e : p ≡ place_in t word k) where
-  pub unknown-place : 64 ≤ p → unknown_at t word k ≡ true
-  unfolding unknown_at
-  unknown-place h = rw (← e, le-ltb p 64 h)
+pub unknown-place : (t : List ℕ) (word k : ℕ) → not (is_some (place_if (place_in t word k))) ≡ unknown_at t word k
+unfolding unknown_at
+unknown-place t word k = by (ltb (place_in t word k) 64) (λ e. rw e) (λ e. rw e)
 
-  pub known-place : p < 64 → unknown_at t word k ≡ false
-  unfolding unknown_at
-  known-place h = rw (← e, lt-ltb p 64 h)
+pub other-place : (t : List ℕ) (word k p : ℕ) → place_if (place_in t word k) ≡ Some p → not (is_resource_head (head_at t p)) ≡ other_at t word k
+unfolding other_at
+other-place t word k p e = let z = place-some _ p e in rw (z.0, lt-ltb p 64 z.1)
 
-  pub other_place : (r : Bool) → r ≡ (ltb p 64 && not (is_resource_head (head_at t p))) → other_at t word k ≡ r
-  unfolding other_at
-  other_place r q = rw (← e) (sym q)
+pub other-none : (t : List ℕ) (word k : ℕ) → place_if (place_in t word k) ≡ None → false ≡ other_at t word k
+unfolding other_at
+other-none t word k e = rw (le-ltb (place_in t word k) 64 (place-none _ e))
 
 -- ---- the classes in a map
 
@@ -72,46 +73,48 @@ pub row-bytes : (kind : ℕ) (N : Name) (w f s a b : ℕ) (c : Name) → N ≡ t
 unfolding row_bytes
 row-bytes kind N w f s a b c p q = rw (p, q, name-bytes f s, name-bytes a b)
 
--- what is written, and what is left
-pub record Written (t : List ℕ) (place : ℕ) (doms : Row) (word limit k : ℕ) (buf₀ : List ℕ) (n₀ : ℕ) (buf : List ℕ) (n : ℕ) : Type 0 where
+-- what is written, and the doms that are left
+pub record Written (t : List ℕ) (place : ℕ) (doms : Row) (word limit : ℕ) (left : List ℕ) (buf₀ : List ℕ) (n₀ : ℕ) (buf : List ℕ) (n : ℕ) : Type 0 where
   pub same : length buf ≡ length buf₀
-  pub rows : emit limit (buf, n) (map (unknown_row t place word) (between (among doms (unknown_at t word)) k (201 - k)))
+  pub rows : emit limit (buf, n) (map (unknown_row t place word) (filter (unknown_at t word) left))
       ≡ emit limit (buf₀, n₀) (map (unknown_row t place word) (unknown_doms t doms word))
 
 module _ (t : List ℕ) (place : ℕ) (doms : Row) (word limit : ℕ) (buf₀ : List ℕ) (n₀ : ℕ) where
   abbrev f : ℕ → Bool
-  f = among doms (unknown_at t word)
+  f = unknown_at t word
 
   abbrev R : ℕ → records.Row
   R = unknown_row t place word
 
-  pub written_start : Written t place doms word limit 0 buf₀ n₀ buf₀ n₀
+  pub written_start : (left : List ℕ) → left ≡ below (has doms) 201 → Written t place doms word limit left buf₀ n₀ buf₀ n₀
   unfolding unknown_doms
-  written_start = record { same = refl; rows = refl }
+  written_start left e =
+      record { same = refl; rows = ap (λ l. emit limit (buf₀, n₀) (map R l)) (ap (filter f) e ∙ sym (among-kept doms f)) }
 
-  pub written-walk : (from k : ℕ) (buf : List ℕ) (n : ℕ) → First f 201 from k → Written t place doms word limit from buf₀ n₀ buf n → Written t place doms word limit k buf₀ n₀ buf n
-  written-walk from k buf n h w =
-      record { same = w.same; rows = ap (λ l. emit limit (buf, n) (map R l)) (sym (from_next f 201 from k 201 h h.most)) ∙ w.rows }
+  pub written-known : (k : ℕ) (left rest : List ℕ) (buf : List ℕ) (n : ℕ) → left ≡ k ∷ rest → f k ≡ false
+      → Written t place doms word limit left buf₀ n₀ buf n → Written t place doms word limit rest buf₀ n₀ buf n
+  written-known k left rest buf n e h w =
+      let q : filter f left ≡ filter f rest = rw (e, h) refl in
+      record { same = w.same; rows = ap (λ l. emit limit (buf, n) (map R l)) (sym q) ∙ w.rows }
 
-  pub written_one : (k : ℕ) (buf : List ℕ) (n : ℕ) → k < 201 → f k ≡ true → (buf' : List ℕ) (n' x y a b : ℕ) →
-      length buf' ≡ length buf → two_words x y ≡ name_in t place → two_words a b ≡ class_name word k →
-      (buf', n') ≡ emit_bytes limit (buf, n) (4 ∷ x ∷ y ∷ a ∷ b ∷ word ∷ []) →
-      Written t place doms word limit k buf₀ n₀ buf n → Written t place doms word limit (k + 1) buf₀ n₀ buf' n'
+  pub written-row : (k : ℕ) (left rest : List ℕ) (buf : List ℕ) (n : ℕ) → left ≡ k ∷ rest → f k ≡ true → (buf' : List ℕ) (n' : ℕ) (T c : held.Name) →
+      length buf' ≡ length buf → name_of T ≡ name_in t place → name_of c ≡ class_name word k →
+      (buf', n') ≡ emit_bytes limit (buf, n) (bytes_of T (Unknown c) word) →
+      Written t place doms word limit left buf₀ n₀ buf n → Written t place doms word limit rest buf₀ n₀ buf' n'
   unfolding emitting.emit
-  written_one k buf n h e buf' n' x y a b l p q z w =
-      let rest = map R (between f (k + 1) (201 - (k + 1))) in
+  written-row k left rest buf n e h buf' n' T c l p q z w =
+      let more = map R (filter f rest) in
+      let r : filter f left ≡ k ∷ filter f rest = rw (e, h) refl in
       record {
         same = l ∙ w.same;
         rows =
-            ap (λ st. emit limit st rest) z
-            ∙ ap (λ bs. emit limit (emit_bytes limit (buf, n) bs) rest) (sym (row-bytes 4 (name_in t place) word x y a b (class_name word k) (sym p) (sym q)))
-            ∙ ap (λ l. emit limit (buf, n) (map R l)) (sym (from-there f k 201 h e))
+            ap (λ st. emit limit st more) z
+            ∙ ap (λ bs. emit limit (emit_bytes limit (buf, n) bs) more) (sym (row-bytes 4 (name_in t place) word T.first T.second c.first c.second (class_name word k) (sym p) (sym q)))
+            ∙ ap (λ l. emit limit (buf, n) (map R l)) (sym r)
             ∙ w.rows;
       }
 
-  pub written-end : (k : ℕ) (buf : List ℕ) (n : ℕ) → 201 ≤ k → Written t place doms word limit k buf₀ n₀ buf n →
+  pub written-end : (left : List ℕ) (buf : List ℕ) (n : ℕ) → left ≡ [] → Written t place doms word limit left buf₀ n₀ buf n →
       (buf, n) ≡ emit limit (buf₀, n₀) (map R (unknown_doms t doms word))
-  unfolding emitting.emit between
-  written-end k buf n h w =
-      let z : 0 ≡ 201 - k = omega arith in
-      ap (λ (x : ℕ). emit limit (buf, n) (map R (between f k x))) z ∙ w.rows
+  unfolding emitting.emit
+  written-end left buf n e w = ap (λ l. emit limit (buf, n) (map R (filter f l))) (sym e) ∙ w.rows

@@ -1,83 +1,90 @@
 // What a word's classes come to, and the rows of kinds 4, 5 and 6, after `interpret_associate` of compile.rs.
 #![tactic(auto)]
 
-ghost use Rattle.std.specs.Prelude.{◌&&◌, not, [], ◌∷◌, map, ◌≡◌, ◌*◌, ◌<◌, ◌≤◌, ltb, length};
-ghost use Rattle.rows.specs.Next.{First};
+ghost use Rattle.std.specs.Prelude.{find, map, ◌≡◌, ◌*◌, ◌<◌, ◌≤◌, length};
+ghost use Rattle.rows.specs.Rows.{has};
+ghost use Rattle.rows.specs.Lists.{below};
 ghost use Rattle.definitions.specs.Answer.{most_rows};
-ghost use Rattle.catalogue.specs.Layout.{head_at};
-ghost use Rattle.catalogue.specs.Catalogue.{is_resource_head};
 ghost use Rattle.synth_classes.specs.Classes.{unknown_at, other_at};
-ghost use Rattle.synth_classes.specs.Walks.{among};
-ghost use Rattle.interpretation.specs.Emit.{emit_bytes, emit};
+ghost use Rattle.interpretation.specs.Emit.{emit_bytes, emit, bytes_of};
 ghost use Rattle.interpretation.specs.Judged.{unknown_doms, unknown_row};
 
 use fields::Name;
 use rows::Row;
+use synth_classes::Doms;
 
-// Writes the row of these names at place n, as far as the limit goes.
-pub fn put_row(
+// Why a word of a type makes no resource (FORMAT 8.10).
+#[derive(Clone, Copy)]
+pub enum Reason {
+    // The class is not declared: kind 4.
+    Unknown(Name),
+    // The class is declared with another variant than a resource's: kind 5.
+    NoResource(Name),
+    // T.r is declared, or was made before: kind 6.
+    Duplicate,
+}
+
+// Writes the row of a type and a word at place n, as far as the limit goes. An absent name is 255 twice (FORMAT 8.1).
+pub fn put_reason(
     buf: &mut [u8],
     limit: usize,
     n: usize,
-    kind: u8,
     subject: Name,
-    other: Name,
+    reason: Reason,
     word: u8,
 ) -> usize
     requires { (6 * limit ≤ length buf.old) × (limit ≤ most_rows) }
-    ensures { (buf.new, result) ≡ emit_bytes limit (buf.old, n) (kind ∷ subject.first ∷ subject.second ∷ other.first ∷ other.second ∷ word ∷ []) }
+    ensures { (buf.new, result) ≡ emit_bytes limit (buf.old, n) (bytes_of subject reason word) }
 {
+    let (kind, other_first, other_second) = match reason {
+        Reason::Unknown(class) => (4, class.first, class.second),
+        Reason::NoResource(class) => (5, class.first, class.second),
+        Reason::Duplicate => (6, 255, 255),
+    };
     let row = emitting::Row {
-        kind: kind,
+        kind,
         first: subject.first,
         second: subject.second,
-        other_first: other.first,
-        other_second: other.second,
-        word: word,
+        other_first,
+        other_second,
+        word,
     };
     emitting::put_row(buf, limit, n, row)
 }
 
-// The first dom from a number on whose class is not declared (FORMAT 8.10), or 201.
-pub fn next_unknown(t: &[u64; 1544], doms: Row, word: u8, from: usize) -> usize
-    requires { (word < 255) × (from ≤ 201) }
-    ensures { First (among doms (unknown_at t.now word)) 201 from result }
-{
-    let mut k = rows::next(doms, from);
-    while k < 201 {
-        let p = synth_classes::class_place(t, k, word);
-        if 64 <= p {
-            return k;
-        }
-        k = rows::next(doms, k + 1);
-    }
-    201
-}
-
-// Whether a class has a place, and another variant than a resource's.
-fn is_other(t: &[u64; 1544], place: usize) -> bool
-    ensures { result ≡ (ltb place 64 && not (is_resource_head (head_at t.now place))) }
-{
-    if place < 64 {
-        return catalogue::head_at(t, place) / 64 != 1;
-    }
-    false
-}
-
-// The first dom whose class has another variant than a resource's (FORMAT 8.10), or 201.
-pub fn first_other(t: &[u64; 1544], doms: Row, word: u8) -> usize
+// Whether the class of a word and a dom is not declared.
+pub fn is_unknown(t: &[u64; 1544], word: u8, dom: u8) -> bool
     requires { word < 255 }
-    ensures { First (among doms (other_at t.now word)) 201 0 result }
+    ensures { result ≡ unknown_at t.now word dom }
 {
-    let mut k = rows::next(doms, 0);
-    while k < 201 {
-        let p = synth_classes::class_place(t, k, word);
-        if is_other(t, p) {
-            return k;
-        }
-        k = rows::next(doms, k + 1);
+    synth_classes::class_place(t, dom as usize, word).is_none()
+}
+
+// The first dom whose class is not declared (FORMAT 8.10).
+pub fn first_unknown(t: &[u64; 1544], doms: Row, word: u8) -> Option<u8>
+    requires { word < 255 }
+    ensures { result ≡ find (unknown_at t.now word) (below (has doms) 201) }
+{
+    Doms::of(doms).find(|dom| is_unknown(t, word, *dom))
+}
+
+// Whether the class of a word and a dom is declared with another variant than a resource's.
+fn is_other(t: &[u64; 1544], word: u8, dom: u8) -> bool
+    requires { word < 255 }
+    ensures { result ≡ other_at t.now word dom }
+{
+    match synth_classes::class_place(t, dom as usize, word) {
+        Some(place) => catalogue::head_at(t, place) / 64 != 1,
+        None => false,
     }
-    201
+}
+
+// The first dom whose class has another variant than a resource's (FORMAT 8.10).
+pub fn first_other(t: &[u64; 1544], doms: Row, word: u8) -> Option<u8>
+    requires { word < 255 }
+    ensures { result ≡ find (other_at t.now word) (below (has doms) 201) }
+{
+    Doms::of(doms).find(|dom| is_other(t, word, *dom))
 }
 
 // A row of kind 4 for each unknown class, with the class as the other name (FORMAT 8.10).
@@ -95,11 +102,11 @@ pub fn unknown_rows(
 {
     let subject = synth_classes::name_at(t, place);
     let mut rows = n;
-    let mut k = next_unknown(t, doms, word, 0);
-    while k < 201 {
-        let other = synth_classes::class_name(k, word);
-        rows = put_row(buf, limit, rows, 4, subject, other, word);
-        k = next_unknown(t, doms, word, k + 1);
+    for dom in Doms::of(doms) {
+        if is_unknown(t, word, dom) {
+            let class = synth_classes::class_name(dom as usize, word);
+            rows = put_reason(buf, limit, rows, subject, Reason::Unknown(class), word);
+        }
     }
     rows
 }

@@ -1,6 +1,6 @@
 -- The map of 01's example with an own Associate and something inherited: it meets what the functions require, and comes to this.
-use Rattle.std.specs.Prelude.{true, false, ◌||◌, not, List, [], ◌∷◌, ◌≡◌, refl, ℕ, zero, suc, ◌+◌, ◌*◌, ◌≤◌, ◌<◌, eqb, get_or, set, replicate}
-use Rattle.std.proofs.Common.{inl, sym, ap, ◌∙◌, arith, eqb-true}
+use Rattle.std.specs.Prelude.{true, false, ◌||◌, List, [], ◌∷◌, ◌≡◌, refl, ℕ, zero, suc, ◌<◌, eqb, get_or, set, replicate}
+use Rattle.std.proofs.Common.{inl, sym, ◌∙◌, arith, eqb-true}
 use Rattle.std.proofs.lemmas.List.{get_or-replicate}
 use Rattle.std.proofs.Math.Seq
 use Rattle.lists.specs.Tests.{by, never, or_left}

@@ -3,15 +3,15 @@
 
 ghost use Rattle.std.specs.Prelude.{◌&&◌, not, [], ◌∷◌, ◌≡◌, ◌+◌, ◌≤◌, ◌<◌};
 ghost use Rattle.rows.specs.Rows.{has};
-ghost use Rattle.dedup.specs.Reading.{inherited_of, no_doms, Good};
+ghost use Rattle.dedup.specs.Reading.{inherited_of, Good};
 ghost use Rattle.inheritance.specs.Own.{Own, AllOwn};
 ghost use Rattle.duplicates.specs.Held.{makings_in};
-ghost use Rattle.associates.specs.Step.{reached};
+ghost use Rattle.associates.specs.Step.{failed_in, ended_in, reached};
 ghost use Rattle.interpreting.specs.Entry.{EntryReady, EntryDone};
 ghost use Rattle.interpreting.specs.Annotations.{type_reached, plain_of, own_entries_in, Added, WithEntry, Ground, TypeReady, TypeDone};
 
 use annotations::AnnotationInfo;
-use associates::Progress;
+use associates::{Progress, Standing};
 use dedup::{Entry, Inherited};
 use own_associates::OwnAssociates;
 use rows::Row;
@@ -40,17 +40,14 @@ pub struct Interpreted {
 }
 
 // Whether the word is the annotation's, which has not ended.
-fn is_due(words: Row, word: usize, ended: bool) -> bool
+fn is_due(words: Row, word: usize, standing: Standing) -> bool
     requires { word < 256 }
-    ensures { result ≡ (has words word && not ended) }
+    ensures { result ≡ (has words word && not (ended_in standing)) }
 {
-    if rows::holds(words, word) {
-        return !ended;
-    }
-    false
+    rows::holds(words, word) && standing != Standing::Ended
 }
 
-// One annotation, its words ascending.
+// One annotation, its words ascending. The loop goes from one that stands to the next, and not over all numbers.
 pub fn interpret_associate(
     t: &[u64; 1544],
     turn: Turn,
@@ -68,23 +65,17 @@ pub fn interpret_associate(
     let place = turn.place;
     let limit = turn.limit;
     let mut p = Progress {
-        failed: false,
-        ended: false,
+        standing: Standing::Going,
         rows: s.rows,
         made: s.made,
     };
     let mut w = rows::next(words, 0);
     while w < 200 {
-        if is_due(words, w, p.ended) {
+        if is_due(words, w, p.standing) {
             let d = doms[w];
-            let site = Site {
-                place: place,
-                word: w as u8,
-            };
-            let origin = Origin {
-                doms: d,
-                parents: parents,
-            };
+            let word = w as u8;
+            let site = Site { place, word };
+            let origin = Origin { doms: d, parents };
             p = associates::interpret_word(t, site, origin, p, made, buf, limit);
         }
         w = rows::next(words, w + 1);
@@ -93,13 +84,10 @@ pub fn interpret_associate(
 }
 
 // Whether a type that was clean is so behind an annotation.
-fn still_clean(clean: bool, failed: bool) -> bool
-    ensures { result ≡ (clean && not failed) }
+fn still_clean(clean: bool, standing: Standing) -> bool
+    ensures { result ≡ (clean && not (failed_in standing)) }
 {
-    if clean {
-        return !failed;
-    }
-    false
+    clean && standing == Standing::Going
 }
 
 // One annotation more.
@@ -116,26 +104,17 @@ fn with_entry(
     ensures { WithEntry t.now turn.place e doms turn.limit (type_reached s made.old) buf.old (type_reached result made.new) buf.new }
 {
     let p = Progress {
-        failed: false,
-        ended: false,
+        standing: Standing::Going,
         rows: s.rows,
         made: s.made,
     };
     let r = interpret_associate(t, turn, e, doms, p, made, buf);
-    let clean = still_clean(s.clean, r.failed);
+    let clean = still_clean(s.clean, r.standing);
     Told {
-        clean: clean,
+        clean,
         rows: r.rows,
         made: r.made,
     }
-}
-
-// Dom sets in which nothing stands.
-fn no_doms() -> [Row; 200]
-    ensures { result ≡ no_doms }
-{
-    let r = rows::empty_row();
-    [r; 200]
 }
 
 // One own associate more. An Associate is an annotation without parents; a NestAssociate (2) is not interpreted.
@@ -155,11 +134,11 @@ fn interpret_own(
         return s;
     }
     let words = inheritance::words_of(a);
-    let none = no_doms();
+    let none = dedup::no_doms();
     let doms = inheritance::doms_with(none, a);
     let e = Entry {
         kind: a.kind,
-        words: words,
+        words,
         parents: 0,
     };
     with_entry(t, turn, e, doms, s, made, buf)
@@ -181,11 +160,9 @@ fn interpret_owns(
     let count = own.count;
     let items = own.items;
     let mut p = s;
-    let mut i: usize = 0;
-    while i < count {
+    for i in 0..count {
         let a = items[i];
         p = interpret_own(t, turn, a, p, made, buf);
-        i += 1;
     }
     p
 }
@@ -208,11 +185,9 @@ fn interpret_extra(
     let items = list.items;
     let doms = h.doms;
     let mut p = s;
-    let mut i: usize = 0;
-    while i < count {
+    for i in 0..count {
         let e = items[i];
         p = with_entry(t, turn, e, doms, p, made, buf);
-        i += 1;
     }
     p
 }

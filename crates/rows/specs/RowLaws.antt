@@ -5,7 +5,7 @@ use native.Mathlib.Nat.{not-suc-le-zero, le_of_suc-le-suc, pow-suc}
 use borrow.Author.Tests.{eq-eqb, ne_eqb, eqb-true, eqb-false}
 use lib.Bits.{bit_and, bit_or, bit_xor, differ, and_step, or_step, xor_step, and_le_l}
 use lib.Dec.{eqb}
-use Rattle.lists.specs.Tests.{by, never, eqb-suc}
+use Rattle.lists.specs.Tests.{by, never, and_left, and_right, eqb-suc}
 use Rattle.rows.specs.declared.Row.{Row}
 use Rattle.rows.specs.Rows.{common, without, either, none, bit, has_bit, limb, has, lone, single}
 
@@ -292,6 +292,17 @@ rows-equal x y p q r s =
     ∙ ap (λ (z : ℕ). record { a = y.a; b = z; c = x.c; d = x.d }) q
     ∙ ap (λ (z : ℕ). record { a = y.a; b = y.b; c = z; d = x.d }) r
     ∙ ap (λ (z : ℕ). record { a = y.a; b = y.b; c = y.c; d = z }) s
+
+-- what `==` tests
+pub same_rows : (x y : Row) → (eqb x.a y.a && (eqb x.b y.b && (eqb x.c y.c && eqb x.d y.d))) ≡ true → x ≡ y
+same_rows x y e =
+    let f = and_right (eqb x.a y.a) (eqb x.b y.b && (eqb x.c y.c && eqb x.d y.d)) e in
+    let g = and_right (eqb x.b y.b) (eqb x.c y.c && eqb x.d y.d) f in
+    rows-equal x y
+    (eqb-true x.a y.a (and_left (eqb x.a y.a) (eqb x.b y.b && (eqb x.c y.c && eqb x.d y.d)) e))
+    (eqb-true x.b y.b (and_left (eqb x.b y.b) (eqb x.c y.c && eqb x.d y.d) f))
+    (eqb-true x.c y.c (and_left (eqb x.c y.c) (eqb x.d y.d) g))
+    (eqb-true x.d y.d (and_right (eqb x.c y.c) (eqb x.d y.d) g))
 
 pub part-past : (x : Row) (j : ℕ) → 4 ≤ j → limb x j ≡ 0
 part-past x zero h = absurd (omega arith)

@@ -5,8 +5,8 @@ ghost use Rattle.std.specs.Prelude.{◌≡◌, ◌<◌, ◌≤◌};
 ghost use Rattle.rows.specs.Next.{Next, NextBit};
 ghost use Rattle.rows.specs.Rows.{common, without, either, none, limb, has, single, empty};
 
-// Number k is bit k % 64 of the part k / 64.
-#[derive(Clone, Copy)]
+// Number k is bit k % 64 of the part k / 64. Four fields and no array: what is done to all of them needs no index.
+#[derive(Clone, Copy, PartialEq, Eq)]
 pub struct Row {
     pub a: u64,
     pub b: u64,
@@ -27,6 +27,7 @@ pub fn empty_row() -> Row
 }
 
 // What stands in both.
+#[tactic(auto, unfolding(crate::specs::Rows::common))]
 pub fn in_both(x: Row, y: Row) -> Row
     ensures { result ≡ common x y }
 {
@@ -39,6 +40,7 @@ pub fn in_both(x: Row, y: Row) -> Row
 }
 
 // What stands in x and not in y.
+#[tactic(auto, unfolding(crate::specs::Rows::without))]
 pub fn in_first(x: Row, y: Row) -> Row
     ensures { result ≡ without x y }
 {
@@ -51,6 +53,7 @@ pub fn in_first(x: Row, y: Row) -> Row
 }
 
 // What stands in one of the two.
+#[tactic(auto, unfolding(crate::specs::Rows::either))]
 pub fn in_either(x: Row, y: Row) -> Row
     ensures { result ≡ either x y }
 {
@@ -63,6 +66,7 @@ pub fn in_either(x: Row, y: Row) -> Row
 }
 
 // Whether nothing stands in it.
+#[tactic(auto, unfolding(crate::specs::Rows::none))]
 pub fn is_none(x: Row) -> bool
     ensures { result ≡ none x }
 {
@@ -74,16 +78,12 @@ fn quarter(x: Row, i: usize) -> u64
     requires { i < 4 }
     ensures { result ≡ limb x i }
 {
-    if i == 0 {
-        return x.a;
+    match i {
+        0 => x.a,
+        1 => x.b,
+        2 => x.c,
+        _ => x.d,
     }
-    if i == 1 {
-        return x.b;
-    }
-    if i == 2 {
-        return x.c;
-    }
-    x.d
 }
 
 // Whether k stands in the row.
@@ -104,39 +104,16 @@ pub fn alone(w: usize) -> Row
     let one: u64 = 1;
     let j = w % 64;
     let bit = one << j;
-    if w < 64 {
-        return Row {
-            a: bit,
-            b: 0,
-            c: 0,
-            d: 0,
-        };
-    }
-    if w < 128 {
-        return Row {
-            a: 0,
-            b: bit,
-            c: 0,
-            d: 0,
-        };
-    }
-    if w < 192 {
-        return Row {
-            a: 0,
-            b: 0,
-            c: bit,
-            d: 0,
-        };
-    }
-    Row {
-        a: 0,
-        b: 0,
-        c: 0,
-        d: bit,
+    let none = empty_row();
+    match w / 64 {
+        0 => Row { a: bit, ..none },
+        1 => Row { b: bit, ..none },
+        2 => Row { c: bit, ..none },
+        _ => Row { d: bit, ..none },
     }
 }
 
-// The first number from `from` on that stands in a row of 64; 64 where none does.
+// The first number from `from` on that stands in a row of 64; 64 where none does, so that one bound ends a caller's walk.
 pub fn next_type(types: u64, from: usize) -> usize
     requires { from ≤ 64 }
     ensures { NextBit types from result }
@@ -152,19 +129,17 @@ pub fn next_type(types: u64, from: usize) -> usize
     k
 }
 
-// The first number from `from` on that stands in the row; 256 where none does.
+// The first number from `from` on that stands in the row; 256 where none does, so that one bound ends a caller's walk.
 pub fn next(r: Row, from: usize) -> usize
     requires { from ≤ 256 }
     ensures { Next r from result }
 {
-    let mut i = from / 64;
     let mut j = from % 64;
-    while i < 4 {
+    for i in from / 64..4 {
         let k = next_type(quarter(r, i), j);
         if k < 64 {
             return i * 64 + k;
         }
-        i += 1;
         j = 0;
     }
     256

@@ -18,12 +18,7 @@ pub fn row_at(s: &[u64], at: usize) -> Row
     let b = s[at + 1];
     let c = s[at + 2];
     let d = s[at + 3];
-    Row {
-        a: a,
-        b: b,
-        c: c,
-        d: d,
-    }
+    Row { a, b, c, d }
 }
 
 // The entry at a place.
@@ -34,20 +29,9 @@ fn entry_at(s: &[u64], at: usize) -> Entry
     let words = row_at(s, at);
     Entry {
         kind: 1,
-        words: words,
+        words,
         parents: 0,
     }
-}
-
-// No entries.
-fn no_entries() -> [Entry; 201] {
-    let words = rows::empty_row();
-    let e = Entry {
-        kind: 0,
-        words: words,
-        parents: 0,
-    };
-    [e; 201]
 }
 
 // The entries from a place on.
@@ -55,23 +39,12 @@ fn entries_at(s: &[u64], at: usize, count: usize) -> Entries
     requires { (at + 800 ≤ length s.now) × (length s.now < 1000000) × (count ≤ 200) }
     ensures { (result.count ≡ count) × EntriesAt s.now at result }
 {
-    let mut items = no_entries();
-    let mut i: usize = 0;
-    while i < count {
+    let mut items = dedup::no_entries();
+    for i in 0..count {
         let e = entry_at(s, at + 4 * i);
         items[i] = e;
-        i += 1;
     }
-    Entries {
-        count: count,
-        items: items,
-    }
-}
-
-// No dom sets.
-fn no_doms() -> [Row; 200] {
-    let r = rows::empty_row();
-    [r; 200]
+    Entries { count, items }
 }
 
 // The dom sets from a place on.
@@ -79,12 +52,10 @@ fn doms_at(s: &[u64], at: usize) -> [Row; 200]
     requires { (at + 800 ≤ length s.now) × (length s.now < 1000000) }
     ensures { DomsAt s.now at result }
 {
-    let mut doms = no_doms();
-    let mut w: usize = 0;
-    while w < 200 {
+    let mut doms = dedup::no_doms();
+    for w in 0..200 {
         let r = row_at(s, at + 4 * w);
         doms[w] = r;
-        w += 1;
     }
     doms
 }
@@ -98,10 +69,7 @@ pub fn fetch(s: &[u64], t: usize) -> Inherited
     let count = s[base] as usize;
     let list = entries_at(s, base + 1, count);
     let doms = doms_at(s, base + 801);
-    Inherited {
-        list: list,
-        doms: doms,
-    }
+    Inherited { list, doms }
 }
 
 // A row put at a place.
@@ -122,12 +90,8 @@ fn put_entries(s: &mut [u64], at: usize, l: Entries)
 {
     let items = l.items;
     let count = l.count;
-    let mut i: usize = 0;
-    while i < count {
-        let e = items[i];
-        let words = e.words;
-        put_row(s, at + 4 * i, words);
-        i += 1;
+    for i in 0..count {
+        put_row(s, at + 4 * i, items[i].words);
     }
 }
 
@@ -136,11 +100,9 @@ fn put_doms(s: &mut [u64], at: usize, doms: [Row; 200])
     requires { (at + 800 ≤ length s.old) × (length s.old < 1000000) }
     ensures { PutDoms s.old at doms s.new }
 {
-    let mut w: usize = 0;
-    while w < 200 {
+    for w in 0..200 {
         let r = doms[w];
         put_row(s, at + 4 * w, r);
-        w += 1;
     }
 }
 

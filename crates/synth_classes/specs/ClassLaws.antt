@@ -1,6 +1,7 @@
 -- Laws of the keys and the names of classes.
-use Rattle.std.specs.Prelude.{List, ◌≡◌, refl, ℕ, zero, suc, ◌+◌, ◌*◌, ◌-◌, ◌/◌, ◌%◌, ◌≤◌, ◌<◌, eqb, ltb}
-use Rattle.std.proofs.Common.{ap, sub-one, arith, ne_eqb, eqb-true, le-ltb, lt-ltb}
+use Rattle.std.specs.Prelude.{List, Some, None, ◌≡◌, refl, ℕ, zero, suc, ◌+◌, ◌*◌, ◌-◌, ◌/◌, ◌%◌, ◌≤◌, ◌<◌, eqb, ltb}
+use Rattle.std.proofs.Common.{sym, ap, sub-one, arith, ne_eqb, eqb-true, le-ltb, lt-ltb, ltb-true, ltb-false}
+use Rattle.std.proofs.lemmas.Option.{none-some, same_Some}
 use Rattle.std.proofs.lemmas.Bool.{eqb-false}
 use Rattle.std.specs.Int.Count.{count_trailing_zeros}
 use Rattle.lists.specs.Tests.{by}
@@ -10,7 +11,7 @@ use Rattle.fields.specs.Fields.{two_words}
 use Rattle.catalogue.specs.Layout.{width_in}
 use Rattle.sheet_keys.specs.Keys.{name_of_key}
 use Rattle.catalogue.specs.Layout.{looked}
-use Rattle.synth_classes.specs.Classes.{place_of, class_key, place_in}
+use Rattle.synth_classes.specs.Classes.{place_if, place_of, class_key, place_in}
 
 -- the class of a dom that is a word
 pub class-dom : (dom w : ℕ) → (dom ≡ 0 → ⊥) → w < 255 → two_words (dom - 1) w ≡ dotted (dom_at dom) w
@@ -70,3 +71,13 @@ pub dom-word : (t : List ℕ) (word dom : ℕ) → (dom ≡ 0 → ⊥) → place
 unfolding place_in
 dom-word t word zero h = absurd (h refl)
 dom-word t word (suc d) h = rw (sub-one (suc d))
+
+-- what a place that code has tells
+pub place-some : (x p : ℕ) → place_if x ≡ Some p → (x ≡ p) × (p < 64)
+place-some x p e =
+    by (ltb x 64)
+    (λ q. let z : x ≡ p = same_Some x p (rw q at e) in (z, omega (arith, ltb-true x 64 q)))
+    (λ q. absurd (none-some p (rw q at e)))
+
+pub place-none : (x : ℕ) → place_if x ≡ None → 64 ≤ x
+place-none x e = by (ltb x 64) (λ q. absurd (none-some x (sym (rw q at e)))) (λ q. ltb-false x 64 q)

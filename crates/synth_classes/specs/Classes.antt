@@ -1,5 +1,6 @@
 -- Where the class of a dom and a word stands, out of the numbers of a catalogue.
-use Rattle.std.specs.Prelude.{Bool, ◌&&◌, not, cond, List, ℕ, zero, suc, ◌+◌, ◌*◌, ◌/◌, ◌%◌, ltb}
+use Rattle.std.specs.Prelude.{Bool, ◌&&◌, not, cond, List, Option, ℕ, zero, suc, ◌+◌, ◌*◌, ◌/◌, ◌%◌, ltb}
+use Rattle.std.specs.Bool.{then_some}
 use Rattle.std.specs.Int.Count.{count_trailing_zeros}
 use Rattle.catalogue.specs.Layout.{head_at, width_in}
 use Rattle.catalogue.specs.Catalogue.{is_resource_head}
@@ -8,6 +9,10 @@ use Rattle.catalogue.specs.Layout.{looked}
 -- the place of the type that has a key, or 64; a word past those of the sheet is that of no name
 unfoldable pub place_of : List ℕ → ℕ → ℕ
 place_of t key = cond (ltb (key / 256) (width_in t) && not (ltb (width_in t) (key % 256))) (count_trailing_zeros 64 (looked t key)) 64
+
+-- a place as code has it: 64 is none
+abbrev pub place_if : ℕ → Option ℕ
+place_if p = then_some (ltb p 64) p
 
 -- the key of the class of a word and a dom
 abbrev pub class_key : ℕ → ℕ → ℕ

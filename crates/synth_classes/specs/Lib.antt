@@ -1,4 +1,5 @@
 pub mod Classes
+pub mod Doms
 pub mod ClassLaws
 pub mod Made
 pub mod Walks

@@ -1,8 +1,7 @@
 -- Walks over the doms of a row, and the classes of a row.
-use Rattle.std.specs.Prelude.{Bool, true, false, ◌&&◌, [], ◌∷◌, map, ◌≡◌, refl, ℕ, ◌+◌, ◌-◌, ◌≤◌, ◌<◌, eqb, ltb}
-use Rattle.std.proofs.Math.Bool.{and-false}
-use Rattle.std.proofs.Common.{ap, ◌∙◌, arith, eqb-true, ltb-true, ltb-false}
-use Rattle.std.proofs.lemmas.Bool.{eqb-false}
+use Rattle.std.specs.Prelude.{Bool, ◌&&◌, List, [], ◌∷◌, map, find, Some, None, ◌≡◌, refl, ℕ, ◌+◌, ◌-◌, ◌≤◌, ◌<◌}
+use Rattle.std.proofs.Common.{sym, ap, ◌∙◌, arith}
+use Rattle.std.proofs.lemmas.Option.{none-some, same_Some}
 use Rattle.lists.specs.Lists.{filter}
 use Rattle.lists.specs.Tests.{by}
 use Rattle.lists.specs.Appending.{map-map, filter_map, filter_alike}
@@ -20,39 +19,33 @@ use Rattle.synth_classes.specs.Made.{class_name, classes_of}
 abbrev pub among : Row → (ℕ → Bool) → ℕ → Bool
 among doms f k = has doms k && f k
 
--- at the dom k, or past the last, and none before it has f
-pub record Walking (doms : Row) (f : ℕ → Bool) (from k : ℕ) : Type 0 where
-  pub least : from ≤ k
-  pub most : k ≤ 256
-  pub none : (i : ℕ) → from ≤ i → i < k → among doms f i ≡ false
-  pub there : k < 256 → has doms k ≡ true
+-- those are kept of the doms of the row
+pub among-kept : (doms : Row) (f : ℕ → Bool) → below (among doms f) 201 ≡ filter f (below (has doms) 201)
+among-kept doms f = sym (filter-between f (has doms) 0 201)
 
-pub walk_start : (doms : Row) (f : ℕ → Bool) (from k : ℕ) → First (has doms) 256 from k → Walking doms f from k
-walk_start doms f from k n = record { least = n.least; most = n.most; none = λ i a b. rw (n.none i a b); there = n.some }
+-- what is found first is the first that is kept
+kept-found : (f : ℕ → Bool) (l : List ℕ) (k : ℕ) → find f l ≡ Some k → (rest : List ℕ) × (filter f l ≡ k ∷ rest)
+kept-found f [] k e = absurd (none-some k e)
+kept-found f (x ∷ l) k e =
+    by (f x)
+    (λ q. let z : x ≡ k = same_Some x k (rw q at e) in (filter f l, rw (q, z)))
+    (λ q. let r = kept-found f l k (rw q at e) in (r.0, rw q r.1))
 
-module _ (doms : Row) (f : ℕ → Bool) (from k : ℕ) (w : Walking doms f from k) where
-  pub walk-next : (next : ℕ) → f k ≡ false → First (has doms) 256 (k + 1) next → Walking doms f from next
-  walk-next next e n =
-      record {
-        least = omega (arith, w.least, n.least);
-        most = n.most;
-        none = λ i a b.
-            by (ltb i k)
-            (λ q. w.none i a (ltb-true i k q))
-            (λ q.
-            by (eqb i k)
-            (λ z. let y : f i ≡ false = ap f (eqb-true i k z) ∙ e in rw y (and-false (has doms i)))
-            (λ z. rw (n.none i (omega (arith, ltb-false i k q, eqb-false i k z)) b)));
-        there = n.some;
-      }
-
-  pub walk-found : k < 201 → f k ≡ true → First (among doms f) 201 from k
-  walk-found h e = record { least = w.least; most = omega arith; none = w.none; some = λ _. rw (w.there (omega arith), e) refl }
-
-  pub walk_end : from ≤ 201 → 201 ≤ k → First (among doms f) 201 from 201
-  walk_end l h = record { least = l; most = omega arith; none = λ i a b. w.none i a (omega arith); some = λ q. absurd (omega arith) }
+kept-none : (f : ℕ → Bool) (l : List ℕ) → find f l ≡ None → filter f l ≡ []
+kept-none f [] e = refl
+kept-none f (x ∷ l) e =
+    by (f x)
+    (λ q. absurd (none-some x (sym (rw q at e))))
+    (λ q. rw q (kept-none f l (rw q at e)))
 
 -- the first of them, or none
+pub found-first : (doms : Row) (f : ℕ → Bool) (k : ℕ) → find f (below (has doms) 201) ≡ Some k → (rest : List ℕ) × (below (among doms f) 201 ≡ k ∷ rest)
+found-first doms f k e = let q = kept-found f (below (has doms) 201) k e in (q.0, among-kept doms f ∙ q.1)
+
+pub found-none : (doms : Row) (f : ℕ → Bool) → find f (below (has doms) 201) ≡ None → below (among doms f) 201 ≡ []
+found-none doms f e = among-kept doms f ∙ kept-none f (below (has doms) 201) e
+
+-- the first number of which f holds, with those behind it, or none
 pub first-there : (f : ℕ → Bool) (k : ℕ) → First f 201 0 k → k < 201 → below f 201 ≡ k ∷ between f (k + 1) (201 - (k + 1))
 first-there f k n h = from_next f 201 0 k 201 n (omega arith) ∙ from-there f k 201 h (n.some h)
 

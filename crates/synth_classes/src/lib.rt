@@ -1,13 +1,17 @@
 // The classes of a word, looked up in the catalogue.
 #![tactic(auto)]
 
-ghost use Rattle.std.specs.Prelude.{◌≡◌, ◌+◌, ◌*◌, ◌%◌, ◌≤◌, ◌<◌};
+ghost use Rattle.std.specs.Prelude.{◌≡◌, ◌+◌, ◌*◌, ◌%◌, ◌<◌};
+ghost use Rattle.std.specs.Iterator.{YieldsFirst, item_count};
+ghost use Rattle.rows.specs.Rows.{has};
+ghost use Rattle.rows.specs.Lists.{below};
 ghost use Rattle.definitions.specs.Comparisons.{dotted};
 ghost use Rattle.fields.specs.Fields.{name_of};
 ghost use Rattle.annotations.specs.Reading.{dom_at};
 ghost use Rattle.catalogue.specs.Layout.{key_at};
 ghost use Rattle.sheet_keys.specs.Keys.{name_of_key};
-ghost use Rattle.synth_classes.specs.Classes.{place_of, place_in};
+ghost use Rattle.synth_classes.specs.Classes.{place_if, place_of, place_in};
+ghost use Rattle.synth_classes.specs.Doms.{doms_left};
 
 use fields::Name;
 use rows::Row;
@@ -26,27 +30,59 @@ pub struct Origin {
     pub parents: u64,
 }
 
-// The place of the type of that name, or 64 where none is declared (FORMAT 1.5): its first word, and one more than its second, or
-// 0 where it has none. A word past those of the sheet is that of no name.
-pub fn place_of(t: &[u64; 1544], first: usize, second: usize) -> usize
-    requires { (first < 256) × (second < 256) }
-    ensures { (result ≡ place_of t.now (first * 256 + second)) × (result ≤ 64) }
-{
-    let width = catalogue::width_in(t) as usize;
-    if width <= first {
-        return 64;
-    }
-    if width < second {
-        return 64;
-    }
-    let set = catalogue::type_of(t, (first * 256 + second) as u64);
-    u64::trailing_zeros(set) as usize
+// The doms of a row, ascending: none and the words, below 201 (FORMAT 1.2).
+#[derive(Drop)]
+pub struct Doms {
+    row: Row,
+    from: u8,
 }
 
-// The place of the class of a dom and a word (FORMAT 4.2): the dom 0 is none, d + 1 the word d.
-pub fn class_place(t: &[u64; 1544], dom: usize, word: u8) -> usize
+impl Doms {
+    // Those of a whole row.
+    pub fn of(row: Row) -> Doms
+        ensures { doms_left result ≡ below (has row) 201 }
+    {
+        Doms { row, from: 0 }
+    }
+}
+
+impl Iterator for Doms {
+    type Item = u8;
+
+    ghost next_gives = { YieldsFirst doms_left };
+
+    ghost remaining = { item_count doms_left };
+
+    fn next(&mut self) -> Option<u8> {
+        let k = rows::next(self.row, self.from as usize);
+        if k < 201 {
+            let dom = k as u8;
+            self.from = dom + 1;
+            return Some(dom);
+        }
+        None
+    }
+}
+
+// The place of the type of that name, if one is declared (FORMAT 1.5): its first word, and one more than its second, or 0 where it
+// has none. A word past those of the sheet is that of no name.
+pub fn place_of(t: &[u64; 1544], first: usize, second: usize) -> Option<usize>
+    requires { (first < 256) × (second < 256) }
+    ensures { result ≡ place_if (place_of t.now (first * 256 + second)) }
+{
+    let width = catalogue::width_in(t) as usize;
+    if width <= first || width < second {
+        return None;
+    }
+    let set = catalogue::type_of(t, (first * 256 + second) as u64);
+    let place = u64::trailing_zeros(set) as usize;
+    (place < 64).then_some(place)
+}
+
+// The place of the class of a dom and a word, if it is declared (FORMAT 4.2): the dom 0 is none, d + 1 the word d.
+pub fn class_place(t: &[u64; 1544], dom: usize, word: u8) -> Option<usize>
     requires { (dom < 257) × (word < 255) }
-    ensures { (result ≡ place_in t.now word dom) × (result ≤ 64) }
+    ensures { result ≡ place_if (place_in t.now word dom) }
 {
     let second = word as usize;
     if dom == 0 {

@@ -12,10 +12,7 @@ ghost use Rattle.synth_places.specs.Places.{Placeable, ReadAt, Readable, Numbere
 fn single(key: u64) -> u64
     ensures { (result < 2) × (eqb result 1 ≡ eqb (key % 256) 0) }
 {
-    if key % 256 == 0 {
-        return 1;
-    }
-    0
+    u64::from(key % 256 == 0)
 }
 
 // The number of the type in a row of the draft: 0 if it has no annotations, else the bit from which they stand, with how many words
@@ -46,10 +43,8 @@ pub fn fill(
     requires readable { Readable width (bits_of s.now) d.now entries.now count }
     ensures { Numbered width (bits_of s.now) d.now entries.now count out.new }
 {
-    let mut a: usize = 0;
-    while a < count {
+    for a in 0..count {
         let row = (entries[a] % 64) as usize;
         out[a] = number_of(s, d, row, width);
-        a += 1;
     }
 }

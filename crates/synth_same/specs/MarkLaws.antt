@@ -1,23 +1,27 @@
 -- Marks as bits, walked class by class.
-use Rattle.std.specs.Prelude.{Bool, true, List, [], ◌++◌, ◌≡◌, ℕ, zero, suc, ◌+◌, ◌*◌, ◌-◌, ◌/◌, ◌%◌, ◌≤◌, ◌<◌, eqb, ltb, length}
+use Rattle.std.specs.Prelude.{Bool, List, [], ◌∷◌, ◌++◌, Some, None, ◌≡◌, ℕ, zero, suc, ◌+◌, ◌*◌, ◌-◌, ◌/◌, ◌%◌, ◌≤◌, ◌<◌, eqb, length}
 use Rattle.std.proofs.Math.Bool.{false}
 use Rattle.std.proofs.Math.Path.{sym, ap}
-use Rattle.std.proofs.Common.{◌∙◌, arith, ltb-true, ltb-false, lt-ltb, le-ltb, length-append, get_or-append-add}
+use Rattle.std.proofs.Common.{◌∙◌, arith, lt-ltb, le-ltb, length-append, get_or-append-add}
 use Rattle.std.proofs.Math.ListN.{get_or, get_or-append}
 use Rattle.lists.specs.Lists.{each}
 use Rattle.lists.specs.Tests.{by}
 use Rattle.rows.specs.declared.Row.{Row}
 use Rattle.rows.specs.Rows.{has, has_bit}
 use Rattle.rows.specs.RowLaws.{bit_is}
-use Rattle.rows.specs.Lists.{between}
-use Rattle.rows.specs.Next.{First}
-use Rattle.rows.specs.NextLaws.{from-there}
+use Rattle.rows.specs.Lists.{between, below}
 use Rattle.definitions.specs.Bits.{odd, to_bits}
 use Rattle.bits.specs.NumberLaws.{length-to_bits}
 use Rattle.catalogue.specs.Layout.{marks_at, tally_at}
-use Rattle.synth_classes.specs.Classes.{place_in}
+use Rattle.synth_classes.specs.Classes.{place_if, place_in}
+use Rattle.synth_classes.specs.ClassLaws.{place-some, place-none}
 use Rattle.synth_same.specs.Same.{width_at, bits_at, bits_in}
-use Rattle.synth_same.specs.Rest.{rest_end, rest-next, rest_all, At, at_first}
+
+-- so many numbers are no more
+few-between : (f : ℕ → Bool) (i n : ℕ) → length (between f i n) ≤ n
+unfolding between
+few-between f i zero = omega arith
+few-between f i (suc n) = let e = few-between f (suc i) n in by (f i) (λ q. rw q (omega (arith, e))) (λ q. rw q (omega (arith, e)))
 
 -- ---- one class
 
@@ -29,9 +33,12 @@ pub width-none : (t : List ℕ) (p : ℕ) → 64 ≤ p → 0 ≡ width_at t p
 unfolding width_at
 width-none t p h = rw (le-ltb p 64 h)
 
--- a class that has a bit has a place
-pub width-place : (t : List ℕ) (p w left : ℕ) → w ≡ width_at t p → left < w → p < 64
-width-place t p w left e h = by (ltb p 64) (λ q. ltb-true p 64 q) (λ q. absurd (omega (arith, e, width-none t p (ltb-false p 64 q))))
+-- what a place tells of the width
+pub width-some : (t : List ℕ) (word k p w : ℕ) → place_if (place_in t word k) ≡ Some p → w ≡ width_at t p → w ≡ width_at t (place_in t word k)
+width-some t word k p w e h = h ∙ ap (width_at t) (sym (place-some _ p e).0)
+
+pub width-no : (t : List ℕ) (word k : ℕ) → place_if (place_in t word k) ≡ None → 0 ≡ width_at t (place_in t word k)
+width-no t word k e = width-none t (place_in t word k) (place-none _ e)
 
 bits-long : (t : List ℕ) (p : ℕ) → length (bits_at t p) ≡ width_at t p
 unfolding bits_at
@@ -48,93 +55,77 @@ number_bit (suc w) v (suc j) h =
     let e : suc w - 1 - suc j ≡ w - 1 - j = omega arith in
     rw e (number_bit w v j (omega arith))
 
+-- a bit of a class that has as many
+bit-there : (t : List ℕ) (word k p w i : ℕ) → place_if (place_in t word k) ≡ Some p → w ≡ width_at t (place_in t word k) → i < w
+    → has_bit (marks_at t p) (w - 1 - i) ≡ get_or (bits_at t (place_in t word k)) i false
+unfolding bits_at
+bit-there t word k p w i e h l =
+    let z = place-some _ p e in
+    rw (← z.0, h) (sym (number_bit (width_at t (place_in t word k)) (marks_at t (place_in t word k)) i (omega (arith, h))))
+
 -- ---- the classes in turn
 
 module _ (t : List ℕ) (doms : Row) (word : ℕ) where
-  abbrev f : ℕ → Bool
-  f = has doms
-
   abbrev b : ℕ → List Bool
   b k = bits_at t (place_in t word k)
 
-  abbrev rest : ℕ → List Bool
-  rest k = each b (between f k (201 - k))
+  -- n bits stand before the doms that are left
+  pub record Counting (left : List ℕ) (n : ℕ) : Type 0 where
+    pub total : n + length (each b left) ≡ length (bits_in t doms word)
+    pub room : n + 64 * length left ≤ 12864
 
-  all-bits : (k : ℕ) → First f 256 0 k → bits_in t doms word ≡ rest k
+  pub counting-start : (left : List ℕ) → left ≡ below (has doms) 201 → Counting left 0
   unfolding bits_in
-  all-bits k h = ap (each b) (rest_all f 256 k 201 h)
+  counting-start left e = record { total = omega (arith, ap (λ l. length (each b l)) e); room = omega (arith, ap length e, few-between (has doms) 0 201) }
 
-  step : (k : ℕ) → k < 201 → f k ≡ true → rest k ≡ b k ++ rest (k + 1)
-  step k h e = ap (each b) (from-there f k 201 h e)
-
-  onward : (k next : ℕ) → First f 256 (k + 1) next → rest (k + 1) ≡ rest next
-  onward k next h = ap (each b) (rest-next f 256 (k + 1) next 201 h)
-
-  done : (k : ℕ) → 201 ≤ k → rest k ≡ []
-  done k h = ap (each b) (rest_end f k 201 h)
-
-  -- n bits stand before the dom k
-  pub record Counting (k n : ℕ) : Type 0 where
-    pub at : At f 256 k
-    pub total : n + length (each b (between f k (201 - k))) ≡ length (bits_in t doms word)
-    pub room : n ≤ 64 * k
-
-  pub counting-start : (k : ℕ) → First f 256 0 k → Counting k 0
-  counting-start k h = record { at = at_first f 256 0 k h; total = omega (arith, ap length (all-bits k h)); room = omega arith }
-
-  pub counting-next : (k next n w : ℕ) → k < 201 → w ≡ width_at t (place_in t word k) → w < 64 → First f 256 (k + 1) next → Counting k n → Counting next (n + w)
-  counting-next k next n w h e l x c =
+  pub counting-next : (left rest : List ℕ) (k n w : ℕ) → left ≡ k ∷ rest → w ≡ width_at t (place_in t word k) → w < 64 → Counting left n → Counting rest (n + w)
+  counting-next left rest k n w h e l c =
       record {
-        at = at_first f 256 (k + 1) next x;
-        total =
-            omega (
-              arith,
-              c.total,
-              ap length (step k h (c.at.there (omega arith))),
-              length-append (b k) (rest (k + 1)),
-              bits-long t (place_in t word k),
-              e,
-              ap length (onward k next x),
-            );
-        room = omega (arith, c.room, x.least);
+        total = omega (arith, c.total, ap (λ z. length (each b z)) h, length-append (b k) (each b rest), bits-long t (place_in t word k), e);
+        room = omega (arith, c.room, ap length h);
       }
 
-  pub counting-end : (k n : ℕ) → 201 ≤ k → Counting k n → n ≡ length (bits_in t doms word)
-  counting-end k n h c = omega (arith, c.total, ap length (done k h))
+  -- a class that is not declared has none
+  pub counting-same : (left rest : List ℕ) (k n : ℕ) → left ≡ k ∷ rest → 0 ≡ width_at t (place_in t word k) → Counting left n → Counting rest n
+  counting-same left rest k n h e c = let q : n + 0 ≡ n = omega arith in rw q at (counting-next left rest k n 0 h e (omega arith) c)
 
-  -- the bit i is the bit `left` from the dom k on
-  pub record Seeking (i k left : ℕ) : Type 0 where
-    pub at : At f 256 k
-    pub bit : get_or (each b (between f k (201 - k))) left false ≡ get_or (bits_in t doms word) i false
+  pub counting-room : (left rest : List ℕ) (k n : ℕ) → left ≡ k ∷ rest → Counting left n → n ≤ 12864
+  counting-room left rest k n h c = omega (arith, c.room)
 
-  pub seeking-start : (i k : ℕ) → First f 256 0 k → Seeking i k i
-  seeking-start i k h = record { at = at_first f 256 0 k h; bit = ap (λ l. get_or l i false) (sym (all-bits k h)) }
+  pub counting-end : (left : List ℕ) (n : ℕ) → left ≡ [] → Counting left n → n ≡ length (bits_in t doms word)
+  counting-end left n h c = omega (arith, c.total, ap (λ z. length (each b z)) h)
 
-  pub seeking-next : (i k next left w : ℕ) → k < 201 → w ≡ width_at t (place_in t word k) → w ≤ left → First f 256 (k + 1) next → Seeking i k left → Seeking i next (left - w)
-  seeking-next i k next left w h e l x c =
+  -- the bit i is the bit `at` of the doms that are left
+  pub record Seeking (i : ℕ) (left : List ℕ) (at : ℕ) : Type 0 where
+    pub bit : get_or (each b left) at false ≡ get_or (bits_in t doms word) i false
+
+  pub seeking-start : (i : ℕ) (left : List ℕ) → left ≡ below (has doms) 201 → Seeking i left i
+  unfolding bits_in
+  seeking-start i left e = record { bit = ap (λ l. get_or (each b l) i false) e }
+
+  pub seeking-next : (i : ℕ) (left rest : List ℕ) (k at w : ℕ) → left ≡ k ∷ rest → w ≡ width_at t (place_in t word k) → w ≤ at → Seeking i left at → Seeking i rest (at - w)
+  seeking-next i left rest k at w h e l c =
       let n = bits-long t (place_in t word k) in
-      let z : length (b k) + (left - w) ≡ left = omega (arith, n, e) in
+      let z : length (b k) + (at - w) ≡ at = omega (arith, n, e) in
       record {
-        at = at_first f 256 (k + 1) next x;
         bit =
-            ap (λ l. get_or l (left - w) false) (sym (onward k next x))
-            ∙ sym (get_or-append-add (b k) (rest (k + 1)) (left - w) false)
-            ∙ ap (λ (y : ℕ). get_or (b k ++ rest (k + 1)) y false) z
-            ∙ ap (λ l. get_or l left false) (sym (step k h (c.at.there (omega arith))))
+            sym (get_or-append-add (b k) (each b rest) (at - w) false)
+            ∙ ap (λ (y : ℕ). get_or (b k ++ each b rest) y false) z
+            ∙ ap (λ l. get_or (each b l) at false) (sym h)
             ∙ c.bit;
       }
 
-  pub seeking-found : (i k left w : ℕ) → k < 201 → w ≡ width_at t (place_in t word k) → left < w → Seeking i k left
-      → has_bit (marks_at t (place_in t word k)) (w - 1 - left) ≡ get_or (bits_in t doms word) i false
-  unfolding bits_at
-  seeking-found i k left w h e l c =
-      let p = place_in t word k in
-      let n = bits-long t p in
-      ap (λ (y : ℕ). has_bit (marks_at t p) (y - 1 - left)) e
-      ∙ sym (number_bit (width_at t p) (marks_at t p) left (omega (arith, e)))
-      ∙ sym (get_or-append (b k) (rest (k + 1)) false left (omega (arith, n, e)))
-      ∙ ap (λ l. get_or l left false) (sym (step k h (c.at.there (omega arith))))
+  pub seeking-same : (i : ℕ) (left rest : List ℕ) (k at : ℕ) → left ≡ k ∷ rest → 0 ≡ width_at t (place_in t word k) → Seeking i left at → Seeking i rest at
+  seeking-same i left rest k at h e c = let q : at - 0 ≡ at = omega arith in rw q at (seeking-next i left rest k at 0 h e (omega arith) c)
+
+  pub seeking-found : (i : ℕ) (left rest : List ℕ) (k at p w : ℕ) → left ≡ k ∷ rest → place_if (place_in t word k) ≡ Some p → w ≡ width_at t (place_in t word k) → at < w
+      → Seeking i left at → has_bit (marks_at t p) (w - 1 - at) ≡ get_or (bits_in t doms word) i false
+  seeking-found i left rest k at p w h q e l c =
+      let n = bits-long t (place_in t word k) in
+      bit-there t word k p w at q e l
+      ∙ sym (get_or-append (b k) (each b rest) false at (omega (arith, n, e)))
+      ∙ ap (λ l. get_or (each b l) at false) (sym h)
       ∙ c.bit
 
-  pub seeking-end : (i k left : ℕ) → 201 ≤ k → Seeking i k left → false ≡ get_or (bits_in t doms word) i false
-  seeking-end i k left h c = ap (λ l. get_or l left false) (sym (done k h)) ∙ c.bit
+  pub seeking-end : (i : ℕ) (left : List ℕ) (at : ℕ) → left ≡ [] → Seeking i left at → false ≡ get_or (bits_in t doms word) i false
+  seeking-end i left at h c = ap (λ l. get_or (each b l) at false) (sym h) ∙ c.bit

@@ -1,12 +1,13 @@
 -- Two makings of one type and one word are identical exactly where their first parents, flags and marks are.
 use mathlib.Core.Bool.{Bool, true, false, ◌&&◌, not, beq, and-true}
 use mathlib.Core.List.{List, [], ◌∷◌, ◌++◌, map, append-nil, append_cancel_right}
-use Rattle.std.specs.Prelude.{◌≡◌, refl, eqb, ltb, length, get_or}
+use Rattle.std.specs.Prelude.{Some, None, ◌≡◌, refl, eqb, ltb, length, get_or}
 use Rattle.std.proofs.Math.Path.{sym, ap, subst}
 use Rattle.std.proofs.Common.{ap₂, ◌∙◌, arith, ext_get_or}
 use Prim.Native.Nat.{ℕ, zero, suc, ◌/◌, ◌%◌, ◌≤◌, ◌<◌}
-use borrow.Author.Tests.{ltb-true, ltb-false}
-use Rattle.lists.specs.Lists.{all, null, each, same_list}
+use borrow.Author.Tests.{ltb-true, ltb-false, lt-ltb, le-ltb}
+use Rattle.std.specs.List.{list_any}
+use Rattle.lists.specs.Lists.{all, filter, null, each, same_list}
 use Rattle.lists.specs.Tests.{by, never, not_so, each_of}
 use Rattle.lists.specs.Appending.{all_map, each-each, each_map, each_same}
 use Rattle.lists.specs.Lexicographic.{same_numbers, numbers-same}
@@ -28,7 +29,8 @@ use Rattle.catalogue.specs.Catalogue.{virtual_head}
 use Rattle.item_refusal.specs.MarkLaws.{AllWithin, one_code}
 use Rattle.synth_classes.specs.declared.Site.{Site}
 use Rattle.synth_classes.specs.declared.Origin.{Origin}
-use Rattle.synth_classes.specs.Classes.{place_in}
+use Rattle.synth_classes.specs.Classes.{place_if, place_in}
+use Rattle.synth_classes.specs.ClassLaws.{place-some, place-none}
 use Rattle.synth_classes.specs.Made.{class_name, classes_of, firsts_of, created}
 use Rattle.synth_classes.specs.Walks.{class-names}
 use Rattle.synth_classes.specs.Known.{Known, class-known, class_low}
@@ -38,9 +40,18 @@ use Rattle.synth_same.specs.MarkLaws.{width-there, width-none}
 
 -- ---- the parts of the code
 
-pub real-place : (t : List ℕ) (word k p : ℕ) (r : Bool) → p ≡ place_in t word k → r ≡ (ltb p 64 && not (virtual_head (head_at t p))) → real_at t word k ≡ r
+pub real-some : (t : List ℕ) (word k p : ℕ) → place_if (place_in t word k) ≡ Some p → not (virtual_head (head_at t p)) ≡ real_at t word k
 unfolding real_at
-real-place t word k p r e q = rw (← e) (sym q)
+real-some t word k p e = let z = place-some _ p e in rw (z.0, lt-ltb p 64 z.1)
+
+pub real-none : (t : List ℕ) (word k : ℕ) → place_if (place_in t word k) ≡ None → false ≡ real_at t word k
+unfolding real_at
+real-none t word k e = rw (le-ltb (place_in t word k) 64 (place-none _ e))
+
+-- none is real where none of those that are real is
+pub any-real : (f : ℕ → Bool) (l : List ℕ) → not (list_any f l) ≡ null (filter f l)
+any-real f [] = refl
+any-real f (x ∷ l) = by (f x) (λ e. rw e) (λ e. rw e (any-real f l))
 
 pub virtual-if : (t : List ℕ) (place word : ℕ) (d e : Row) (v : Bool) (x y r : Bool) → v ≡ virtual_head (head_at t place) → v ≡ true
     → x ≡ virtual_in t d word → y ≡ virtual_in t e word → r ≡ beq x y → SameVirtual t place word d e r

@@ -2,26 +2,21 @@
 // parents of an extension are theirs both, so that first parents, flag and marks decide.
 #![tactic(auto)]
 
-ghost use Rattle.std.specs.Prelude.{false, ◌&&◌, not, ◌≡◌, ◌≤◌, ◌<◌, eqb, ltb, length, get_or};
-ghost use Rattle.std.specs.Bool.{beq};
+ghost use Rattle.std.specs.Prelude.{false, ◌≡◌, ◌≤◌, ◌<◌, eqb, length, get_or};
 ghost use Rattle.lists.specs.Lists.{same_list};
 ghost use Rattle.rows.specs.Next.{First};
 ghost use Rattle.catalogue.specs.Layout.{head_at};
 ghost use Rattle.catalogue.specs.Catalogue.{virtual_head};
-ghost use Rattle.synth_same.specs.Same.{count_of, own_in, end_of, test_of, top_of, key_of, first_keys, virtual_in, width_at, bits_in, SameMarks, SameVirtual, SameMaking};
+ghost use Rattle.synth_same.specs.Same.{count_of, own_in, end_of, test_of, top_of, key_of, first_keys, real_at, virtual_in, width_at, bits_in, SameMarks, SameVirtual, SameMaking};
 
 use rows::Row;
-use synth_classes::{Origin, Site};
+use synth_classes::{Doms, Origin, Site};
 
 // How many types there are.
 fn type_count(t: &[u64; 1544]) -> usize
     ensures { result ≡ count_of t.now }
 {
-    let count = catalogue::count_in(t);
-    if count < 64 {
-        return count as usize;
-    }
-    64
+    catalogue::count_in(t).min(64) as usize
 }
 
 // Whether a making is an own one: it comes from no parent.
@@ -69,7 +64,7 @@ fn first_key(t: &[u64; 1544], own: bool, k: usize) -> u64
     catalogue::key_at(t, k)
 }
 
-// Whether the first parents of two makings are the same.
+// Whether the first parents of two makings are the same. Two sets are walked in step, so that this is no loop over one of them.
 fn same_firsts(t: &[u64; 1544], a: Origin, b: Origin) -> bool
     ensures { result ≡ same_list eqb (first_keys t.now a.doms a.parents) (first_keys t.now b.doms b.parents) }
 {
@@ -100,14 +95,15 @@ fn is_virtual(t: &[u64; 1544], place: usize) -> bool
     catalogue::head_at(t, place) / 32 % 2 == 1
 }
 
-// Whether a class has a place and is not virtual.
-fn is_real(t: &[u64; 1544], place: usize) -> bool
-    ensures { result ≡ (ltb place 64 && not (virtual_head (head_at t.now place))) }
+// Whether the class of a word and a dom is declared and not virtual.
+fn is_real(t: &[u64; 1544], word: u8, dom: u8) -> bool
+    requires { word < 255 }
+    ensures { result ≡ real_at t.now word dom }
 {
-    if place < 64 {
-        return !is_virtual(t, place);
+    match synth_classes::class_place(t, dom as usize, word) {
+        Some(place) => !is_virtual(t, place),
+        None => false,
     }
-    false
 }
 
 // Whether all classes are virtual (FORMAT 4.6).
@@ -115,34 +111,15 @@ fn all_virtual(t: &[u64; 1544], doms: Row, word: u8) -> bool
     requires { word < 255 }
     ensures { result ≡ virtual_in t.now doms word }
 {
-    let mut k = rows::next(doms, 0);
-    while k < 201 {
-        let p = synth_classes::class_place(t, k, word);
-        if is_real(t, p) {
-            return false;
-        }
-        k = rows::next(doms, k + 1);
-    }
-    true
-}
-
-fn same_flag(a: bool, b: bool) -> bool
-    ensures { result ≡ beq a b }
-{
-    if a {
-        return b;
-    }
-    !b
+    !Doms::of(doms).any(|dom| is_real(t, word, dom))
 }
 
 // How many bits the marks of a class have.
-fn width_of(t: &[u64; 1544], place: usize) -> usize
+fn width_at(t: &[u64; 1544], place: usize) -> usize
+    requires { place < 64 }
     ensures { (result ≡ width_at t.now place) × (result < 64) }
 {
-    if place < 64 {
-        return (catalogue::tally_at(t, place) / 8 % 64) as usize;
-    }
-    0
+    (catalogue::tally_at(t, place) / 8 % 64) as usize
 }
 
 // How many bits the marks of all classes have (FORMAT 4.7).
@@ -150,12 +127,11 @@ fn marks_width(t: &[u64; 1544], doms: Row, word: u8) -> usize
     requires { word < 255 }
     ensures { result ≡ length (bits_in t.now doms word) }
 {
-    let mut n: usize = 0;
-    let mut k = rows::next(doms, 0);
-    while k < 201 {
-        let p = synth_classes::class_place(t, k, word);
-        n += width_of(t, p);
-        k = rows::next(doms, k + 1);
+    let mut n = 0;
+    for dom in Doms::of(doms) {
+        if let Some(place) = synth_classes::class_place(t, dom as usize, word) {
+            n += width_at(t, place);
+        }
     }
     n
 }
@@ -166,15 +142,14 @@ fn mark_bit(t: &[u64; 1544], doms: Row, word: u8, i: usize) -> bool
     ensures { result ≡ get_or (bits_in t.now doms word) i false }
 {
     let mut left = i;
-    let mut k = rows::next(doms, 0);
-    while k < 201 {
-        let p = synth_classes::class_place(t, k, word);
-        let w = width_of(t, p);
-        if left < w {
-            return bitsets::has(catalogue::marks_at(t, p), w - 1 - left);
+    for dom in Doms::of(doms) {
+        if let Some(place) = synth_classes::class_place(t, dom as usize, word) {
+            let width = width_at(t, place);
+            if left < width {
+                return bitsets::has(catalogue::marks_at(t, place), width - 1 - left);
+            }
+            left -= width;
         }
-        left -= w;
-        k = rows::next(doms, k + 1);
     }
     false
 }
@@ -188,12 +163,10 @@ fn same_marks(t: &[u64; 1544], word: u8, d: Row, e: Row) -> bool
     if n != marks_width(t, e, word) {
         return false;
     }
-    let mut i: usize = 0;
-    while i < n {
-        if !same_flag(mark_bit(t, d, word, i), mark_bit(t, e, word, i)) {
+    for i in 0..n {
+        if mark_bit(t, d, word, i) != mark_bit(t, e, word, i) {
             return false;
         }
-        i += 1;
     }
     true
 }
@@ -204,7 +177,7 @@ fn same_virtual(t: &[u64; 1544], place: usize, word: u8, d: Row, e: Row) -> bool
     ensures { SameVirtual t.now place word d e result }
 {
     if is_virtual(t, place) {
-        return same_flag(all_virtual(t, d, word), all_virtual(t, e, word));
+        return all_virtual(t, d, word) == all_virtual(t, e, word);
     }
     true
 }
@@ -214,13 +187,7 @@ pub fn is_same(t: &[u64; 1544], site: Site, a: Origin, b: Origin) -> bool
     requires { (site.place < 64) × (site.word < 255) }
     ensures { SameMaking t.now site a b result }
 {
-    if !same_firsts(t, a, b) {
-        return false;
-    }
-    let d = a.doms;
-    let e = b.doms;
-    if !same_virtual(t, site.place, site.word, d, e) {
-        return false;
-    }
-    same_marks(t, site.word, d, e)
+    same_firsts(t, a, b)
+        && same_virtual(t, site.place, site.word, a.doms, b.doms)
+        && same_marks(t, site.word, a.doms, b.doms)
 }

@@ -29,7 +29,6 @@ use Rattle.synthesis.specs.Going.{Going}
 use Rattle.synthesis.specs.GoingLaws.{same-name, play-last}
 use Rattle.synthesis.specs.Playing.{Turn, Plays, AllReady, PlayedTo, AllPlayed}
 use Rattle.synthesis.specs.declared.Played.{Played}
-use Rattle.synthesis.specs.declared.Visit.{Visit}
 
 -- ---- places in the trail
 

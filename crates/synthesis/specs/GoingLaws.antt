@@ -1,10 +1,10 @@
 -- One type more.
 use Rattle.std.proofs.Math.Bool.{Bool, or-false}
-use Rattle.std.specs.Prelude.{false, ◌&&◌, ◌||◌, not, ◌≡◌, refl, ℕ, zero, suc, ◌+◌, ◌<◌, eqb, length}
+use Rattle.std.specs.Prelude.{false, ◌&&◌, ◌||◌, not, ◌≡◌, refl, ℕ, zero, suc, ◌<◌, eqb, length}
 use mathlib.Core.List.{List, [], ◌∷◌, ◌++◌, map}
 use Rattle.std.proofs.Math.Path.{sym, ap}
 use Rattle.std.proofs.Common.{◌∙◌, arith, eqb-true}
-use Rattle.lists.specs.Lists.{all, null}
+use Rattle.lists.specs.Lists.{null}
 use Rattle.lists.specs.Tests.{by, or-false-left, or-false-right, eqb-flip}
 use Rattle.lists.specs.Lexicographic.{numbers-same}
 use Rattle.definitions.specs.Records.{Name, TypeInfo}

@@ -11,7 +11,7 @@ use Rattle.visiting.specs.Trails.{TrailOf}
 use Rattle.visiting.specs.Along.{rows-along}
 use Rattle.visiting.specs.declared.Trail.{Trail}
 use Rattle.emitting.specs.Emitting.{State}
-use Rattle.synthesis.specs.Playing.{AllReady, ReadyIn, AllPlayed}
+use Rattle.synthesis.specs.Playing.{ReadyIn, AllPlayed}
 use Rattle.synthesis.specs.Synthesized.{Synthesizes, Synthesized, few, many}
 
 module _ (tb : List ℕ) (bs : List Bool) (ns : List ℕ) (p : Parents) (r : Trail) (w : TrailOf p r) where

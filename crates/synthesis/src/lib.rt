@@ -13,14 +13,17 @@ ghost use Rattle.synthesis.specs.Playing.{Flagged, Receives, Turn, Plays, AllRea
 ghost use Rattle.synthesis.specs.Synthesized.{Synthesizes, Synthesized};
 
 use dedup::Inherited;
+use emitting::Report;
 use hearing::Flags;
 use visiting::Trail;
 
-// How many rows were written, and whether there are more.
+// The tables of a map, lent: the sheet, its catalogue, its order, and where the annotations of each type stand in the sheet.
 #[derive(Clone, Copy)]
-pub struct Report {
-    pub rows: usize,
-    pub more: bool,
+struct Tables<'a> {
+    sheet: &'a [u8],
+    catalogue: &'a [u64; 1544],
+    order: &'a [u64; 577],
+    notes: &'a [u64; 64],
 }
 
 // The types whose call succeeded, as bits, and the count of rows, which stops one past the limit.
@@ -41,47 +44,32 @@ pub struct Visit {
 
 // What type t gets from the listings with a flag. What it inherits where all hand on is kept for its children: it is the same
 // where no call failed.
-fn receive(
-    s: &[u8],
-    l: &[u64; 577],
-    notes: &[u64; 64],
-    store: &mut [u64],
-    t: usize,
-    flags: Flags,
-) -> Inherited
-    requires addressable { Addressable s.now }
-    requires ready { Ready (form_of l.now) (bits_of s.now) notes.now store.old t 255 }
-    requires flagged { Flagged (form_of l.now) t flags }
-    ensures { Receives (form_of l.now) (bits_of s.now) notes.now store.old t flags store.new result }
+fn receive(m: Tables, store: &mut [u64], t: usize, flags: Flags) -> Inherited
+    requires addressable { Addressable m.sheet.now }
+    requires ready { Ready (form_of m.order.now) (bits_of m.sheet.now) m.notes.now store.old t 255 }
+    requires flagged { Flagged (form_of m.order.now) t flags }
+    ensures { Receives (form_of m.entry.order.now) (bits_of m.entry.sheet.now) m.entry.notes.now store.old t flags store.new result }
 {
     if flags.all {
-        return handing::keep_inherited(s, l, notes, store, t);
+        return handing::keep_inherited(m.sheet, m.order, m.notes, store, t);
     }
-    let got = handing::gather(s, l, notes, store, t, flags.row);
-    handing::keep_inherited(s, l, notes, store, t);
+    let got = handing::gather(m.sheet, m.order, m.notes, store, t, flags.row);
+    handing::keep_inherited(m.sheet, m.order, m.notes, store, t);
     got
 }
 
 // A type takes what its parents hand on and is interpreted; its parents were, in the loop that calls this and not by recursion.
-fn inherit_annotations(
-    s: &[u8],
-    t: &[u64; 1544],
-    l: &[u64; 577],
-    notes: &[u64; 64],
-    store: &mut [u64],
-    diagnosis: &mut [u8],
-    v: Visit,
-) -> Played
-    requires addressable { Addressable s.now }
-    requires turn { Turn t.now (bits_of s.now) notes.now (form_of l.now) store.old diagnosis.old v.place }
-    ensures { Plays t.now (bits_of s.now) notes.now (form_of l.now) store.old diagnosis.old v store.new diagnosis.new result }
+fn inherit_annotations(m: Tables, store: &mut [u64], diagnosis: &mut [u8], v: Visit) -> Played
+    requires addressable { Addressable m.sheet.now }
+    requires turn { Turn m.catalogue.now (bits_of m.sheet.now) m.notes.now (form_of m.order.now) store.old diagnosis.old v.place }
+    ensures { Plays m.entry.catalogue.now (bits_of m.entry.sheet.now) m.entry.notes.now (form_of m.entry.order.now) store.old diagnosis.old v store.new diagnosis.new result }
 {
     let place = v.place;
-    let flags = hearing::flags_of(l, place, v.fresh, v.ok);
-    let got = receive(s, l, notes, store, place, flags);
-    let own = own_associates::own_associates(s, notes[place]);
+    let flags = hearing::flags_of(m.order, place, v.fresh, v.ok);
+    let got = receive(m, store, place, flags);
+    let own = own_associates::own_associates(m.sheet, m.notes[place]);
     let told = interpreting::interpret_inherited_annotations(
-        t,
+        m.catalogue,
         place,
         own,
         got,
@@ -91,33 +79,24 @@ fn inherit_annotations(
     );
     let ok = hearing::with_ok(v.ok, place, flags.all, told.clean);
     Played {
-        ok: ok,
+        ok,
         rows: told.rows,
     }
 }
 
 // The types in the order in which they are reached: the count of rows. One past the limit it stays as it is, and so does what
 // is written, so that no type more is played.
-fn play_all(
-    s: &[u8],
-    t: &[u64; 1544],
-    l: &[u64; 577],
-    notes: &[u64; 64],
-    store: &mut [u64],
-    diagnosis: &mut [u8],
-    trail: Trail,
-) -> usize
-    requires addressable { Addressable s.now }
-    requires all_ready { AllReady t.now (bits_of s.now) notes.now (form_of l.now) store.old diagnosis.old trail }
-    ensures { AllPlayed t.now (bits_of s.now) notes.now (form_of l.now) diagnosis.old trail diagnosis.new result }
+fn play_all(m: Tables, store: &mut [u64], diagnosis: &mut [u8], trail: Trail) -> usize
+    requires addressable { Addressable m.sheet.now }
+    requires all_ready { AllReady m.catalogue.now (bits_of m.sheet.now) m.notes.now (form_of m.order.now) store.old diagnosis.old trail }
+    ensures { AllPlayed m.entry.catalogue.now (bits_of m.entry.sheet.now) m.entry.notes.now (form_of m.entry.order.now) diagnosis.old trail diagnosis.new result }
 {
     let count = trail.count;
     let items = trail.items;
     let flags = trail.fresh;
     let mut d = Played { ok: 0, rows: 0 };
-    let mut i: usize = 0;
-    while i < count {
-        if 256 < d.rows {
+    for i in 0..count {
+        if answers::ROWS < d.rows {
             return d.rows;
         }
         let v = Visit {
@@ -126,27 +105,19 @@ fn play_all(
             ok: d.ok,
             rows: d.rows,
         };
-        d = inherit_annotations(s, t, l, notes, store, diagnosis, v);
-        i += 1;
+        d = inherit_annotations(m, store, diagnosis, v);
     }
     d.rows
 }
 
 // The same in a store of 1,601 numbers a type, for 64 types.
-fn play(
-    s: &[u8],
-    t: &[u64; 1544],
-    l: &[u64; 577],
-    notes: &[u64; 64],
-    diagnosis: &mut [u8],
-    trail: Trail,
-) -> usize
-    requires addressable { Addressable s.now }
-    requires ready_in { ReadyIn t.now (bits_of s.now) notes.now (form_of l.now) diagnosis.old trail }
-    ensures { AllPlayed t.now (bits_of s.now) notes.now (form_of l.now) diagnosis.old trail diagnosis.new result }
+fn play(m: Tables, diagnosis: &mut [u8], trail: Trail) -> usize
+    requires addressable { Addressable m.sheet.now }
+    requires ready_in { ReadyIn m.catalogue.now (bits_of m.sheet.now) m.notes.now (form_of m.order.now) diagnosis.old trail }
+    ensures { AllPlayed m.entry.catalogue.now (bits_of m.entry.sheet.now) m.entry.notes.now (form_of m.entry.order.now) diagnosis.old trail diagnosis.new result }
 {
     let mut store = [0u64; 102464];
-    play_all(s, t, l, notes, &mut store, diagnosis, trail)
+    play_all(m, &mut store, diagnosis, trail)
 }
 
 // The rows of refusal 9: at most ROWS are written, and no other byte changes (FORMAT 8.2).
@@ -163,7 +134,13 @@ pub fn apply_associate_annotations(
     ensures { Synthesized t.now (bits_of s.now) notes.now (form_of l.now) diagnosis.old diagnosis.new result.rows result.more }
 {
     let trail = visiting::trail_of(l);
-    let total = play(s, t, l, notes, diagnosis, trail);
+    let tables = Tables {
+        sheet: s,
+        catalogue: t,
+        order: l,
+        notes,
+    };
+    let total = play(tables, diagnosis, trail);
     if answers::ROWS < total {
         return Report {
             rows: answers::ROWS,

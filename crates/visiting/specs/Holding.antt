@@ -4,7 +4,7 @@ use Rattle.std.proofs.Math.Bool.{or-false, and-true, and-false}
 use Rattle.std.proofs.Common.{sym, ap, ◌∙◌, subst, arith, ext_get_or, get_or-take, length-take-le}
 use Rattle.std.specs.Int.Bits.{bit_or}
 use Rattle.rows.specs.Rows.{has_bit}
-use Rattle.rows.specs.RowLaws.{bit-none, bit-one, bit-either, one_shifted}
+use Rattle.rows.specs.RowLaws.{bit-none, bit-one, bit-either}
 use Rattle.ordering.specs.Lists.{tab, tab-length, tab-at, elem, map-tab}
 use Rattle.ordering.specs.declared.Parents.{Parents}
 use Rattle.visiting.specs.Walk.{Stop, spots, walk}
@@ -46,10 +46,6 @@ marked-yes flags i seen t h e =
           bit-either flags (1 * 2 ^ i % 2 ^ 8) j
           ∙ ap (λ (b : Bool). has_bit flags j || b) (ap (λ (n : ℕ). has_bit n j) (byte-shifted i h) ∙ bit-one i j ∙ sym (ap (λ (b : Bool). eqb i j && not b) e ∙ and-true (eqb i j)));
     }
-
-pub pushed-seen : (seen t : ℕ) → t < 64 → (x : ℕ) → has_bit (bit_or seen (1 * 2 ^ t % 2 ^ 64)) x ≡ (has_bit seen x || eqb t x)
-pushed-seen seen t h x =
-    bit-either seen (1 * 2 ^ t % 2 ^ 64) x ∙ ap (λ (b : Bool). has_bit seen x || b) (ap (λ (n : ℕ). has_bit n x) (one_shifted t h) ∙ bit-one t x)
 
 -- ---- the trail that is held
 

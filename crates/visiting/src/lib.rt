@@ -3,13 +3,12 @@
 #![tactic(auto)]
 
 ghost use Rattle.std.specs.Prelude.{◌≡◌, ◌<◌, ◌≤◌};
-ghost use Rattle.rows.specs.Rows.{has_bit};
 ghost use Rattle.order_table.specs.Form.{form_of};
 ghost use Rattle.visiting.specs.Trails.{Orderly, TrailOf};
 ghost use Rattle.visiting.specs.Holding.{Marked, Pushed, Held, ReachedFrom, NothingHeld};
 
 // The places of the types reached, in order; for each, bit i is set if its listing i was the first to
-// reach that parent; and the places seen, as bits.
+// reach that parent; and the places seen, as bits. Arrays beside their count: fixed memory, and no heap.
 #[derive(Clone, Copy)]
 pub struct Trail {
     pub count: usize,
@@ -18,20 +17,12 @@ pub struct Trail {
     pub seen: u64,
 }
 
-// Whether the place t is seen.
-fn is_seen(seen: u64, t: usize) -> bool
-    requires { t < 64 }
-    ensures { result ≡ has_bit seen t }
-{
-    (seen >> t) & 1 == 1
-}
-
 // The flags of the listings so far, with bit i set if place t is not seen yet.
 fn marked(flags: u8, i: usize, seen: u64, t: usize) -> u8
     requires { (i < 8) × (t < 64) }
     ensures { Marked flags i seen t result }
 {
-    if is_seen(seen, t) {
+    if bitsets::has(seen, t) {
         return flags;
     }
     let one: u8 = 1;
@@ -47,15 +38,13 @@ fn pushed(s: Trail, t: usize, flags: u8) -> Trail
     let n = s.count;
     let mut items = s.items;
     let mut fresh = s.fresh;
-    let one: u64 = 1;
-    let bit = one << t;
     items[n] = t as u8;
     fresh[n] = flags;
     Trail {
         count: n + 1,
-        items: items,
-        fresh: fresh,
-        seen: s.seen | bit,
+        items,
+        fresh,
+        seen: bitsets::with_one(s.seen, t),
     }
 }
 
@@ -66,19 +55,17 @@ fn reach(l: &[u64; 577], t: usize, s: Trail) -> Trail
     requires t_bound { (t < (form_of l.now).count) × Held (form_of l.now) s }
     ensures { ReachedFrom (form_of l.now) t s result }
 {
-    if is_seen(s.seen, t) {
+    if bitsets::has(s.seen, t) {
         return s;
     }
     let count = order_table::count_at(l, t);
     let base = 8 * t;
     let mut now = s;
     let mut flags: u8 = 0;
-    let mut i = 0;
-    while i < count {
+    for i in 0..count {
         let place = order_table::place_at(l, base + i);
         flags = marked(flags, i, now.seen, place);
         now = reach(l, place, now);
-        i += 1;
     }
     pushed(now, t, flags)
 }
@@ -91,8 +78,8 @@ fn no_trail() -> Trail
     let fresh = [0u8; 64];
     Trail {
         count: 0,
-        items: items,
-        fresh: fresh,
+        items,
+        fresh,
         seen: 0,
     }
 }
@@ -104,10 +91,8 @@ pub fn trail_of(l: &[u64; 577]) -> Trail
 {
     let types = order_table::types_in(l);
     let mut s = no_trail();
-    let mut t: usize = 0;
-    while t < types {
+    for t in 0..types {
         s = reach(l, t, s);
-        t += 1;
     }
     s
 }

@@ -19,34 +19,7 @@ unfolding less
 loop-i-init c =
     let l : length c.args.x.words ≡ 15 = search rules in
     let m : length c.args.x.doms ≡ 15 = search length-mapped in
-    (omega arith, omega arith, l, m, refl)
-
-pub bounds-words-i : goal.bounds-words-i
-bounds-words-i c = omega arith
-
-pub offset_bounds-doms-i : goal.offset_bounds-doms-i
-offset_bounds-doms-i c = omega arith
-
-pub bounds-doms-i : goal.bounds-doms-i
-bounds-doms-i c = omega arith
-
-pub bounds-out-k : goal.bounds-out-k
-bounds-out-k c = omega arith
-
-pub offset_bounds-sets-k : goal.offset_bounds-sets-k
-offset_bounds-sets-k c = omega arith
-
-pub bounds-sets-k : goal.bounds-sets-k
-bounds-sets-k c = omega arith
-
-pub overflow_add-k : goal.overflow_add-k
-overflow_add-k c = omega arith
-
-pub overflow_add-i : goal.overflow_add-i
-overflow_add-i c = omega arith
-
-pub loop-i-smaller : goal.loop-i-smaller
-loop-i-smaller c = omega arith
+    (omega arith, l, m, refl)
 
 pub loop-i-preserved : goal.loop-i-preserved
 loop-i-preserved c =
@@ -58,13 +31,13 @@ loop-i-preserved c =
     let m : length x.doms ≡ 15 = long (goal.at.loop-i-preserved c).Start in
     let a : i.i < length x.words = omega arith in
     let b : i.i < length x.doms = omega arith in
-    let p : i.k < length i.out = omega (arith, i.invariant.2) in
-    let q : i.k < length i.sets = omega (arith, i.invariant.3) in
-    let e = length-set i.out i.k (get_or x.words i.i 0) ∙ i.invariant.2 in
-    let f = length-set i.sets i.k (get_or x.doms i.i empty) ∙ i.invariant.3 in
+    let p : i.k < length i.out = omega (arith, i.invariant.1) in
+    let q : i.k < length i.sets = omega (arith, i.invariant.2) in
+    let e = length-set i.out i.k (get_or x.words i.i 0) ∙ i.invariant.1 in
+    let f = length-set i.sets i.k (get_or x.doms i.i empty) ∙ i.invariant.2 in
     elim c.if-not-has_word.branch [
-      | then-not-has_word w ↦ rw w.k-is (omega arith, omega arith, e, f, less-kept x.words i.out x.doms i.sets i.k i.i a b p q vs (sym c.has_word.ensures ∙ w.if-not-has_word.true) i.invariant.4)
-      | else-not-has_word w ↦ rw w.k-is (omega arith, omega arith, e, f, less-dropped x.words i.out x.doms i.sets i.k i.i a b p q vs (sym c.has_word.ensures ∙ w.if-not-has_word.false) i.invariant.4)
+      | then-not-has_word w ↦ rw w.k-is (omega arith, e, f, less-kept x.words i.out x.doms i.sets i.k i.i a b p q vs (sym c.has_word.ensures ∙ w.if-not-has_word.true) i.invariant.3)
+      | else-not-has_word w ↦ rw w.k-is (omega arith, e, f, less-dropped x.words i.out x.doms i.sets i.k i.i a b p q vs (sym c.has_word.ensures ∙ w.if-not-has_word.false) i.invariant.3)
     ]
 
 pub returns : goal.returns
@@ -72,11 +45,11 @@ unfolding resources_in
 returns c =
     let x = c.args.x in
     let e : c.loop-i.i ≡ x.count = omega arith in
-    let q : upto c.loop-i.k c.loop-i.out c.loop-i.sets ≡ less (upto x.count x.words x.doms) (resources_in c.args.y) = rw e at c.loop-i.invariant.4 in
+    let q : upto c.loop-i.k c.loop-i.out c.loop-i.sets ≡ less (upto x.count x.words x.doms) (resources_in c.args.y) = rw e at c.loop-i.invariant.3 in
     record {
       resources = q;
       kind = refl;
       tag = refl;
       few = omega arith;
-      count = upto-length c.loop-i.k c.loop-i.out c.loop-i.sets (omega (arith, c.loop-i.invariant.2)) (omega (arith, c.loop-i.invariant.3)) ∙ ap length q;
+      count = upto-length c.loop-i.k c.loop-i.out c.loop-i.sets (omega (arith, c.loop-i.invariant.1)) (omega (arith, c.loop-i.invariant.2)) ∙ ap length q;
     }

@@ -1,5 +1,5 @@
 use mathlib.Core.Path.{◌≡◌}
-use Prim.Native.Nat.{◌-◌, ◌≤◌}
+use Prim.Native.Nat.{◌≤◌}
 use lib.ListN.{length}
 use Rattle.annotations.specs.Reading.{resources_in}
 use Rattle.definitions.specs.Annotations.{less}
@@ -8,11 +8,7 @@ use Rattle.annotations.proofs.less_resources.Given as goal
 
 abbrev pub invariant-loop-i : goal.invariant-loop-i
 invariant-loop-i l =
-    (l.i ≤ l.count)
-    × (l.k ≤ l.i)
+    (l.k ≤ l.i)
     × (length l.out ≡ 15)
     × (length l.sets ≡ 15)
     × (upto l.k l.out l.sets ≡ less (upto l.i l.words l.doms) (resources_in l.y))
-
-abbrev pub decreases-loop-i : goal.decreases-loop-i
-decreases-loop-i l = l.count - l.i

@@ -10,10 +10,7 @@ use Rattle.annotations.proofs.united.Goals as goal
 use Rattle.annotations.proofs.united.Goals.{then-words-j, else-words-j}
 
 pub loop-j-init : goal.loop-j-init
-loop-j-init c = (omega arith, unites-none c.args.d c.args.w c.args.y.words c.args.y.doms)
-
-pub in_either-out-requires : goal.in_either-out-requires
-in_either-out-requires c = tt
+loop-j-init c = unites-none c.args.d c.args.w c.args.y.words c.args.y.doms
 
 pub loop-j-preserved : goal.loop-j-preserved
 loop-j-preserved c =
@@ -25,8 +22,8 @@ loop-j-preserved c =
     let p : i.j < length y.words = omega arith in
     let q : i.j < length y.doms = omega arith in
     elim c.if-words-j.branch [
-      | then-words-j w ↦ rw (w.out-is, w.in_either-out.ensures) (omega arith, unites-yes s.args.d s.args.w y.words y.doms i.out i.j p q w.if-words-j.true i.invariant.1)
-      | else-words-j w ↦ rw w.out-is (omega arith, unites-no s.args.d s.args.w y.words y.doms i.out i.j p q w.if-words-j.false i.invariant.1)
+      | then-words-j w ↦ rw (w.out-is, w.in_either-out.ensures) (unites-yes s.args.d s.args.w y.words y.doms i.out i.j p q w.if-words-j.true i.invariant)
+      | else-words-j w ↦ rw w.out-is (unites-no s.args.d s.args.w y.words y.doms i.out i.j p q w.if-words-j.false i.invariant)
     ]
 
 pub returns : goal.returns
@@ -34,4 +31,4 @@ unfolding resources_in
 returns c =
     let s = c in
     let e : c.loop-j.j ≡ s.args.y.count = omega arith in
-    rw e at (unites-all s.args.d s.args.w s.args.y.words s.args.y.doms c.loop-j.out c.loop-j.j c.loop-j.invariant.1)
+    rw e at (unites-all s.args.d s.args.w s.args.y.words s.args.y.doms c.loop-j.out c.loop-j.j c.loop-j.invariant)

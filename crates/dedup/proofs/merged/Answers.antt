@@ -27,7 +27,7 @@ sound c =
     let s = c in
     let l = c.loop-i in
     let z : length s.args.l.items ≡ 201 = search length-mapped in
-    (apart-among s.args.l.items s.args.l.count l.i zeros s.requires.apart (omega arith) (omega arith), l.invariant.4)
+    (apart-among s.args.l.items s.args.l.count l.i zeros s.requires.apart (omega arith) (omega arith), l.invariant.3)
 
 -- their kinds are among the seven
 kinds : (c : In-loop-i) →
@@ -49,7 +49,7 @@ one-round c =
     let l = c.loop-i in
     let z : length s.args.l.items ≡ 201 = search length-mapped in
     let m : length (merge (take s.args.l.count s.args.l.items) s.args.newcomer) ≤ 200 = merge-length _ _ s.requires.apart s.requires.count_bound.1 in
-    round s.args.l.items l.out _ s.args.l.count l.k l.i l.n zeros (omega arith) (omega arith) l.invariant.2 l.invariant.1 m l.invariant.3
+    round s.args.l.items l.out _ s.args.l.count l.k l.i l.n zeros (omega arith) (omega arith) l.invariant.1 l.invariant.0 m l.invariant.2
 
 -- a round in which the entry has no word of the newcomer
 none-shared : (c : In-loop-i) →
@@ -63,7 +63,7 @@ none-shared c e =
     let l = c.loop-i in
     let z : length s.args.l.items ≡ 201 = search length-mapped in
     let m : length (merge (take s.args.l.count s.args.l.items) s.args.newcomer) ≤ 200 = merge-length _ _ s.requires.apart s.requires.count_bound.1 in
-    passed s.args.l.items l.out _ s.args.l.count l.k l.i l.n zeros (omega arith) (omega arith) l.invariant.2 l.invariant.1 m l.invariant.3 (sound c).0 (sound c).1 e
+    passed s.args.l.items l.out _ s.args.l.count l.k l.i l.n zeros (omega arith) (omega arith) l.invariant.1 l.invariant.0 m l.invariant.2 (sound c).0 (sound c).1 e
 
 -- what the test asks
 tested : (c : After-is_none) →
@@ -90,21 +90,12 @@ after c =
     let z : length s.args.l.items ≡ 201 = search length-mapped in
     let m : length (merge (take s.args.l.count s.args.l.items) s.args.newcomer) ≤ 200 = merge-length _ _ s.requires.apart s.requires.count_bound.1 in
     let t : length (take s.args.l.count s.args.l.items) ≡ s.args.l.count = length-take-le _ _ (omega arith) in
-    last l.out _ (take s.args.l.count s.args.l.items) l.k l.i l.n (omega arith) l.invariant.2 l.invariant.1 m l.invariant.3
+    last l.out _ (take s.args.l.count s.args.l.items) l.k l.i l.n (omega arith) l.invariant.1 l.invariant.0 m l.invariant.2
 
 pub loop-i-init : goal.loop-i-init
 loop-i-init c =
     let l : length c.args.l.items ≡ 201 = search length-mapped in
-    (omega arith, l, omega arith, refl, c.requires.count_bound.1)
-
-pub in_both-words-requires : goal.in_both-words-requires
-in_both-words-requires c = tt
-
-pub is_none-requires : goal.is_none-requires
-is_none-requires c = tt
-
-pub standing-k-requires : goal.standing-k-requires
-standing-k-requires c = tt
+    (l, omega arith, refl, c.requires.count_bound.1)
 
 pub overflow_add-k : goal.overflow_add-k
 overflow_add-k c =
@@ -116,9 +107,6 @@ intersection-both-requires c = let k = kinds (goal.at.intersection-both-requires
 
 pub difference-rest-requires : goal.difference-rest-requires
 difference-rest-requires c = let k = kinds (goal.at.difference-rest-requires c).In-loop-i in omega arith
-
-pub standing-k-requires-else-is_none : goal.standing-k-requires-else-is_none
-standing-k-requires-else-is_none c = tt
 
 pub overflow_add-k-else-is_none : goal.overflow_add-k-else-is_none
 overflow_add-k-else-is_none c = omega (arith, room (goal.at.overflow_add-k-else-is_none c).After-standing-k-else-is_none)
@@ -143,17 +131,14 @@ loop-i-preserved c =
     elim c.if-is_none.branch [
       | then-is_none w ↦
           let r = none-shared (goal.at.loop-i-preserved c).In-loop-i (tested (goal.at.loop-i-preserved c).After-is_none ∙ w.if-is_none.true) in
-          rw (w.out-is, w.n-is, w.k-is, w.standing-k.ensures) (omega arith, r.long, r.most, r.left, i.invariant.4)
+          rw (w.out-is, w.n-is, w.k-is, w.standing-k.ensures) (r.long, r.most, r.left, i.invariant.3)
       | else-is_none w ↦
           let r = one-round (goal.at.loop-i-preserved c).In-loop-i in
           let z = sound (goal.at.loop-i-preserved c).In-loop-i in
           let o : length (unless_empty (inter a i.n)) ≡ 1 = share-one a i.n z.0 z.1 (tested (goal.at.loop-i-preserved c).After-is_none ∙ w.if-is_none.false) in
           rw (w.out-is, w.n-is, w.k-is, w.standing-k-else-is_none.ensures, w.difference-rest.ensures, w.difference-n.ensures, w.intersection-both.ensures)
-          (omega (arith, c.loop-i-test.true), r.long, rw o at r.second, rw o at r.left, sound-diff i.n a z.1 z.0)
+          (r.long, rw o at r.second, rw o at r.left, sound-diff i.n a z.1 z.0)
     ]
-
-pub standing-k-requires-2 : goal.standing-k-requires-2
-standing-k-requires-2 c = tt
 
 pub overflow_add-k-2 : goal.overflow_add-k-2
 unfolding entries_of

@@ -1,5 +1,5 @@
 use mathlib.Core.Path.{◌≡◌}
-use Prim.Native.Nat.{◌-◌, ◌≤◌}
+use Prim.Native.Nat.{◌≤◌}
 use lib.ListN.{length, take, drop}
 use Rattle.dedup.specs.Entries.{merge, Sound}
 use Rattle.dedup.specs.MergeLaws.{Left}
@@ -7,11 +7,7 @@ use Rattle.dedup.proofs.merged.Given as goal
 
 abbrev pub invariant-loop-i : goal.invariant-loop-i
 invariant-loop-i l =
-    (l.i ≤ l.count)
-    × (length l.out ≡ 201)
+    (length l.out ≡ 201)
     × (l.k ≤ 200)
     × Left l.out l.k (drop l.i (take l.count l.l.items)) l.n (merge (take l.count l.l.items) l.initial.n)
     × Sound l.n
-
-abbrev pub decreases-loop-i : goal.decreases-loop-i
-decreases-loop-i l = l.count - l.i

@@ -18,6 +18,6 @@ returns c =
     let s = c in
     let a = s.args in
     let l = long (goal.at.returns c).After-put_row-arg-1 in
-    subst (λ (z : List ℕ). Keeps (makings_in a.made.now a.count) a.word a.doms a.parents (makings_in (set z (6 * a.count + 5) a.parents) (a.count + 1)))
+    subst (λ (z : List ℕ). Keeps (makings_in a.made.now a.count) a.word a.origin.doms a.origin.parents (makings_in (set z (6 * a.count + 5) a.origin.parents) (a.count + 1)))
     (sym c.put_row.ensures)
-    (keeps-more a.made.now a.count a.word a.doms a.parents (omega (arith, l, length-set a.made.now (6 * a.count) a.word)))
+    (keeps-more a.made.now a.count a.word a.origin.doms a.origin.parents (omega (arith, l, length-set a.made.now (6 * a.count) a.word)))

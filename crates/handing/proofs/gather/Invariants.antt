@@ -1,11 +1,7 @@
-use Prim.Native.Nat.{◌≤◌, ◌-◌}
 use Rattle.definitions.specs.Bits.{bits_of}
 use Rattle.order_table.specs.Form.{form_of}
 use Rattle.handing.specs.Steps.{Gathering}
 use Rattle.handing.proofs.gather.Given as goal
 
 abbrev pub invariant-loop-i : goal.invariant-loop-i
-invariant-loop-i l = (l.i ≤ l.count) × Gathering (form_of l.l) (bits_of l.s) l.notes l.store l.t l.flags l.i l.out
-
-abbrev pub decreases-loop-i : goal.decreases-loop-i
-decreases-loop-i l = l.count - l.i
+invariant-loop-i l = Gathering (form_of l.l) (bits_of l.s) l.notes l.store l.t l.flags l.i l.out

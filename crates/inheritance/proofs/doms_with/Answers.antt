@@ -15,40 +15,13 @@ word c = c.requires.below c.loop-i.i c.loop-i-test.true
 pub loop-i-init : goal.loop-i-init
 loop-i-init c =
     let l : length c.args.doms ≡ 200 = search length-mapped in
-    (omega arith, l, λ w b. refl)
-
-pub bounds-words-i : goal.bounds-words-i
-bounds-words-i c = omega (arith, c.requires.few)
-
-pub overflow_cast-w : goal.overflow_cast-w
-overflow_cast-w c = omega (arith, word (goal.at.overflow_cast-w c).In-loop-i)
-
-pub offset_bounds-out-w : goal.offset_bounds-out-w
-offset_bounds-out-w c = omega (arith, word (goal.at.offset_bounds-out-w c).In-loop-i)
+    (l, λ w b. refl)
 
 pub bounds-out-w : goal.bounds-out-w
 bounds-out-w c = word (goal.at.bounds-out-w c).In-loop-i
 
-pub offset_bounds-given-i : goal.offset_bounds-given-i
-offset_bounds-given-i c = omega (arith, c.requires.few)
-
-pub bounds-given-i : goal.bounds-given-i
-bounds-given-i c = omega (arith, c.requires.few)
-
-pub in_either-z-requires : goal.in_either-z-requires
-in_either-z-requires c = tt
-
-pub offset_bounds-out-w-in-loop-i : goal.offset_bounds-out-w-in-loop-i
-offset_bounds-out-w-in-loop-i c = omega (arith, word (goal.at.offset_bounds-out-w-in-loop-i c).In-loop-i)
-
 pub bounds-out-w-in-loop-i : goal.bounds-out-w-in-loop-i
 bounds-out-w-in-loop-i c = word (goal.at.bounds-out-w-in-loop-i c).In-loop-i
-
-pub overflow_add-i : goal.overflow_add-i
-overflow_add-i c = omega (arith, c.requires.few)
-
-pub loop-i-smaller : goal.loop-i-smaller
-loop-i-smaller c = omega arith
 
 pub loop-i-preserved : goal.loop-i-preserved
 loop-i-preserved c =
@@ -58,9 +31,8 @@ loop-i-preserved c =
     let l : length a.words ≡ 15 = search rules in
     let m : length a.doms ≡ 15 = search length-mapped in
     rw c.in_either-z.ensures (
-      omega arith,
-      length-set i.out (get_or a.words i.i 0) _ ∙ i.invariant.1,
-      first_step s.args.doms a.words a.doms i.out a.count i.i i.invariant.1 c.loop-i-test.true (omega (arith, s.requires.few)) (omega (arith, s.requires.few)) s.requires.ascending (word (goal.at.loop-i-preserved c).In-loop-i) i.invariant.2,
+      length-set i.out (get_or a.words i.i 0) _ ∙ i.invariant.0,
+      first_step s.args.doms a.words a.doms i.out a.count i.i i.invariant.0 c.loop-i-test.true (omega (arith, s.requires.few)) (omega (arith, s.requires.few)) s.requires.ascending (word (goal.at.loop-i-preserved c).In-loop-i) i.invariant.1,
     )
 
 pub returns : goal.returns
@@ -71,4 +43,4 @@ returns c =
     let l : length a.words ≡ 15 = search rules in
     let m : length a.doms ≡ 15 = search length-mapped in
     let e : i.i ≡ a.count = omega arith in
-    record { words = omega (arith, s.requires.few); doms = omega (arith, s.requires.few); at = rw e at i.invariant.2 }
+    record { words = omega (arith, s.requires.few); doms = omega (arith, s.requires.few); at = rw e at i.invariant.1 }

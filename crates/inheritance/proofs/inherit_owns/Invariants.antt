@@ -1,7 +1,6 @@
 use mathlib.Core.Bool.{true}
 use mathlib.Core.List.{List, map}
 use mathlib.Core.Path.{◌≡◌}
-use Prim.Native.Nat.{◌-◌, ◌≤◌}
 use lib.ListN.{take}
 use Rattle.lists.specs.Lists.{ascends}
 use Rattle.definitions.specs.Records.{Name}
@@ -11,11 +10,7 @@ use Rattle.dedup.specs.Reading.{names_at, inherited_of, Good}
 use Rattle.inheritance.specs.Own.{handed}
 use Rattle.inheritance.proofs.inherit_owns.Given as goal
 
-abbrev pub invariant-loop-i : goal.invariant-loop-i
-invariant-loop-i l =
-    (l.i ≤ l.count)
-    × Good l.out
-    × ((names : List Name) → ascends name_before names ≡ true → inherited_of names l.out ≡ dedup_onto (inherited_of names l.initial.out) (map (handed (names_at names l.parent)) (take l.i l.own)))
-
-abbrev pub decreases-loop-i : goal.decreases-loop-i
-decreases-loop-i l = l.count - l.i
+abbrev pub invariant-loop-a : goal.invariant-loop-a
+invariant-loop-a l =
+    Good l.out
+    × ((names : List Name) → ascends name_before names ≡ true → inherited_of names l.out ≡ dedup_onto (inherited_of names l.initial.out) (map (handed (names_at names l.parent)) (take l.a-index l.own)))

@@ -1,16 +1,13 @@
 use mathlib.Core.Bool.{not}
-use mathlib.Core.Path.{ap}
+use mathlib.Core.Path.{sym, ap, ◌∙◌}
 use Prim.Native.Nat.{ℕ}
-use borrow.Author.Tests.{lt-ltb, le-ltb}
-use native.Mathlib.Omega.{arith}
 use Rattle.catalogue.specs.Catalogue.{is_resource_head}
+use Rattle.interpretation.specs.JudgedLaws.{other-place, other-none}
 use Rattle.interpretation.proofs.is_other.Goals as goal
 
--- src/lib.rt:63:9
-pub returns-then-place-lt64 : goal.returns-then-place-lt64
+pub returns-in-Some : goal.returns-in-Some
 unfolding is_resource_head
-returns-then-place-lt64 c = rw (lt-ltb c.args.place 64 (omega arith)) (ap (λ (x : ℕ). not (is_resource_head x)) c.head_at.ensures)
+returns-in-Some c = ap (λ (x : ℕ). not (is_resource_head x)) c.head_at.ensures ∙ other-place _ _ _ _ (sym c.in-Some.ensures)
 
--- src/lib.rt:59:1
-pub returns : goal.returns
-returns c = rw (le-ltb c.args.place 64 (omega arith))
+pub returns-in-None : goal.returns-in-None
+returns-in-None c = other-none _ _ _ (sym c.in-None.ensures)

@@ -1,14 +1,8 @@
-use mathlib.Core.List.{List}
-use mathlib.Core.Logic.{⊎_elim}
-use mathlib.Core.Path.{◌≡◌, sym, ◌∙◌, subst}
-use Prim.Native.Nat.{ℕ, ◌-◌, ◌≤◌, ◌<◌, min}
-use native.Mathlib.Omega.{arith}
-use borrow.Author.Rules.{rules}
+use Prim.Native.Nat.{ℕ, ◌-◌, ◌≤◌, min}
 use Rattle.rows.specs.declared.Row.{Row}
 use Rattle.dedup.specs.declared.Entry.{Entry}
-use Rattle.associates.specs.Step.{Reached, reached}
-use Rattle.interpreting.specs.Entry.{interpret_entry}
-use Rattle.interpreting.specs.EntryLaws.{Going, going_start, going-skipped, going-walk, going-taken, going-room, going_end}
+use Rattle.associates.specs.Step.{reached}
+use Rattle.interpreting.specs.EntryLaws.{Going}
 use Rattle.interpreting.proofs.interpret_associate.Given as goal
 
 -- an entry of these words and parents: what comes of it does not depend on its kind

@@ -2,7 +2,6 @@ use mathlib.Core.Path.{refl}
 use native.Mathlib.Omega.{arith}
 use Rattle.interpreting.specs.Annotations.{type_reached}
 use Rattle.interpreting.specs.AnnotationsLaws.{all_then, type-done, type-nothing}
-use borrow.Author.Rules.{rules}
 use Rattle.interpreting.proofs.interpret_inherited_annotations.Goals as goal
 
 pub returns-then-h-eq0 : goal.returns-then-h-eq0

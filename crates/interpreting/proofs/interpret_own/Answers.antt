@@ -4,7 +4,6 @@ use Rattle.inheritance.specs.Own.{DomsWith}
 use Rattle.interpreting.specs.Annotations.{type_reached, as_own}
 use Rattle.interpreting.specs.AnnotationsLaws.{all_none, all-as, all-entry}
 use Rattle.interpreting.specs.OwnLaws.{own-resources, own-size, plain-one, plain-none, names-none}
-use borrow.Author.Rules.{rules}
 use Rattle.interpreting.proofs.interpret_own.Goals as goal
 
 pub returns-then-a-ne1 : goal.returns-then-a-ne1

@@ -1,7 +1,6 @@
 use Rattle.associates.specs.Step.{reached}
 use Rattle.interpreting.specs.Annotations.{type_reached}
 use Rattle.interpreting.specs.AnnotationsLaws.{entry-with}
-use borrow.Author.Rules.{rules}
 use Rattle.interpreting.proofs.with_entry.Goals as goal
 
 pub returns : goal.returns

@@ -7,46 +7,24 @@ use Rattle.store.specs.Store.{row_at}
 use Rattle.store.specs.StoreLaws.{fetched-row}
 use Rattle.store.proofs.doms_at.Goals as goal
 
-pub no_doms-doms-requires : goal.no_doms-doms-requires
-no_doms-doms-requires c = tt
-
 pub loop-w-init : goal.loop-w-init
 loop-w-init c =
     let l : length c.no_doms-doms.result ≡ 200 = search length-mapped in
-    (omega arith, l, λ j h. absurd (native.Mathlib.Nat.not-suc-le-zero h))
-
-pub overflow_mul-w : goal.overflow_mul-w
-overflow_mul-w c = omega (arith, c.requires)
-
-pub overflow_add-at : goal.overflow_add-at
-overflow_add-at c = omega (arith, c.requires)
+    (l, λ j h. absurd (native.Mathlib.Nat.not-suc-le-zero h))
 
 pub row_at-r-requires : goal.row_at-r-requires
 row_at-r-requires c = let p = c.requires in (omega (arith, p.0), p.1)
-
-pub offset_bounds-doms-w : goal.offset_bounds-doms-w
-offset_bounds-doms-w c = omega (arith, c.requires)
-
-pub bounds-doms-w : goal.bounds-doms-w
-bounds-doms-w c = omega (arith, c.requires)
-
-pub overflow_add-w : goal.overflow_add-w
-overflow_add-w c = omega (arith, c.requires)
-
-pub loop-w-smaller : goal.loop-w-smaller
-loop-w-smaller c = omega (arith, c.requires)
 
 pub loop-w-preserved : goal.loop-w-preserved
 loop-w-preserved c =
     let s = c in
     let i = c.loop-w in
     rw c.row_at-r.ensures (
-      omega arith,
-      length-set i.doms i.w (row_at s.args.s.now (s.args.at + 4 * i.w)) ∙ i.invariant.1,
-      fetched-row s.args.s.now s.args.at i.w i.doms (omega (arith, i.invariant.1)) i.invariant.2,
+      length-set i.doms i.w (row_at s.args.s.now (s.args.at + 4 * i.w)) ∙ i.invariant.0,
+      fetched-row s.args.s.now s.args.at i.w i.doms (omega (arith, i.invariant.0)) i.invariant.1,
     )
 
 pub returns : goal.returns
 returns c =
     let i = c.loop-w in
-    λ w l. i.invariant.2 w (omega arith)
+    λ w l. i.invariant.1 w (omega arith)

@@ -7,47 +7,25 @@ use Rattle.store.specs.Store.{entry_at}
 use Rattle.store.specs.StoreLaws.{fetched-step}
 use Rattle.store.proofs.entries_at.Goals as goal
 
-pub no_entries-items-requires : goal.no_entries-items-requires
-no_entries-items-requires c = tt
-
 pub loop-i-init : goal.loop-i-init
 loop-i-init c =
     let l : length c.no_entries-items.result ≡ 201 = search length-mapped in
-    (omega arith, l, λ j h. absurd (native.Mathlib.Nat.not-suc-le-zero h))
-
-pub overflow_mul-i : goal.overflow_mul-i
-overflow_mul-i c = omega (arith, c.requires)
-
-pub overflow_add-at : goal.overflow_add-at
-overflow_add-at c = omega (arith, c.requires)
+    (l, λ j h. absurd (native.Mathlib.Nat.not-suc-le-zero h))
 
 pub entry_at-e-requires : goal.entry_at-e-requires
 entry_at-e-requires c = let p = c.requires in (omega (arith, p.0, p.2), p.1)
-
-pub offset_bounds-items-i : goal.offset_bounds-items-i
-offset_bounds-items-i c = omega (arith, c.requires)
-
-pub bounds-items-i : goal.bounds-items-i
-bounds-items-i c = omega (arith, c.requires)
-
-pub overflow_add-i : goal.overflow_add-i
-overflow_add-i c = omega (arith, c.requires)
-
-pub loop-i-smaller : goal.loop-i-smaller
-loop-i-smaller c = omega (arith, c.requires)
 
 pub loop-i-preserved : goal.loop-i-preserved
 loop-i-preserved c =
     let s = c in
     let i = c.loop-i in
     rw c.entry_at-e.ensures (
-      omega arith,
-      length-set i.items i.i (entry_at s.args.s.now (s.args.at + 4 * i.i)) ∙ i.invariant.1,
-      fetched-step s.args.s.now s.args.at i.i i.items (omega (arith, s.requires.2, i.invariant.1)) i.invariant.2,
+      length-set i.items i.i (entry_at s.args.s.now (s.args.at + 4 * i.i)) ∙ i.invariant.0,
+      fetched-step s.args.s.now s.args.at i.i i.items (omega (arith, s.requires.2, i.invariant.0)) i.invariant.1,
     )
 
 pub returns : goal.returns
 returns c =
     let i = c.loop-i in
     let e : i.i ≡ c.args.count = omega arith in
-    (refl, rw e at i.invariant.2)
+    (refl, rw e at i.invariant.1)

@@ -1,20 +1,25 @@
+use mathlib.Core.Path.{ap, ◌∙◌}
 use native.Mathlib.Omega.{arith}
 use lib.Count.{trailing_le}
+use Rattle.synth_classes.specs.Classes.{place_if}
 use Rattle.synth_classes.specs.ClassLaws.{place-first, place-second, place-there}
 use Rattle.synth_classes.proofs.place_of.Goals as goal
+use Rattle.synth_classes.proofs.place_of.Goals.{then-width-first-via-then-width-first, then-width-first-via-else-width-first+then-width-second}
 
--- src/lib.rt:20:9
 pub returns-then-width-first : goal.returns-then-width-first
-returns-then-width-first c = (place-first _ _ _ (omega arith) (omega (arith, c.width_in-width.ensures)), omega arith)
+returns-then-width-first c =
+    let a = c.args in
+    elim c.then-width-first.branch [
+      | then-width-first-via-then-width-first w ↦ ap place_if (place-first a.t.now a.first a.second (omega arith) (omega (arith, c.width_in-width.ensures)))
+      | then-width-first-via-else-width-first+then-width-second w ↦
+          ap place_if (place-second a.t.now a.first a.second (omega arith) (omega (arith, c.width_in-width.ensures)))
+    ]
 
--- src/lib.rt:23:9
-pub returns-then-width-second : goal.returns-then-width-second
-returns-then-width-second c = (place-second _ _ _ (omega arith) (omega (arith, c.width_in-width.ensures)), omega arith)
+pub overflow_cast-place : goal.overflow_cast-place
+overflow_cast-place c = omega (arith, trailing_le 64 c.type_of-set.result)
 
--- src/lib.rt:26:5
-pub overflow_cast-result : goal.overflow_cast-result
-overflow_cast-result c = omega (arith, trailing_le 64 c.type_of-set.result)
-
--- src/lib.rt:14:1
 pub returns : goal.returns
-returns c = (place-there _ _ _ _ (omega arith) (omega (arith, c.width_in-width.ensures)) (omega (arith, c.width_in-width.ensures)) c.type_of-set.ensures, trailing_le 64 _)
+returns c =
+    let a = c.args in
+    c.then_some.ensures
+    ∙ ap place_if (place-there a.t.now a.first a.second _ (omega arith) (omega (arith, c.width_in-width.ensures)) (omega (arith, c.width_in-width.ensures)) c.type_of-set.ensures)

@@ -1,7 +1,6 @@
-use mathlib.Core.Path.{◌≡◌, sym, ap, subst, ◌∙◌}
+use mathlib.Core.Path.{ap, ◌∙◌}
 use Prim.Native.Nat.{ℕ, ◌+◌, ◌*◌}
 use native.Mathlib.Omega.{arith}
-use borrow.Author.Rules.{rules}
 use lib.ListN.{drop}
 use Rattle.definitions.specs.Bits.{bits_of, num}
 use Rattle.synth_places.specs.PlaceLaws.{place-low, none-there, some-there}

@@ -1,11 +1,10 @@
 use mathlib.Core.Bool.{not}
-use mathlib.Core.Path.{ap}
-use native.Mathlib.Omega.{arith}
-use borrow.Author.Tests.{lt-ltb, le-ltb}
+use mathlib.Core.Path.{sym, ap, ◌∙◌}
+use Rattle.synth_same.specs.SameLaws.{real-some, real-none}
 use Rattle.synth_same.proofs.is_real.Goals as goal
 
-pub returns-then-place-lt64 : goal.returns-then-place-lt64
-returns-then-place-lt64 c = rw (lt-ltb c.args.place 64 (omega arith)) (ap not c.is_virtual.ensures)
+pub returns-in-Some : goal.returns-in-Some
+returns-in-Some c = ap not c.is_virtual.ensures ∙ real-some _ _ _ _ (sym c.in-Some.ensures)
 
-pub returns : goal.returns
-returns c = rw (le-ltb c.args.place 64 (omega arith))
+pub returns-in-None : goal.returns-in-None
+returns-in-None c = real-none _ _ _ (sym c.in-None.ensures)

@@ -1,10 +1,6 @@
-use Prim.Native.Nat.{◌-◌, ◌≤◌}
 use Rattle.synth_same.specs.Same.{bits_in}
 use Rattle.synth_same.specs.SameLaws.{Alike}
 use Rattle.synth_same.proofs.same_marks.Given as goal
 
 abbrev pub invariant-loop-i : goal.invariant-loop-i
-invariant-loop-i l = (l.i ≤ l.n) × Alike (bits_in l.t l.d l.word) (bits_in l.t l.e l.word) l.i
-
-abbrev pub decreases-loop-i : goal.decreases-loop-i
-decreases-loop-i l = l.n - l.i
+invariant-loop-i l = Alike (bits_in l.t l.d l.word) (bits_in l.t l.e l.word) l.i

@@ -1,9 +1,8 @@
-use native.Mathlib.Omega.{arith}
-use Rattle.synth_same.specs.FirstLaws.{few-types, most-types}
+use Rattle.std.specs.Prelude.{ℕ, min}
+use mathlib.Core.Path.{ap, ◌∙◌}
+use Rattle.synth_same.specs.Same.{count_of}
 use Rattle.synth_same.proofs.type_count.Goals as goal
 
-pub returns-then-count-lt64 : goal.returns-then-count-lt64
-returns-then-count-lt64 c = few-types _ _ c.count_in-count.ensures (omega arith)
-
 pub returns : goal.returns
-returns c = most-types _ _ c.count_in-count.ensures (omega arith)
+unfolding count_of
+returns c = c.min.ensures ∙ ap (λ (n : ℕ). min n 64) c.count_in.ensures

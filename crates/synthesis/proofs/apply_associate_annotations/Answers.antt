@@ -1,5 +1,4 @@
 use native.Mathlib.Omega.{arith}
-use borrow.Author.Rules.{rules}
 use Rattle.visiting.specs.Ranks.{orderly}
 use Rattle.synthesis.specs.SynthesisLaws.{ready-in, synthesized-few, synthesized-many}
 use Rattle.synthesis.proofs.apply_associate_annotations.Goals as goal

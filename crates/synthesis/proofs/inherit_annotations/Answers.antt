@@ -1,5 +1,4 @@
 use native.Mathlib.Omega.{arith}
-use borrow.Author.Rules.{rules}
 use Rattle.ordering.specs.Reading.{valid}
 use Rattle.synthesis.specs.PlayLaws.{flagged-by, turn-ready, turn_below, turn_low, turn-fits, type-ready, plays}
 use Rattle.synthesis.proofs.inherit_annotations.Goals as goal
@@ -15,11 +14,11 @@ receive-got-requires c =
     let g = c.flags_of-flags in
     record { addressable = s.requires.addressable; ready = turn-ready _ _ _ _ _ _ _ s.requires.turn; flagged = flagged-by _ _ _ _ _ g.ensures }
 
-pub offset_bounds-notes-place : goal.offset_bounds-notes-place
-offset_bounds-notes-place c = omega (arith, turn_low _ _ _ _ _ _ _ c.requires.turn)
+pub offset_bounds-m-place : goal.offset_bounds-m-place
+offset_bounds-m-place c = omega (arith, turn_low _ _ _ _ _ _ _ c.requires.turn)
 
-pub bounds-notes-place : goal.bounds-notes-place
-bounds-notes-place c = turn_low _ _ _ _ _ _ _ c.requires.turn
+pub bounds-m-place : goal.bounds-m-place
+bounds-m-place c = turn_low _ _ _ _ _ _ _ c.requires.turn
 
 pub own_associates-own-requires : goal.own_associates-own-requires
 own_associates-own-requires c =

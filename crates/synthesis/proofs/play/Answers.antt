@@ -1,5 +1,4 @@
 use Prim.Native.Nat.{ℕ}
-use borrow.Author.Rules.{rules}
 use lib.ListN.{length-replicate}
 use Rattle.synthesis.proofs.play.Goals as goal
 

@@ -27,30 +27,15 @@ placed t c =
     let s = c in
     rw c.place_at-place.ensures (parent-rank (form_of s.args.l.now) s.requires.orderly s.args.t s.requires.t_bound.0 s.args.s c.loop-i.i (listing t c.before).0)
 
-pub is_seen-requires : goal.is_seen-requires
-is_seen-requires t c = omega (arith, c.requires.orderly.valid.types, c.requires.t_bound.0)
-
-pub returns-then-is_seen : goal.returns-then-is_seen
-returns-then-is_seen t c =
+pub returns-then-has : goal.returns-then-has
+returns-then-has t c =
     let s = c in
-    reached-seen (form_of s.args.l.now) s.requires.orderly s.args.t s.requires.t_bound.0 s.args.s s.requires.t_bound.1 (sym c.is_seen.ensures ∙ c.if-is_seen.true)
-
-pub count_at-count-requires : goal.count_at-count-requires
-count_at-count-requires t c = let s = c in omega (arith, s.requires.orderly.valid.types, s.requires.t_bound.0)
-
-pub overflow_mul-base : goal.overflow_mul-base
-overflow_mul-base t c = let s = c in omega (arith, s.requires.orderly.valid.types, s.requires.t_bound.0)
+    reached-seen (form_of s.args.l.now) s.requires.orderly s.args.t s.requires.t_bound.0 s.args.s s.requires.t_bound.1 (sym c.has.ensures ∙ c.if-has.true)
 
 pub loop-i-init : goal.loop-i-init
 loop-i-init t c =
     let s = c in
-    (omega arith, going-none (form_of s.args.l.now) s.requires.orderly s.args.t s.requires.t_bound.0 s.args.s s.requires.t_bound.1)
-
-pub overflow_add-base : goal.overflow_add-base
-overflow_add-base t c = let s = c in omega (arith, s.requires.orderly.valid.types, s.requires.t_bound.0, (listing t (goal.at.overflow_add-base t c).In-loop-i).1)
-
-pub place_at-place-requires : goal.place_at-place-requires
-place_at-place-requires t c = let s = c in omega (arith, s.requires.orderly.valid.types, s.requires.t_bound.0, (listing t (goal.at.place_at-place-requires t c).In-loop-i).1)
+    going-none (form_of s.args.l.now) s.requires.orderly s.args.t s.requires.t_bound.0 s.args.s s.requires.t_bound.1
 
 pub marked-flags-requires : goal.marked-flags-requires
 marked-flags-requires t c =
@@ -61,13 +46,7 @@ pub reach-now-requires : goal.reach-now-requires
 reach-now-requires t c =
     let s = c in
     let r = placed t (goal.at.reach-now-requires t c).After-place_at-place in
-    (omega (arith, c.decreases, r.1), (s.requires.orderly, (r.0, c.loop-i.invariant.1.held)))
-
-pub overflow_add-i : goal.overflow_add-i
-overflow_add-i t c = omega (arith, (listing t (goal.at.overflow_add-i t c).In-loop-i).1)
-
-pub loop-i-smaller : goal.loop-i-smaller
-loop-i-smaller t c = omega arith
+    (omega (arith, c.decreases, r.1), (s.requires.orderly, (r.0, c.loop-i.invariant.held)))
 
 pub loop-i-preserved : goal.loop-i-preserved
 loop-i-preserved t c =
@@ -76,17 +55,17 @@ loop-i-preserved t c =
     let e = c.place_at-place.ensures in
     let m = rw e at c.marked-flags.ensures in
     let r = rw e at c.reach-now.ensures in
-    (omega arith, going_more (form_of s.args.l.now) s.requires.orderly s.args.t s.requires.t_bound.0 s.args.s l.i l.now c.reach-now.result l.flags c.marked-flags.result (listing t (goal.at.loop-i-preserved t c).In-loop-i).0 l.invariant.1 m r)
+    going_more (form_of s.args.l.now) s.requires.orderly s.args.t s.requires.t_bound.0 s.args.s l.i l.now c.reach-now.result l.flags c.marked-flags.result (listing t (goal.at.loop-i-preserved t c).In-loop-i).0 l.invariant m r
 
 pub pushed-requires : goal.pushed-requires
 pushed-requires t c =
     let s = c in
     let l = c.loop-i in
     let p = form_of s.args.l.now in
-    let n : has_bit s.args.s.seen s.args.t ≡ false = sym c.is_seen.ensures ∙ c.if-is_seen.false in
+    let n : has_bit s.args.s.seen s.args.t ≡ false = sym c.has.ensures ∙ c.if-has.false in
     let e : l.i ≡ how_many p s.args.t = omega (arith, c.count_at-count.ensures) in
-    let a = going-standing p s.requires.orderly s.args.t s.requires.t_bound.0 s.args.s l.i l.now l.flags e s.requires.t_bound.1 n l.invariant.1 in (
-      omega (arith, room p s.requires.orderly l.now s.args.t l.invariant.1.held a, s.requires.orderly.valid.types),
+    let a = going-standing p s.requires.orderly s.args.t s.requires.t_bound.0 s.args.s l.i l.now l.flags e s.requires.t_bound.1 n l.invariant in (
+      omega (arith, room p s.requires.orderly l.now s.args.t l.invariant.held a, s.requires.orderly.valid.types),
       omega (arith, s.requires.orderly.valid.types, s.requires.t_bound.0),
     )
 
@@ -95,6 +74,6 @@ returns t c =
     let s = c in
     let l = c.loop-i in
     let p = form_of s.args.l.now in
-    let n : has_bit s.args.s.seen s.args.t ≡ false = sym c.is_seen.ensures ∙ c.if-is_seen.false in
+    let n : has_bit s.args.s.seen s.args.t ≡ false = sym c.has.ensures ∙ c.if-has.false in
     let e : l.i ≡ how_many p s.args.t = omega (arith, c.count_at-count.ensures) in
-    reached-new p s.requires.orderly s.args.t s.requires.t_bound.0 s.args.s l.i l.now c.pushed.result l.flags e s.requires.t_bound.1 n l.invariant.1 c.pushed.ensures
+    reached-new p s.requires.orderly s.args.t s.requires.t_bound.0 s.args.s l.i l.now c.pushed.result l.flags e s.requires.t_bound.1 n l.invariant c.pushed.ensures

@@ -2,12 +2,12 @@ use mathlib.Core.Path.{sym, ◌∙◌}
 use Rattle.visiting.specs.Holding.{marked-no, marked-yes}
 use Rattle.visiting.proofs.marked.Goals as goal
 
-pub returns-then-is_seen : goal.returns-then-is_seen
-returns-then-is_seen c =
+pub returns-then-has : goal.returns-then-has
+returns-then-has c =
     let s = c in
-    marked-no s.args.flags s.args.i s.args.seen s.args.t (sym c.is_seen.ensures ∙ c.if-is_seen.true)
+    marked-no s.args.flags s.args.i s.args.seen s.args.t (sym c.has.ensures ∙ c.if-has.true)
 
 pub returns : goal.returns
 returns c =
     let s = c in
-    marked-yes s.args.flags s.args.i s.args.seen s.args.t s.requires.0 (sym c.is_seen.ensures ∙ c.if-is_seen.false)
+    marked-yes s.args.flags s.args.i s.args.seen s.args.t s.requires.0 (sym c.has.ensures ∙ c.if-has.false)

@@ -1,8 +1,9 @@
-use mathlib.Core.Path.{refl}
-use Rattle.visiting.specs.Holding.{pushed-seen}
+use Rattle.std.proofs.Common.{refl, ap, ◌∙◌}
+use Rattle.rows.specs.Rows.{has_bit}
+use Rattle.bitsets.specs.BitLaws.{bit-more}
 use Rattle.visiting.proofs.pushed.Goals as goal
 
 pub returns : goal.returns
 returns c =
-    let s = c in
-    record { count = refl; items = refl; fresh = refl; seen = pushed-seen s.args.s.seen s.args.t s.requires.1 }
+    let a = c.args in
+    record { count = refl; items = refl; fresh = refl; seen = λ x. ap (λ n. has_bit n x) c.with_one.ensures ∙ bit-more a.s.seen a.t x }

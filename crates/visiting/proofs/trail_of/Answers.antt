@@ -9,34 +9,22 @@ use Rattle.visiting.proofs.trail_of.Goals.{In-loop-t}
 trying : (c : In-loop-t) → c.loop-t.t < (form_of c.args.l.now).count
 trying c = omega (arith, c.types_in-types.ensures, c.loop-t-test.true)
 
-pub types_in-types-requires : goal.types_in-types-requires
-types_in-types-requires c = tt
-
-pub no_trail-s-requires : goal.no_trail-s-requires
-no_trail-s-requires c = tt
-
 pub loop-t-init : goal.loop-t-init
 loop-t-init c =
     let s = c in
-    (omega arith, trying-none (form_of s.args.l.now) s.requires c.no_trail-s.result c.no_trail-s.ensures)
+    trying-none (form_of s.args.l.now) s.requires c.no_trail-s.result c.no_trail-s.ensures
 
 pub reach-s-requires : goal.reach-s-requires
-reach-s-requires c = record { orderly = c.requires; t_bound = (trying (goal.at.reach-s-requires c).In-loop-t, c.loop-t.invariant.1.held) }
-
-pub overflow_add-t : goal.overflow_add-t
-overflow_add-t c = omega (arith, trying (goal.at.overflow_add-t c).In-loop-t, c.requires.valid.types)
-
-pub loop-t-smaller : goal.loop-t-smaller
-loop-t-smaller c = omega arith
+reach-s-requires c = record { orderly = c.requires; t_bound = (trying (goal.at.reach-s-requires c).In-loop-t, c.loop-t.invariant.held) }
 
 pub loop-t-preserved : goal.loop-t-preserved
 loop-t-preserved c =
     let s = c in
     let l = c.loop-t in
-    (omega arith, trying-more (form_of s.args.l.now) s.requires l.t l.s c.reach-s.result (trying (goal.at.loop-t-preserved c).In-loop-t) l.invariant.1 c.reach-s.ensures)
+    trying-more (form_of s.args.l.now) s.requires l.t l.s c.reach-s.result (trying (goal.at.loop-t-preserved c).In-loop-t) l.invariant c.reach-s.ensures
 
 pub returns : goal.returns
 returns c =
     let s = c in
     let l = c.loop-t in
-    tried-all (form_of s.args.l.now) s.requires l.t l.s (omega (arith, c.types_in-types.ensures)) l.invariant.1
+    tried-all (form_of s.args.l.now) s.requires l.t l.s (omega (arith, c.types_in-types.ensures)) l.invariant

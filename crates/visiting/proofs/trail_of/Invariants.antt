@@ -1,10 +1,6 @@
-use Prim.Native.Nat.{◌≤◌, ◌-◌}
 use Rattle.order_table.specs.Form.{form_of}
 use Rattle.visiting.specs.Going.{Trying}
 use Rattle.visiting.proofs.trail_of.Given as goal
 
 abbrev pub invariant-loop-t : goal.invariant-loop-t
-invariant-loop-t l = (l.t ≤ l.types) × Trying (form_of l.l) l.t l.s
-
-abbrev pub decreases-loop-t : goal.decreases-loop-t
-decreases-loop-t l = l.types - l.t
+invariant-loop-t l = Trying (form_of l.l) l.t l.s
