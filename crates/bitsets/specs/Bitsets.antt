@@ -1,5 +1,5 @@
 -- Sets of numbers below 64 as one number each.
-use Rattle.std.specs.Prelude.{true, false, ◌&&◌, not, List, ◌≡◌, ℕ, ◌-◌, ◌^◌, ◌<◌, min, eqb}
+use Rattle.std.specs.Prelude.{true, false, ◌&&◌, not, List, Option, MatchOption, ◌≡◌, ℕ, ◌-◌, ◌^◌, ◌<◌, min, eqb}
 use Rattle.std.specs.Int.Bits.{bit_and, bit_or, bit_xor}
 use Rattle.ordering.specs.Lists.{below}
 use Rattle.rows.specs.Rows.{has_bit}
@@ -18,6 +18,10 @@ pub record Lowest (set k : ℕ) : Type 0 where
 pub record Rest (set r : ℕ) : Type 0 where
   pub less : r < set
   pub bits : (k : ℕ) → Lowest set k → (j : ℕ) → has_bit r j ≡ (has_bit set j && not (eqb j k))
+
+-- A turn of a walk over what is left of a set: its lowest number, and then the rest is left; or none.
+abbrev pub Walks : ℕ → Option ℕ → ℕ → Type 0
+Walks set r left = MatchOption r ((set ≡ 0) × (left ≡ 0)) (λ k. Lowest set k × Rest set left)
 
 -- A set with one number more.
 unfoldable pub more : ℕ → ℕ → ℕ

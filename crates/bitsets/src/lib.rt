@@ -2,7 +2,8 @@
 #![tactic(auto)]
 
 ghost use Rattle.std.specs.Prelude.{◌≡◌, ◌<◌};
-ghost use Rattle.bitsets.specs.Bitsets.{Lowest, Rest, more, less, first_bits};
+ghost use Rattle.std.specs.Iterator.{item_count};
+ghost use Rattle.bitsets.specs.Bitsets.{members, Lowest, Rest, Walks, more, less, first_bits};
 ghost use Rattle.rows.specs.Rows.{has_bit};
 
 // Whether k stands in a set.
@@ -56,4 +57,34 @@ pub fn first(count: u64) -> u64
         return bit - 1;
     }
     18446744073709551615
+}
+
+// A walk over a set: its numbers, ascending.
+#[derive(Drop)]
+pub struct Walk {
+    pub left: u64,
+}
+
+impl Iterator for Walk {
+    type Item = usize;
+
+    ghost next_gives = { λ s r t. Walks s.left r t.left };
+
+    ghost remaining = { item_count (λ s. members s.left) };
+
+    fn next(&mut self) -> Option<usize> {
+        if self.left == 0 {
+            return None;
+        }
+        let k = lowest(self.left);
+        self.left = rest(self.left);
+        Some(k)
+    }
+}
+
+// The numbers of a set, ascending.
+pub fn members(set: u64) -> Walk
+    ensures { result.left ≡ set }
+{
+    Walk { left: set }
 }

@@ -1,9 +1,10 @@
 -- What the diagnosis of refusal 8 leaves, for every map that the compact form reads.
-use Rattle.std.specs.Prelude.{Bool, true, false, ◌≡◌, refl, ℕ, zero, suc, ◌+◌, ◌*◌, ◌≤◌, ◌<◌, min, ltb, length, take}
+use Rattle.std.specs.Prelude.{Bool, ◌≡◌, refl, ℕ, zero, suc, ◌+◌, ◌*◌, ◌≤◌, min, ltb, length, take}
 use mathlib.Core.List.{List, [], ◌∷◌, ◌++◌, map, cons≢nil}
-use Rattle.std.proofs.Common.{sym, ap, ap₂, ◌∙◌, arith, lt-ltb, le-ltb}
+use Rattle.std.proofs.Common.{sym, ap, ap₂, ◌∙◌, arith, lt-ltb, le-ltb, ltb-true, ltb-false}
 use Rattle.std.proofs.lemmas.List.{length-map}
 use Rattle.lists.specs.Lists.{each}
+use Rattle.lists.specs.Tests.{by}
 use Rattle.definitions.specs.Map.{TypeMap}
 use Rattle.definitions.specs.OrderRows as rules
 use Rattle.definitions.specs.Packing.{row_bytes}
@@ -47,16 +48,12 @@ module _ (p : Parents) (limit : ℕ) (old new : List ℕ) (n : ℕ) (h : 6 * lim
   pub as_many : (m : TypeMap) → Reads p m → length (rules.order_rows m) ≡ length (order_rows p)
   as_many m r = sym (length-map (rules.order_rows m) row_bytes) ∙ ap length (rows_are p m r) ∙ length-map (order_rows p) bytes
 
-  pub few : n ≤ limit → Reported p limit old new n false
-  few l = record {
+  pub reported : Reported p limit old new (min n limit) (ltb limit n)
+  reported = record {
     written = as_written;
     counted = λ m r. omega (arith, as_many m r, total);
-    rest = λ m r. sym (le-ltb limit (length (rules.order_rows m)) (omega (arith, as_many m r, total)));
-  }
-
-  pub many : limit < n → Reported p limit old new limit true
-  many l = record {
-    written = as_written;
-    counted = λ m r. omega (arith, as_many m r, total);
-    rest = λ m r. sym (lt-ltb limit (length (rules.order_rows m)) (omega (arith, as_many m r, total)));
+    rest = λ m r.
+        by (ltb limit n)
+        (λ t. t ∙ sym (lt-ltb limit (length (rules.order_rows m)) (omega (arith, as_many m r, total, ltb-true limit n t))))
+        (λ t. t ∙ sym (le-ltb limit (length (rules.order_rows m)) (omega (arith, as_many m r, total, ltb-false limit n t))));
   }

@@ -1,5 +1,5 @@
 -- What a step of the search goes by, and what it finds.
-use Rattle.std.specs.Prelude.{true, false, ◌&&◌, not, List, [], ◌∷◌, ◌++◌, map, ◌≡◌, refl, ℕ, suc, ◌+◌, ◌*◌, ◌≤◌, ◌<◌, ltb, length, get_or}
+use Rattle.std.specs.Prelude.{true, false, ◌&&◌, not, List, [], ◌∷◌, ◌++◌, map, ◌≡◌, refl, ℕ, suc, ◌+◌, ◌*◌, ◌≤◌, ◌<◌, ltb, length, get_or, Option, MatchOption}
 use Rattle.std.proofs.Common.{append-nil, ap, ◌∙◌, zero-le, arith, ltb-true}
 use Rattle.std.proofs.Math.Path.{sym}
 use Rattle.std.proofs.lemmas.Bool.{not-false}
@@ -31,6 +31,10 @@ pub record At (p : Parents) (out t path : ℕ) : Type 0 where
   pub here : has_bit path t ≡ false
   pub left : has_bit out t ≡ false
   pub others : (x : ℕ) → has_bit path x ≡ true → has_bit out x ≡ false
+
+-- the place of the first bad parent, if there is one
+abbrev pub FirstBad : Parents → ℕ → ℕ → Option ℕ → Type 0
+FirstBad p path t r = MatchOption r (how_many p t ≤ place_of (bad p path) (listed p t)) (λ i. (i < how_many p t) × (i ≡ place_of (bad p path) (listed p t)))
 
 pub listed_at : (p : Parents) (t i : ℕ) (d : Parent) → i < how_many p t → get_or (listed p t) i d ≡ parent_at p (8 * t + i)
 unfolding listed

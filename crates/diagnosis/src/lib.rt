@@ -3,24 +3,18 @@
 #![tactic(auto)]
 
 ghost use Rattle.std.specs.Prelude.{◌≡◌, ◌&&◌, not, ◌<◌, ◌≤◌, ◌*◌, ◌+◌, length};
-ghost use Rattle.lists.specs.Lists.{null, place_of};
+ghost use Rattle.lists.specs.Lists.{null};
 ghost use Rattle.ordering.specs.Reading.{Valid, parent_at, listed};
 ghost use Rattle.ordering.specs.Rounds.{placed, final, lists_self};
 ghost use Rattle.order_table.specs.Form.{form_of};
 ghost use Rattle.order_placed.specs.Placing.{off};
 ghost use Rattle.diagnosis.specs.Rows.{parent_row, bad, bad_kind, rows, no_parent_rows, self_rows_of, self_rows, order_rows};
 ghost use Rattle.diagnosis.specs.Emit.{emit, emit1};
-ghost use Rattle.diagnosis.specs.Walk.{Stage, At};
+ghost use Rattle.diagnosis.specs.Walk.{Stage, At, FirstBad};
+ghost use Rattle.emitting.specs.Row.{number_of};
 ghost use Rattle.diagnosis.specs.Reported.{Reported};
 
-use emitting::Row;
-
-// How many rows were written, and whether there are more.
-#[derive(Clone, Copy)]
-pub struct Report {
-    pub rows: usize,
-    pub more: bool,
-}
+use emitting::{Kind, Report, Row};
 
 // Writes the row of type t and a listed parent.
 fn put_parent_row(
@@ -28,56 +22,48 @@ fn put_parent_row(
     buf: &mut [u8],
     limit: usize,
     n: usize,
-    kind: u8,
+    kind: Kind,
     t: usize,
     at: usize,
 ) -> usize
     requires { (6 * limit ≤ length buf.old) × (t < 64) × (at < 512) }
-    ensures { (buf.new, result) ≡ emit1 limit (buf.old, n) (parent_row kind (form_of l.now) t (parent_at (form_of l.now) at)) }
+    ensures { (buf.new, result) ≡ emit1 limit (buf.old, n) (parent_row (number_of kind) (form_of l.now) t (parent_at (form_of l.now) at)) }
 {
+    let subject = order_table::name_at(l, t);
+    let parent = order_table::parent_name_at(l, at);
     let row = Row {
-        kind: kind,
-        first: order_table::first_at(l, t),
-        second: order_table::second_at(l, t),
-        other_first: order_table::parent_first_at(l, at),
-        other_second: order_table::parent_second_at(l, at),
+        kind: kind.number(),
+        first: subject.first,
+        second: subject.second,
+        other_first: parent.first,
+        other_second: parent.second,
         word: 255,
     };
     emitting::put_row(buf, limit, n, row)
 }
 
 // Kind 2 where the bad parent is declared, since it is on the path then; otherwise kind 3 (FORMAT 8.4).
-fn bad_kind(l: &[u64; 577], at: usize) -> u8
+fn bad_kind(l: &[u64; 577], at: usize) -> Kind
     requires { at < 512 }
-    ensures { result ≡ bad_kind (form_of l.now) (parent_at (form_of l.now) at) }
+    ensures { number_of result ≡ bad_kind (form_of l.now) (parent_at (form_of l.now) at) }
 {
     if order_table::place_at(l, at) < order_table::types_in(l) {
-        return 2;
+        return Kind::ClosesCycle;
     }
-    3
+    Kind::UndeclaredParent
 }
 
-// How many parents stand before the first bad one: one that is undeclared or on the path, where the type itself stands too
-// (FORMAT 8.4).
-fn first_bad(l: &[u64; 577], t: usize, path: u64) -> usize
+// The place of the first bad parent: one that is undeclared or on the path, where the type itself stands too (FORMAT 8.4).
+fn first_bad(l: &[u64; 577], t: usize, path: u64) -> Option<usize>
     requires valid { Valid (form_of l.now) }
     requires t_bound { t < (form_of l.now).count }
-    ensures { result ≡ place_of (bad (form_of l.now) path) (listed (form_of l.now) t) }
+    ensures { FirstBad (form_of l.now) path t result }
 {
     let types = order_table::types_in(l);
-    let count = order_table::count_at(l, t);
-    let mut i: usize = 0;
-    while i < count {
+    (0..order_table::count_at(l, t)).position(|i| {
         let place = order_table::place_at(l, 8 * t + i);
-        if place >= types {
-            return i;
-        }
-        if bitsets::has(path, place) {
-            return i;
-        }
-        i += 1;
-    }
-    count
+        place >= types || bitsets::has(path, place)
+    })
 }
 
 // Writes the rows of type t, which the path leads to, from place n on (FORMAT 8.4). The path is passed by value (01: 'Path
@@ -100,22 +86,17 @@ fn find_cycles_or_bad_types(
     if limit < n {
         return n;
     }
-    let count = order_table::count_at(l, t);
     let here = bitsets::with_one(path, t);
-    let first = first_bad(l, t, here);
-    if first < count {
-        let at = 8 * t + first;
-        let kind = bad_kind(l, at);
-        return put_parent_row(l, buf, limit, n, kind, t, at);
+    if let Some(i) = first_bad(l, t, here) {
+        let at = 8 * t + i;
+        return put_parent_row(l, buf, limit, n, bad_kind(l, at), t, at);
     }
     let mut total = n;
-    let mut i: usize = 0;
-    while i < count {
+    for i in 0..order_table::count_at(l, t) {
         let place = order_table::place_at(l, 8 * t + i);
         if !bitsets::has(placed, place) {
             total = find_cycles_or_bad_types(l, placed, place, here, buf, limit, total);
         }
-        i += 1;
     }
     total
 }
@@ -131,14 +112,11 @@ fn generate_type_no_parent_errors(
     requires limit_in_bounds { 6 * limit ≤ length buf.old }
     ensures { (buf.new, result) ≡ emit limit (buf.old, 0) (no_parent_rows (form_of l.now) (final (form_of l.now))) }
 {
-    let types = order_table::types_in(l);
     let mut total: usize = 0;
-    let mut t: usize = 0;
-    while t < types {
+    for t in 0..order_table::types_in(l) {
         if !bitsets::has(placed, t) {
             total = find_cycles_or_bad_types(l, placed, t, 0, buf, limit, total);
         }
-        t += 1;
     }
     total
 }
@@ -149,15 +127,12 @@ fn put_self_rows(l: &[u64; 577], t: usize, buf: &mut [u8], limit: usize, n: usiz
     requires t_bound { (t < (form_of l.now).count) × (6 * limit ≤ length buf.old) }
     ensures { (buf.new, result) ≡ emit limit (buf.old, n) (self_rows_of (form_of l.now) t (listed (form_of l.now) t)) }
 {
-    let count = order_table::count_at(l, t);
     let mut total = n;
-    let mut i: usize = 0;
-    while i < count {
+    for i in 0..order_table::count_at(l, t) {
         let at = 8 * t + i;
         if order_table::is_self_at(l, at) {
-            total = put_parent_row(l, buf, limit, total, 1, t, at);
+            total = put_parent_row(l, buf, limit, total, Kind::ListsSelf, t, at);
         }
-        i += 1;
     }
     total
 }
@@ -168,12 +143,9 @@ fn self_errors(l: &[u64; 577], buf: &mut [u8], limit: usize) -> usize
     requires limit_in_bounds { 6 * limit ≤ length buf.old }
     ensures { (buf.new, result) ≡ emit limit (buf.old, 0) (self_rows (form_of l.now)) }
 {
-    let types = order_table::types_in(l);
     let mut total: usize = 0;
-    let mut t: usize = 0;
-    while t < types {
+    for t in 0..order_table::types_in(l) {
         total = put_self_rows(l, t, buf, limit, total);
-        t += 1;
     }
     total
 }
@@ -184,9 +156,7 @@ fn self_stands(l: &[u64; 577]) -> bool
     requires { Valid (form_of l.now) }
     ensures { result ≡ (lists_self (form_of l.now) && not (null (placed (form_of l.now) 1))) }
 {
-    let listed = order_placed::inherits_self(l);
-    let ready = order_placed::first_places(l);
-    listed & ready
+    order_placed::inherits_self(l) && order_placed::first_places(l)
 }
 
 // Writes the rows of the diagnosis and counts them to one past the limit.
@@ -210,14 +180,8 @@ pub fn diagnose(l: &[u64; 577], buf: &mut [u8], limit: usize) -> Report
     ensures { Reported (form_of l.now) limit buf.old buf.new result.rows result.more }
 {
     let total = order_errors(l, buf, limit);
-    if limit < total {
-        return Report {
-            rows: limit,
-            more: true,
-        };
-    }
     Report {
-        rows: total,
-        more: false,
+        rows: total.min(limit),
+        more: limit < total,
     }
 }

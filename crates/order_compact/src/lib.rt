@@ -9,7 +9,8 @@ ghost use Rattle.order_table.specs.Form.{form_of};
 ghost use Rattle.order_compact.specs.Compact.{PlaceIs, Drafts, TypePut};
 ghost use Rattle.order_compact.specs.Reading.{Compacts};
 
-// The place of the type that has a key; `count` where none has it (FORMAT 1.5).
+// The place of the type that has a key; `count` where none has it (FORMAT 1.5). It is a number of the table, which has no other mark for
+// none.
 fn place_of(t: &[u64; 1544], key: u64, count: usize) -> usize
     requires { (key < 65536) × (count ≤ 64) }
     ensures { PlaceIs (looked t.now key) count result × (result ≤ 64) }
@@ -31,12 +32,10 @@ fn put_type(l: &mut [u64; 577], t: &[u64; 1544], d: &[u64; 704], row: usize, a: 
     let many = sheet_draft::parent_count_at(d, row);
     let name = sheet_draft::key_at(d, row);
     order_table::put_type(l, a, name, many);
-    let mut k: usize = 0;
-    while k < many {
+    for k in 0..many {
         let key = sheet_draft::parent_at(d, row, k);
         let place = place_of(t, key, count);
         order_table::put_parent(l, 8 * a + k, key, place);
-        k += 1;
     }
 }
 
@@ -54,10 +53,8 @@ pub fn fill(
     ensures { Compacts t.now d.now entries.now count self_word (form_of l.new) }
 {
     order_table::put_types(l, count, self_word);
-    let mut a: usize = 0;
-    while a < count {
+    for a in 0..count {
         let row = (entries[a] % 64) as usize;
         put_type(l, t, d, row, a, count);
-        a += 1;
     }
 }

@@ -1,6 +1,6 @@
 -- The names one by one, and the parts of what is written.
-use Rattle.std.specs.Prelude.{Bool, true, false, List, [], ◌∷◌, ◌++◌, ◌≡◌, refl, ℕ, zero, suc, ◌+◌, ◌*◌, ◌-◌, ◌/◌, ◌%◌, ◌≤◌, ◌<◌, eqb, length, get_or, drop}
-use Rattle.std.proofs.Common.{sym, ap, ap₂, ◌∙◌, add-one, arith, eqb-true, length-append}
+use Rattle.std.specs.Prelude.{Bool, true, false, List, [], ◌∷◌, ◌++◌, ◌≡◌, refl, ℕ, zero, suc, ◌+◌, ◌*◌, ◌-◌, ◌/◌, ◌%◌, ◌≤◌, ◌<◌, eqb, ltb, length, get_or, drop, Ok, Err}
+use Rattle.std.proofs.Common.{sym, ap, ap₂, ◌∙◌, add-one, arith, eqb-true, lt-ltb, le-ltb, length-append}
 use Rattle.std.proofs.lemmas.Bool.{eqb-false}
 use Rattle.lists.specs.Lists.{each}
 use Rattle.lists.specs.Tabulating.{tabulate, length-tabulate, each_next}
@@ -18,6 +18,9 @@ use Rattle.item_pen.specs.Pen.{fresh, RoomFor, Adds}
 use Rattle.item_pen.specs.PenLaws.{adds_then, room-head, room-tail}
 use Rattle.item_fields.specs.FieldLaws.{name-alone, name-paired}
 use Rattle.item_making.specs.Walks.{from_next, from_end}
+use Rattle.answers.specs.Answers.{parts}
+use Rattle.answers.specs.declared.Refusal.TheVariants.{ShortListing}
+use Rattle.order_listing.specs.Listing.{Listing}
 use Rattle.order_listing.specs.Order.{name_of, names_in, names_bits, order_in}
 
 -- the bits from the i-th name on
@@ -114,3 +117,16 @@ module _ (buf t order : List ℕ) (n : ℕ) (small : n ≤ 64) (h : length (orde
           let a = adds_then w v in
           let k : to_bits 7 n ++ names_bits t order n ≡ order_in t order n = sym (order-parts t order n) in
           record { holds = a.penned.holds ∙ ap (put buf 0) k; next = a.penned.next ∙ ap (λ (y : List Bool). 0 + length y) k }
+
+-- ---- 10 and acceptance
+
+module _ (entry exit : List ℕ) (bs : List Bool) (n : ℕ) (e : n ≡ size (length bs)) where
+  pub listing-short : length entry < n → exit ≡ entry → Listing entry exit bs (Err (ShortListing n))
+  listing-short h w =
+      let k : ltb (length entry) (size (length bs)) ≡ true = lt-ltb (length entry) (size (length bs)) (omega (arith, e, h)) in
+      record { answer = rw k (ap (λ (x : ℕ). parts 10 x 0 false) e); listing = rw k w }
+
+  pub listing-written : n ≤ length entry → exit ≡ overwrite (pack bs) entry → Listing entry exit bs (Ok n)
+  listing-written h w =
+      let k : ltb (length entry) (size (length bs)) ≡ false = le-ltb (length entry) (size (length bs)) (omega (arith, e, h)) in
+      record { answer = rw k (ap (λ (x : ℕ). parts 0 x 0 false) e); listing = rw k w }

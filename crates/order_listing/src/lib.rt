@@ -9,14 +9,8 @@ ghost use Rattle.item_pen.specs.Pen.{RoomFor, Adds};
 ghost use Rattle.order_listing.specs.Listing.{Listing};
 ghost use Rattle.order_listing.specs.Order.{names_bits, order_in, Placed};
 
+use answers::{Answer, Refusal};
 use item_pen::Pen;
-
-// Whether the listing was too short, and the size of what the call writes (FORMAT 7.4).
-#[derive(Clone, Copy)]
-pub struct Listed {
-    pub short: bool,
-    pub size: usize,
-}
 
 // How many bits a name has (FORMAT 2.5).
 fn name_size(key: u64) -> usize
@@ -34,11 +28,9 @@ fn names_size(t: &[u64; 1544], order: &[u64; 64], n: usize) -> usize
     ensures { (result ≡ length (names_bits t.now order.now n)) × (result ≤ 17 * n) }
 {
     let mut bits: usize = 0;
-    let mut i: usize = 0;
-    while i < n {
+    for i in 0..n {
         let key = catalogue::key_at(t, order[i] as usize);
         bits += name_size(key);
-        i += 1;
     }
     bits
 }
@@ -50,11 +42,9 @@ pub fn add_names(buf: &mut [u8], pen: Pen, t: &[u64; 1544], order: &[u64; 64], n
     ensures { Adds buf.old buf.new pen result 0 (names_bits t.now order.now n) }
 {
     let mut to = pen;
-    let mut i: usize = 0;
-    while i < n {
+    for i in 0..n {
         let key = catalogue::key_at(t, order[i] as usize);
         to = item_pen::add(buf, to, item_fields::name_field(key));
-        i += 1;
     }
     to
 }
@@ -70,15 +60,15 @@ fn write_bits(buf: &mut [u8], t: &[u64; 1544], order: &[u64; 64], n: usize) -> u
     names.at
 }
 
-// Writes the order and names its size. Nothing is touched where the listing is too short; then the size is what is needed (FORMAT 7.4).
-pub fn write_order(listing: &mut [u8], t: &[u64; 1544], order: &[u64; 64], n: usize) -> Listed
+// Writes the order, and answers its size: acceptance. Nothing is touched where the listing is too short: 10, with the size that is needed (FORMAT 7.4).
+pub fn write_order(listing: &mut [u8], t: &[u64; 1544], order: &[u64; 64], n: usize) -> Answer
     requires { Placed order.now n }
     ensures { Listing listing.old listing.new (order_in t.now order.now n) result }
 {
     let size = (names_size(t, order, n) + 14) / 8;
     if listing.len() < size {
-        return Listed { short: true, size };
+        return Err(Refusal::ShortListing(size));
     }
     write_bits(listing, t, order, n);
-    Listed { short: false, size }
+    Ok(size)
 }

@@ -4,7 +4,8 @@
 ghost use Rattle.std.specs.Prelude.{◌&&◌, not, ◌≡◌, ◌<◌, eqb, length};
 ghost use Rattle.order_parents.specs.Parents.{KeysOf, Prepared, ParentsOf, ParentsPut};
 
-// A set of parents; and whether each name that was listed for it is that of a declared type, and not `self`.
+// A set of parents; and whether each name that was listed for it is that of a declared type, and not `self`. The set has the declared
+// parents also where some name is not.
 #[derive(Clone, Copy)]
 pub struct Found {
     pub set: u64,
@@ -15,10 +16,7 @@ pub struct Found {
 fn is_known(place: u64, key: u64, own: u64) -> bool
     ensures { result ≡ (not (eqb place 0) && not (eqb key own)) }
 {
-    if place == 0 {
-        return false;
-    }
-    key != own
+    place != 0 && key != own
 }
 
 // The parents of the type in a row of the draft; `own` is the key of the name `self`.
@@ -26,16 +24,13 @@ fn parents_of(t: &[u64; 1544], d: &[u64; 704], row: usize, own: u64) -> Found
     requires { KeysOf d.now row }
     ensures { ParentsOf t.now d.now row own result }
 {
-    let count = sheet_draft::parent_count_at(d, row);
     let mut set: u64 = 0;
     let mut whole = true;
-    let mut k: usize = 0;
-    while k < count {
+    for k in 0..sheet_draft::parent_count_at(d, row) {
         let key = sheet_draft::parent_at(d, row, k);
         let place = catalogue::type_of(t, key);
-        set = set | place;
-        whole = whole & is_known(place, key, own);
-        k += 1;
+        set |= place;
+        whole &= is_known(place, key, own);
     }
     Found { set, whole }
 }
@@ -55,14 +50,12 @@ pub fn put_parents(
 {
     let mut set: u64 = 0;
     let mut whole = true;
-    let mut a: usize = 0;
-    while a < count {
+    for a in 0..count {
         let row = (entries[a] % 64) as usize;
         let found = parents_of(t, d, row, own);
         catalogue::put_parents(t, a, found.set);
-        set = set | found.set;
-        whole = whole & found.whole;
-        a += 1;
+        set |= found.set;
+        whole &= found.whole;
     }
     Found { set, whole }
 }

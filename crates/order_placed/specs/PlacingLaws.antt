@@ -1,5 +1,5 @@
 -- The set that free types join one by one is what the rounds place.
-use Rattle.std.specs.Prelude.{Bool, false, ◌&&◌, ◌||◌, ◌⊎◌, ◌≡◌, eqb, ltb, length}
+use Rattle.std.specs.Prelude.{Bool, false, ◌&&◌, ◌||◌, ◌≡◌, eqb, ltb, length}
 use Rattle.std.proofs.Math.Bool.{true, not, or-false, or-true}
 use mathlib.Core.List.{List, [], ◌∷◌, ◌++◌}
 use Rattle.std.proofs.Common.{inl, inr, ⊎_elim, sym, ◌∙◌, arith}

@@ -15,15 +15,7 @@ fn lists_self(l: &[u64; 577], t: usize) -> bool
     requires t_bound { t < (form_of l.now).count }
     ensures { result ≡ any (self_in (form_of l.now)) (listed (form_of l.now) t) }
 {
-    let count = order_table::count_at(l, t);
-    let mut i: usize = 0;
-    while i < count {
-        if order_table::is_self_at(l, 8 * t + i) {
-            return true;
-        }
-        i += 1;
-    }
-    false
+    (0..order_table::count_at(l, t)).any(|i| order_table::is_self_at(l, 8 * t + i))
 }
 
 // Whether a parent is listed as `self`.
@@ -31,15 +23,7 @@ pub fn inherits_self(l: &[u64; 577]) -> bool
     requires { Valid (form_of l.now) }
     ensures { result ≡ lists_self (form_of l.now) }
 {
-    let types = order_table::types_in(l);
-    let mut t: usize = 0;
-    while t < types {
-        if lists_self(l, t) {
-            return true;
-        }
-        t += 1;
-    }
-    false
+    (0..order_table::types_in(l)).any(|t| lists_self(l, t))
 }
 
 // Whether type t lists no parent but `self`, which holds no type back (FORMAT 3.4).
@@ -48,15 +32,7 @@ fn lists_only_self(l: &[u64; 577], t: usize) -> bool
     requires t_bound { t < (form_of l.now).count }
     ensures { result ≡ all (self_in (form_of l.now)) (listed (form_of l.now) t) }
 {
-    let count = order_table::count_at(l, t);
-    let mut i: usize = 0;
-    while i < count {
-        if !order_table::is_self_at(l, 8 * t + i) {
-            return false;
-        }
-        i += 1;
-    }
-    true
+    (0..order_table::count_at(l, t)).all(|i| order_table::is_self_at(l, 8 * t + i))
 }
 
 // Whether round one places a type.
@@ -64,15 +40,7 @@ pub fn first_places(l: &[u64; 577]) -> bool
     requires { Valid (form_of l.now) }
     ensures { result ≡ not (null (placed (form_of l.now) 1)) }
 {
-    let types = order_table::types_in(l);
-    let mut t: usize = 0;
-    while t < types {
-        if lists_only_self(l, t) {
-            return true;
-        }
-        t += 1;
-    }
-    false
+    (0..order_table::types_in(l)).any(|t| lists_only_self(l, t))
 }
 
 // Whether type t is not placed, and each parent of it is a type that is.
@@ -85,19 +53,10 @@ fn is_free(l: &[u64; 577], t: usize, out: u64) -> bool
         return false;
     }
     let types = order_table::types_in(l);
-    let count = order_table::count_at(l, t);
-    let mut i: usize = 0;
-    while i < count {
+    (0..order_table::count_at(l, t)).all(|i| {
         let place = order_table::place_at(l, 8 * t + i);
-        if place >= types {
-            return false;
-        }
-        if !bitsets::has(out, place) {
-            return false;
-        }
-        i += 1;
-    }
-    true
+        place < types && bitsets::has(out, place)
+    })
 }
 
 // The placed types, with those that are free when their turn comes. A type joins at once, and not at the end of a round: the set
@@ -108,12 +67,10 @@ fn place_more(l: &[u64; 577], from: u64) -> u64
 {
     let types = order_table::types_in(l);
     let mut out = from;
-    let mut t: usize = 0;
-    while t < types {
+    for t in 0..types {
         if is_free(l, t, out) {
             out = bitsets::with_one(out, t);
         }
-        t += 1;
     }
     out
 }

@@ -8,7 +8,8 @@ ghost use Rattle.order_rounds.specs.Stepped.{Stepped};
 ghost use Rattle.order_rounds.specs.Organized.{Asked, Organized};
 
 // Whether each parent stands among the first n of the order. The scan ends where one does not (01: 'the first parent not
-// placed'). It begins with the type that was placed last, since a parent is rarely placed many rounds before.
+// placed'). It begins with the type that was placed last, since a parent is rarely placed many rounds before. 01 names the labelled,
+// nested loop.
 fn all_placed(parents: u64, order: &[u64; 64], n: usize) -> bool
     requires { (length order.now ≡ 64) × (n ≤ 64) }
     ensures { result ≡ all_listed_in parents (take n order.now) }
@@ -39,14 +40,11 @@ fn ready_in(t: &[u64; 1544], types: u64, last: u64, order: &[u64; 64], n: usize)
     ensures { ReadyIn t.now types (take n order.now) result }
 {
     let mut out: u64 = 0;
-    let mut left = types;
-    while left != 0 {
-        let a = bitsets::lowest(left);
+    for a in bitsets::members(types) {
         let others = bitsets::without(catalogue::parents_at(t, a), last);
         if all_placed(others, order, n) {
             out = bitsets::with_one(out, a);
         }
-        left = bitsets::rest(left);
     }
     out
 }
@@ -57,11 +55,8 @@ fn add_child(children: &mut [u64; 64], parents: u64, a: usize)
     requires a_bound { a < 64 }
     ensures { ChildAdded children.old children.new parents a }
 {
-    let mut left = parents;
-    while left != 0 {
-        let p = bitsets::lowest(left);
+    for p in bitsets::members(parents) {
         children[p] = bitsets::with_one(children[p], a);
-        left = bitsets::rest(left);
     }
 }
 
@@ -72,14 +67,12 @@ fn put_children(t: &[u64; 1544], count: usize, children: &mut [u64; 64]) -> u64
     ensures { ChildrenPut t.now count children.new result }
 {
     let mut out: u64 = 0;
-    let mut a: usize = 0;
-    while a < count {
+    for a in 0..count {
         let parents = catalogue::parents_at(t, a);
         add_child(children, parents, a);
         if parents == 0 {
             out = bitsets::with_one(out, a);
         }
-        a += 1;
     }
     out
 }
@@ -99,13 +92,10 @@ fn append(order: &mut [u64; 64], n: usize, types: u64, children: &[u64; 64]) -> 
 {
     let mut near: u64 = 0;
     let mut at = n;
-    let mut left = types;
-    while left != 0 {
-        let a = bitsets::lowest(left);
+    for a in bitsets::members(types) {
         order[at] = a as u64;
-        near = near | children[a];
+        near |= children[a];
         at += 1;
-        left = bitsets::rest(left);
     }
     Step { count: at, near }
 }

@@ -30,17 +30,22 @@ fn number_of(x: u64) -> usize
     (x / 65536) as usize
 }
 
-// The words of a key, 255 for none.
-fn first_of(x: u64) -> u8
-    ensures { result ≡ first_of x }
-{
-    (x / 256 % 256) as u8
+// A name, 255 for a word that it lacks.
+#[derive(Clone, Copy)]
+pub struct Name {
+    pub first: u8,
+    pub second: u8,
 }
 
-fn second_of(x: u64) -> u8
-    ensures { result ≡ second_of x }
+// The name that a key stands for.
+fn name_of(x: u64) -> Name
+    ensures first { result.first ≡ first_of x }
+    ensures second { result.second ≡ second_of x }
 {
-    ((x % 256 + 255) % 256) as u8
+    Name {
+        first: (x / 256 % 256) as u8,
+        second: ((x % 256 + 255) % 256) as u8,
+    }
 }
 
 // How many types there are.
@@ -58,19 +63,13 @@ pub fn count_at(l: &[u64; 577], t: usize) -> usize
     number_of(l[t])
 }
 
-// The words of the name of type t.
-pub fn first_at(l: &[u64; 577], t: usize) -> u8
+// The name of type t.
+pub fn name_at(l: &[u64; 577], t: usize) -> Name
     requires { t < 64 }
-    ensures { result ≡ get_or (form_of l.now).firsts t 0 }
+    ensures first { result.first ≡ get_or (form_of l.now).firsts t 0 }
+    ensures second { result.second ≡ get_or (form_of l.now).seconds t 0 }
 {
-    first_of(l[t])
-}
-
-pub fn second_at(l: &[u64; 577], t: usize) -> u8
-    requires { t < 64 }
-    ensures { result ≡ get_or (form_of l.now).seconds t 0 }
-{
-    second_of(l[t])
+    name_of(l[t])
 }
 
 // The place of a listed parent: parent i of type t stands at 8 * t + i.
@@ -81,19 +80,13 @@ pub fn place_at(l: &[u64; 577], at: usize) -> usize
     number_of(l[LISTED + at])
 }
 
-// The words of its name.
-pub fn parent_first_at(l: &[u64; 577], at: usize) -> u8
+// Its name.
+pub fn parent_name_at(l: &[u64; 577], at: usize) -> Name
     requires { at < 512 }
-    ensures { result ≡ (parent_at (form_of l.now) at).first }
+    ensures first { result.first ≡ (parent_at (form_of l.now) at).first }
+    ensures second { result.second ≡ (parent_at (form_of l.now) at).second }
 {
-    first_of(l[LISTED + at])
-}
-
-pub fn parent_second_at(l: &[u64; 577], at: usize) -> u8
-    requires { at < 512 }
-    ensures { result ≡ (parent_at (form_of l.now) at).second }
-{
-    second_of(l[LISTED + at])
+    name_of(l[LISTED + at])
 }
 
 // Whether it is spelled `self`.
@@ -101,11 +94,8 @@ pub fn is_self_at(l: &[u64; 577], at: usize) -> bool
     requires { at < 512 }
     ensures { result ≡ self_in (form_of l.now) (parent_at (form_of l.now) at) }
 {
-    let x = l[LISTED + at];
-    if first_of(x) != first_of(l[TYPES]) {
-        return false;
-    }
-    second_of(x) == 255
+    let name = name_of(l[LISTED + at]);
+    name.first == name_of(l[TYPES]).first && name.second == 255
 }
 
 // Puts how many types there are, and the number of the word `self`.

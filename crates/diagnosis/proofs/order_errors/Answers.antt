@@ -1,7 +1,6 @@
 use mathlib.Core.Path.{sym, ◌∙◌}
 use Rattle.diagnosis.specs.Rows.{order_rows}
 use Rattle.diagnosis.specs.Walk.{plain-final}
-use borrow.Author.Rules.{rules}
 use Rattle.diagnosis.proofs.order_errors.Goals as goal
 
 pub returns-then-self_stands : goal.returns-then-self_stands

@@ -1,8 +1,4 @@
-use mathlib.Core.Path.{◌≡◌, refl, ◌∙◌, ap}
-use Prim.Native.Nat.{◌-◌, ◌≤◌}
-use native.Mathlib.Omega.{arith}
-use borrow.Author.Rules.{rules}
-use lib.ListN.{length}
+use Rattle.std.proofs.Common.{refl, ap, ◌≡◌, ◌∙◌, arith}
 use Rattle.emitting.specs.Emitting.{emit-append}
 use Rattle.emitting.specs.Emitting as emitting
 use Rattle.order_table.specs.Form.{form_of}
@@ -10,38 +6,17 @@ use Rattle.diagnosis.specs.Emit.{emit}
 use Rattle.diagnosis.specs.Walk.{self_before, self-step, self-all}
 use Rattle.diagnosis.proofs.self_errors.Goals as goal
 
-pub types_in-types-requires : goal.types_in-types-requires
-types_in-types-requires c = tt
-
 pub loop-t-init : goal.loop-t-init
 unfolding emitting.emit self_before
-loop-t-init c =
-    let s = c in
-    (omega arith, c.types_in-types.ensures, omega (arith, c.types_in-types.ensures, s.requires.valid.types), refl, refl)
-
-pub put_self_rows-total-requires : goal.put_self_rows-total-requires
-put_self_rows-total-requires c =
-    let s = c in
-    let l = c.loop-t in
-    record { valid = s.requires.valid; t_bound = (omega (arith, l.invariant.1), omega (arith, s.requires.limit_in_bounds, l.invariant.3)) }
-
-pub overflow_add-t : goal.overflow_add-t
-overflow_add-t c = omega arith
-
-pub loop-t-smaller : goal.loop-t-smaller
-loop-t-smaller c = omega arith
+loop-t-init c = refl
 
 pub loop-t-preserved : goal.loop-t-preserved
-loop-t-preserved c =
-    let s = c in
-    let l = c.loop-t in
-    let f = c.put_self_rows-total in
-    (omega arith, l.invariant.1, l.invariant.2, f.auto.buf ∙ l.invariant.3, rw (self-step (form_of s.args.l.now) l.t, emit-append, ← l.invariant.4) f.ensures)
+loop-t-preserved c = rw (self-step (form_of c.args.l.now) c.loop-t.t, emit-append, ← c.loop-t.invariant) c.put_self_rows-total.ensures
 
 pub returns : goal.returns
 returns c =
-    let s = c in
-    let p = form_of s.args.l.now in
+    let a = c.args in
+    let p = form_of a.l.now in
     let l = c.loop-t in
-    let e : l.t ≡ p.count = omega (arith, l.invariant.1) in
-    l.invariant.4 ∙ ap (emit s.args.limit (s.args.buf.now, 0)) (ap (self_before p) e ∙ self-all p)
+    let e : l.t ≡ p.count = omega (arith, c.types_in-t-end.ensures) in
+    l.invariant ∙ ap (emit a.limit (a.buf.now, 0)) (ap (self_before p) e ∙ self-all p)

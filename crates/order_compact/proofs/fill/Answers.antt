@@ -1,5 +1,5 @@
 use mathlib.Core.Path.{◌≡◌, sym, subst}
-use Prim.Native.Nat.{◌-◌, ◌≤◌, ◌<◌}
+use Prim.Native.Nat.{◌<◌}
 use native.Mathlib.Omega.{arith}
 use Rattle.order_compact.specs.Compact.{Stands}
 use Rattle.order_compact.specs.FillLaws.{stands-start, stands-more}
@@ -12,7 +12,7 @@ put_types-requires c = omega (arith, c.requires.drafts.few)
 pub loop-a-init : goal.loop-a-init
 loop-a-init c =
     let s = c in
-    (omega arith, subst (Stands _ _ _ _ _ 0) (sym c.put_types.ensures) (stands-start s.args.t.now s.args.d.now s.args.entries.now s.args.count s.args.self_word s.args.l.now s.requires.l_len))
+    subst (Stands _ _ _ _ _ 0) (sym c.put_types.ensures) (stands-start s.args.t.now s.args.d.now s.args.entries.now s.args.count s.args.self_word s.args.l.now s.requires.l_len)
 
 pub offset_bounds-entries-a : goal.offset_bounds-entries-a
 offset_bounds-entries-a c = omega arith
@@ -25,19 +25,13 @@ put_type-requires c =
     let s = c in
     let l = c.loop-a in
     let h : l.a < s.args.count = omega arith in
-    record { l_len = l.invariant.1.long; a_bound = (omega (arith, s.requires.drafts.few), s.requires.drafts.few, s.requires.drafts.name l.a h); keys_of = s.requires.drafts.parents l.a h }
-
-pub overflow_add-a : goal.overflow_add-a
-overflow_add-a c = omega (arith, c.requires.drafts.few)
-
-pub loop-a-smaller : goal.loop-a-smaller
-loop-a-smaller c = omega arith
+    record { l_len = l.invariant.long; a_bound = (omega (arith, s.requires.drafts.few), s.requires.drafts.few, s.requires.drafts.name l.a h); keys_of = s.requires.drafts.parents l.a h }
 
 pub loop-a-preserved : goal.loop-a-preserved
 loop-a-preserved c =
     let s = c in
     let l = c.loop-a in
-    (omega arith, stands-more s.args.t.now s.args.d.now s.args.entries.now s.args.count s.args.self_word l.a l.l _ l.invariant.1 c.put_type.ensures)
+    stands-more s.args.t.now s.args.d.now s.args.entries.now s.args.count s.args.self_word l.a l.l _ l.invariant c.put_type.ensures
 
 pub returns : goal.returns
 returns c =
@@ -45,4 +39,4 @@ returns c =
     let l = c.loop-a in
     let e : l.a ≡ s.args.count = omega arith in
     stands-reads s.args.t.now s.args.d.now s.args.entries.now s.args.count s.args.self_word l.l (omega (arith, s.ranges.self_word)) s.requires.drafts
-    (subst (λ b. Stands s.args.t.now s.args.d.now s.args.entries.now s.args.count s.args.self_word b l.l) e l.invariant.1)
+    (subst (λ b. Stands s.args.t.now s.args.d.now s.args.entries.now s.args.count s.args.self_word b l.l) e l.invariant)

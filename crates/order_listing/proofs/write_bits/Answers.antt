@@ -1,4 +1,3 @@
-use borrow.Author.Rules.{rules}
 use mathlib.Core.Path.{sym}
 use Rattle.item_pen.specs.PenLaws.{adds-as, room_as}
 use Rattle.order_listing.proofs.ListingLaws.{room-types, room-names, wrote}

@@ -1,11 +1,10 @@
-use mathlib.Core.Path.{◌≡◌, refl, sym}
+use mathlib.Core.Path.{◌≡◌, refl}
 use Prim.Native.Nat.{◌+◌, ◌/◌}
 use native.Mathlib.Omega.{arith}
-use borrow.Author.Tests.{lt-ltb, le-ltb}
 use lib.ListN.{length}
 use Rattle.definitions.specs.Bits.{size}
 use Rattle.order_listing.specs.Order.{order_in}
-use Rattle.order_listing.proofs.ListingLaws.{wrote-long, wrote-overwrite, order-long}
+use Rattle.order_listing.proofs.ListingLaws.{wrote-long, wrote-overwrite, order-long, listing-short, listing-written}
 use Rattle.order_listing.proofs.write_order.Goals as goal
 
 pub names_size-requires : goal.names_size-requires
@@ -19,7 +18,7 @@ returns-then-listing-size c =
     let a = c.args in
     let l = order-long a.t.now a.order.now a.n in
     let e : (c.names_size.result + 14) / 8 ≡ size (length (order_in a.t.now a.order.now a.n)) = omega (arith, c.names_size.ensures.0, l) in
-    record { sized = e; short = sym (lt-ltb (length a.listing.now) (size (length (order_in a.t.now a.order.now a.n))) (omega (arith, e))); listing = refl }
+    listing-short a.listing.now _ (order_in a.t.now a.order.now a.n) _ e c.if-listing-size.true refl
 
 pub write_bits-requires : goal.write_bits-requires
 write_bits-requires c =
@@ -36,8 +35,4 @@ returns c =
     let n = c.names_size in
     let l = order-long a.t.now a.order.now a.n in
     let e : (n.result + 14) / 8 ≡ size (length (order_in a.t.now a.order.now a.n)) = omega (arith, n.ensures.0, l) in
-    record {
-      sized = e;
-      short = sym (le-ltb (length a.listing.now) (size (length (order_in a.t.now a.order.now a.n))) (omega (arith, e)));
-      listing = wrote-overwrite c.write_bits.ensures (omega (arith, e));
-    }
+    listing-written a.listing.now _ (order_in a.t.now a.order.now a.n) _ e (omega arith) (wrote-overwrite c.write_bits.ensures (omega (arith, e)))

@@ -1,47 +1,16 @@
-use mathlib.Core.Bool.{false}
-use mathlib.Core.Path.{◌≡◌, refl, sym, ap, ◌∙◌}
-use Prim.Native.Nat.{ℕ, ◌-◌, ◌≤◌}
-use native.Mathlib.Omega.{arith}
-use Rattle.lists.specs.Lists.{any, all}
-use Rattle.ordering.specs.Lists.{tab, any-tab-step, any-tab-at}
+use Rattle.std.proofs.Common.{refl, ◌∙◌, sym, ◌≡◌, true, false, rules, tests, arith}
+use Rattle.std.proofs.lemmas.Iterator.{cases_from_any, YieldsList-from_range}
+use Rattle.lists.specs.Lists.{all}
 use Rattle.ordering.specs.Reading.{listed, self_in}
 use Rattle.order_table.specs.Form.{form_of}
 use Rattle.order_placed.specs.PlacingLaws.{first-is}
+use Rattle.order_placed.proofs.RangeLaws.{any_range}
 use Rattle.order_placed.proofs.first_places.Goals as goal
-
-pub types_in-types-requires : goal.types_in-types-requires
-types_in-types-requires c = tt
-
-pub loop-t-init : goal.loop-t-init
-loop-t-init c = (omega arith, c.types_in-types.ensures, omega (arith, c.types_in-types.ensures, c.requires.types), refl)
-
-pub lists_only_self-requires : goal.lists_only_self-requires
-lists_only_self-requires c =
-    let s = c in
-    let l = c.loop-t in
-    record { valid = s.requires; t_bound = omega (arith, l.invariant.1) }
-
-pub returns-then-lists_only_self : goal.returns-then-lists_only_self
-returns-then-lists_only_self c =
-    let p = form_of c.args.l.now in
-    let l = c.loop-t in
-    sym (first-is p ∙ any-tab-at (λ k. k) (λ k. all (self_in p) (listed p k)) p.count l.t (omega (arith, l.invariant.1)) (sym c.lists_only_self.ensures ∙ c.if-lists_only_self.true))
-
-pub overflow_add-t : goal.overflow_add-t
-overflow_add-t c = omega arith
-
-pub loop-t-smaller : goal.loop-t-smaller
-loop-t-smaller c = omega arith
-
-pub loop-t-preserved : goal.loop-t-preserved
-loop-t-preserved c =
-    let p = form_of c.args.l.now in
-    let l = c.loop-t in
-    (omega arith, l.invariant.1, l.invariant.2, rw (any-tab-step (λ k. k) (λ k. all (self_in p) (listed p k)) l.t, l.invariant.3) (sym c.lists_only_self.ensures ∙ c.if-lists_only_self.false))
 
 pub returns : goal.returns
 returns c =
     let p = form_of c.args.l.now in
-    let l = c.loop-t in
-    let e : p.count ≡ l.t = omega (arith, l.invariant.1) in
-    sym (first-is p ∙ ap (λ (n : ℕ). any (λ k. all (self_in p) (listed p k)) (tab (λ k. k) n)) e ∙ l.invariant.3)
+    any_range (λ k. k) (λ t. all (self_in p) (listed p t)) _ _ c.types_in.ensures c.any.result
+    (cases_from_any _ _ _ (λ t. all (self_in p) (listed p t) ≡ true) (λ t. all (self_in p) (listed p t) ≡ false) c.any.ensures.ran
+    (YieldsList-from_range 0 _ _ refl (omega arith)) (λ x q k. search (rules, tests)) (λ x q k. search (rules, tests)))
+    ∙ sym (first-is p)

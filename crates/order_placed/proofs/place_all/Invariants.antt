@@ -1,8 +1,5 @@
-use mathlib.Core.Path.{subst}
-use borrow.Author.Rules.{rules}
 use Rattle.order_table.specs.Form.{form_of}
 use Rattle.order_placed.specs.Placing.{off, Sound, Passed}
-use Rattle.order_placed.specs.PlacingLaws.{sound_none, closed_is, fewer-are, placed-all}
 use Rattle.order_placed.proofs.place_all.Given as goal
 
 -- What has joined is placed by some round, and the types left become fewer.

@@ -1,10 +1,8 @@
-use mathlib.Core.Path.{◌≡◌, refl, ◌∙◌}
-use Prim.Native.Nat.{ℕ, ◌≤◌, ◌<◌, ◌-◌}
+use mathlib.Core.Path.{◌≡◌, ◌∙◌}
+use Prim.Native.Nat.{◌-◌}
 use native.Mathlib.Omega.{arith}
 use borrow.Author.Tests.{eq-eqb, ne_eqb}
-use lib.ListN.{take, get_or}
-use Rattle.lists.specs.Lists.{all}
-use Rattle.bitsets.specs.Bitsets.{members}
+use lib.ListN.{take}
 use Rattle.bitsets.specs.WalkLaws.{all-failed, all-passed, all_end}
 use Rattle.ordering.specs.Lists.{elem, elem_at}
 use Rattle.order_rounds.specs.Rounds.{all_listed_in}
@@ -12,37 +10,10 @@ use Rattle.order_rounds.specs.StepLaws.{elem-none, none-lower}
 use Rattle.order_rounds.proofs.all_placed.Goals as goal
 use Rattle.order_rounds.proofs.all_placed.Goals.{else-parents-test, then-parents-test+then-j-eq0}
 
-pub parents-init : goal.parents-init
-parents-init c = refl
-
-pub lowest-place-requires : goal.lowest-place-requires
-lowest-place-requires c = omega arith
-
-pub loop-j-init : goal.loop-j-init
-loop-j-init c = (omega arith, λ i h k e. omega arith)
-
-pub overflow_sub-j : goal.overflow_sub-j
-overflow_sub-j c = omega arith
-
-pub offset_bounds-order-j : goal.offset_bounds-order-j
-offset_bounds-order-j c = omega (arith, c.requires.1)
-
-pub bounds-order-j : goal.bounds-order-j
-bounds-order-j c = omega (arith, c.requires.1)
-
-pub loop-j-smaller : goal.loop-j-smaller
-loop-j-smaller c = omega arith
-
 pub loop-j-preserved : goal.loop-j-preserved
 loop-j-preserved c =
     let l = c.loop-j in
     (omega (arith, l.invariant.0), none-lower c.args.order.now c.lowest-place.result l.j _ (omega arith) l.invariant.1 c.if-order-j.false)
-
-pub rest-left-requires : goal.rest-left-requires
-rest-left-requires c = omega arith
-
-pub parents-smaller : goal.parents-smaller
-parents-smaller c = c.rest-left.ensures.less
 
 pub parents-preserved : goal.parents-preserved
 parents-preserved c =

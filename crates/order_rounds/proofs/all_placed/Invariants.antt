@@ -1,15 +1,9 @@
-use mathlib.Core.Path.{◌≡◌, refl, ◌∙◌}
-use mathlib.Core.Logic.{⊎_elim}
-use Prim.Native.Nat.{ℕ, ◌≤◌, ◌<◌, ◌-◌}
-use native.Mathlib.Omega.{arith}
-use borrow.Author.Tests.{eq-eqb, ne_eqb}
+use mathlib.Core.Path.{◌≡◌}
+use Prim.Native.Nat.{ℕ, ◌≤◌, ◌<◌}
 use lib.ListN.{take, get_or}
 use Rattle.lists.specs.Lists.{all}
 use Rattle.bitsets.specs.Bitsets.{members}
-use Rattle.bitsets.specs.WalkLaws.{all-failed, all-passed, all_end}
-use Rattle.ordering.specs.Lists.{elem, elem_at}
-use Rattle.order_rounds.specs.Rounds.{all_listed_in}
-use Rattle.order_rounds.specs.StepLaws.{elem-none, none-lower}
+use Rattle.ordering.specs.Lists.{elem}
 use Rattle.order_rounds.proofs.all_placed.Given as goal
 
 abbrev pub invariant-loop-j : goal.invariant-loop-j

@@ -1,4 +1,3 @@
-use borrow.Author.Tests.{not-true, not-false}
 use Rattle.order_rounds.specs.OrganizedLaws.{none_found, some-sets, organized}
 use Rattle.order_rounds.proofs.organize_type_map.Goals as goal
 

@@ -1,18 +1,12 @@
-use mathlib.Core.Path.{◌≡◌, refl, ◌∙◌}
-use Prim.Native.Nat.{ℕ, suc, ◌-◌, ◌^◌, ◌≤◌, ◌<◌}
+use mathlib.Core.Path.{refl, ◌∙◌}
+use Prim.Native.Nat.{suc}
 use native.Mathlib.Omega.{arith}
-use lib.ListN.{length}
 use Rattle.lists.specs.Places.{zero-at}
-use Rattle.ordering.specs.declared.Parents.{Parents}
-use Rattle.order_rounds.specs.Rounds.{SetsFor}
-use Rattle.order_rounds.specs.StageLaws.{Stage, stage-none, stage-more, stage-end, room, some-member, appended-placed}
+use Rattle.order_rounds.specs.StageLaws.{stage-none, stage-more, stage-end, room, some-member, appended-placed}
 use Rattle.order_rounds.proofs.place_all.Goals as goal
 
 pub put_children-ready-requires : goal.put_children-ready-requires
 put_children-ready-requires c = record { count_bound = c.requires.sets.right.few; childless = record { long = refl; none = λ b h. zero-at 64 b } }
-
-pub first-waiting-requires : goal.first-waiting-requires
-first-waiting-requires c = tt
 
 pub loop-ready-init : goal.loop-ready-init
 loop-ready-init c = (0, omega arith, c.requires.order_len, omega arith, λ p s. stage-none p _ _ s _ _ _ _ c.put_children-ready.ensures c.first-waiting.ensures)
@@ -22,9 +16,6 @@ append-step-requires c =
     let s = c in
     let l = c.loop-ready in
     record { order_len = l.invariant.2; types_bound = omega (arith, room s.requires.sets.compact _ _ s.requires.sets.right l.invariant.0 l.n l.order l.ready l.waiting (l.invariant.4 _ s.requires.sets.right), s.requires.sets.right.few) }
-
-pub without-waiting-requires : goal.without-waiting-requires
-without-waiting-requires c = tt
 
 pub ready_in-ready-requires : goal.ready_in-ready-requires
 ready_in-ready-requires c =

@@ -1,11 +1,9 @@
-use mathlib.Core.Path.{◌≡◌, refl, ◌∙◌}
-use Prim.Native.Nat.{ℕ, suc, ◌-◌, ◌^◌, ◌≤◌, ◌<◌}
-use native.Mathlib.Omega.{arith}
+use mathlib.Core.Path.{◌≡◌}
+use Prim.Native.Nat.{ℕ, ◌-◌, ◌^◌, ◌≤◌, ◌<◌}
 use lib.ListN.{length}
-use Rattle.lists.specs.Places.{zero-at}
 use Rattle.ordering.specs.declared.Parents.{Parents}
 use Rattle.order_rounds.specs.Rounds.{SetsFor}
-use Rattle.order_rounds.specs.StageLaws.{Stage, stage-none, stage-more, stage-end, room, some-member, appended-placed}
+use Rattle.order_rounds.specs.StageLaws.{Stage}
 use Rattle.order_rounds.proofs.place_all.Given as goal
 
 abbrev pub invariant-loop-ready : goal.invariant-loop-ready

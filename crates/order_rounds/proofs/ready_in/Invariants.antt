@@ -1,17 +1,9 @@
-use mathlib.Core.List.{List}
-use mathlib.Core.Path.{◌≡◌, sym, ap, ◌∙◌, subst}
-use mathlib.Core.Logic.{⊎_elim}
-use Prim.Native.Nat.{ℕ}
-use native.Mathlib.Omega.{arith}
-use lib.ListN.{take}
-use Rattle.bitsets.specs.Bitsets.{less}
-use Rattle.catalogue.specs.Layout.{parents_at}
-use Rattle.order_rounds.specs.Rounds.{all_listed_in}
-use Rattle.order_rounds.specs.StepLaws.{others-in, ReadyTo, ready-none, ready-yes, ready-no, ready-all}
+use Rattle.std.proofs.Common.{take}
+use Rattle.order_rounds.specs.StepLaws.{ReadyTo}
 use Rattle.order_rounds.proofs.ready_in.Given as goal
 
-abbrev pub invariant-loop-left : goal.invariant-loop-left
-invariant-loop-left l = ReadyTo l.t l.types (take l.n l.order) l.left l.out
-
-abbrev pub decreases-loop-left : goal.decreases-loop-left
-decreases-loop-left l = l.left
+abbrev pub invariant-loop-a : goal.invariant-loop-a
+invariant-loop-a l =
+    (goal.iterator-loop-a).can_next l.a-iterator
+    × (goal.iterator-loop-a).is_finite l.a-iterator
+    × ReadyTo l.t l.types (take l.n l.order) l.a-iterator.left l.out

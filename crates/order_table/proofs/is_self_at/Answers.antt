@@ -1,24 +1,21 @@
-use native.Mathlib.Omega.{arith}
-use borrow.Author.Tests.{eq-eqb, ne_eqb}
+use Rattle.std.proofs.Common.{arith, eq-eqb, ne_eqb}
 use Rattle.order_table.specs.FormLaws.{self-is, parent-first-is, parent-second-is}
 use Rattle.order_table.proofs.is_self_at.Goals as goal
 
-pub returns-then-first_of : goal.returns-then-first_of
-returns-then-first_of c =
-    let s = c in
-    let l = s.args.l.now in
-    rw (parent-first-is l s.args.at (omega arith), self-is l, ← c.first_of.ensures, ← c.first_of-2.ensures, ne_eqb _ _ c.if-first_of.true)
-
-pub returns : goal.returns
-returns c =
-    let s = c in
-    let l = s.args.l.now in
+pub returns-then-name-name_of : goal.returns-then-name-name_of
+returns-then-name-name_of c =
+    let l = c.args.l.now in
     rw (
-      parent-first-is l s.args.at (omega arith),
-      parent-second-is l s.args.at (omega arith),
+      parent-first-is l c.args.at (omega arith),
+      parent-second-is l c.args.at (omega arith),
       self-is l,
-      ← c.first_of.ensures,
-      ← c.first_of-2.ensures,
-      eq-eqb _ _ c.if-first_of.false,
-      c.second_of.ensures,
+      ← c.name_of-name.ensures.first,
+      ← c.name_of-name.ensures.second,
+      ← c.name_of.ensures.first,
+      eq-eqb _ _ c.if-name-name_of.true,
     )
+
+pub returns-else-name-name_of : goal.returns-else-name-name_of
+returns-else-name-name_of c =
+    let l = c.args.l.now in
+    rw (parent-first-is l c.args.at (omega arith), self-is l, ← c.name_of-name.ensures.first, ← c.name_of.ensures.first, ne_eqb _ _ c.if-name-name_of.false)

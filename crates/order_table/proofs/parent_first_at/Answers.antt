@@ -1,7 +1,0 @@
-use mathlib.Core.Path.{sym, ◌∙◌}
-use native.Mathlib.Omega.{arith}
-use Rattle.order_table.specs.FormLaws.{parent-first-is}
-use Rattle.order_table.proofs.parent_first_at.Goals as goal
-
-pub returns : goal.returns
-returns c = c.first_of.ensures ∙ sym (parent-first-is _ _ (omega arith))
