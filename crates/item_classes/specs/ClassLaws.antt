@@ -8,7 +8,6 @@ use Rattle.lists.specs.Tests.{never, same_test, and_left, and_right, and_both, a
 use Rattle.lists.specs.Appending.{any_append}
 use Rattle.rows.specs.Rows.{has_bit}
 use Rattle.rows.specs.RowLaws.{bit-either, bit-none}
-use Rattle.definitions.specs.Records as records
 use Rattle.definitions.specs.Checks.{resources_of}
 use Rattle.definitions.specs.Items.{associate_of}
 use Rattle.law_classes.specs.Numbers.{bit-both}

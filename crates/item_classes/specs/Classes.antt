@@ -4,7 +4,6 @@ use Rattle.std.specs.Int.Bits.{bit_and}
 use Rattle.lists.specs.Lists.{any, repeats}
 use Rattle.rows.specs.Rows.{has_bit}
 use Rattle.definitions.specs.Records.{Dom, Resource}
-use Rattle.definitions.specs.Records as records
 use Rattle.catalogue.specs.Layout.{looked}
 use Rattle.item_names.specs.Names.{key_of}
 use Rattle.item_classes.specs.declared.Classes.{Classes}

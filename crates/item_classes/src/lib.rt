@@ -33,14 +33,14 @@ fn with_nested(c: Classes, resources: u64, class: u64) -> Classes
 {
     let lost = class & resources == 0;
     Classes {
-        own: c.own,
         given: c.given | class,
-        wrong: c.wrong,
         missing: c.missing | lost,
+        ..c
     }
 }
 
-// One class more, of an annotation of that kind.
+// One class more, of an annotation of that kind. The kind is the number that the sheet has: an enum made of it would be asked
+// once, for Associate.
 pub fn with_class(c: Classes, resources: u64, kind: usize, class: u64) -> Classes
     ensures { GathersMore resources (eqb kind 1) class c result }
 {

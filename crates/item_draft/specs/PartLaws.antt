@@ -15,7 +15,7 @@ use Rattle.ordering.specs.Lists.{any-tab-step}
 use Rattle.sheet_notes.specs.Notes.{Notes, notes}
 use Rattle.sheet_draft.specs.Draft as draft
 use Rattle.sheet_draft.specs.Draft.{place_at, notes_of, notes_at}
-use Rattle.catalogue.specs.Layout.{head_at, resources_in, childed_in, width_in, looked}
+use Rattle.catalogue.specs.Layout.{resources_in, childed_in, width_in, looked}
 use Rattle.catalogue.specs.Kept.{kept-none, kept_set, kept_more}
 use Rattle.item_names.specs.Names.{key_of}
 use Rattle.item_names.specs.NamesLaws as names

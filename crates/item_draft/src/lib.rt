@@ -38,13 +38,11 @@ fn put_heads(t: &mut [u64; 1544], d: &[u64; 704], entries: &[u64; 64], count: us
     ensures { HeadsPut d.now entries.now count t.old t.new result }
 {
     let mut resources: u64 = 0;
-    let mut a: usize = 0;
-    while a < count {
+    for a in 0..count {
         let row = (entries[a] % 64) as usize;
         let head = head_in_bits(sheet_draft::head_at(d, row));
         catalogue::put_head(t, a, head);
         resources = item_heads::with_resource(resources, a, (head / 64) as usize);
-        a += 1;
     }
     resources
 }
@@ -76,8 +74,7 @@ fn put_notes(
     let resources = catalogue::resources_in(t);
     let childed = catalogue::childed_in(t);
     let mut lost = false;
-    let mut a: usize = 0;
-    while a < count {
+    for a in 0..count {
         let row = (entries[a] % 64) as usize;
         let place = sheet_draft::place_at(d, row) as usize;
         let x = item_notes::gather_notes(s, t, place, resources);
@@ -86,7 +83,6 @@ fn put_notes(
         put_note(t, a, classes.own, marks.bits, marks.tally);
         given[a] = classes.given;
         lost = item_sets::is_lost(lost, classes, childed, a);
-        a += 1;
     }
     lost
 }

@@ -12,11 +12,9 @@ fn clear_sets(t: &mut [u64; 1544], width: usize)
     ensures { SetsCleared 256 t.old t.new }
 {
     let none = (width / 256) as u64;
-    let mut w: usize = 0;
-    while w < 256 {
+    for w in 0..256 {
         catalogue::put_first(t, w, none);
         catalogue::put_second(t, w, none);
-        w += 1;
     }
 }
 
@@ -26,10 +24,8 @@ fn put_keys(t: &mut [u64; 1544], entries: &[u64; 64], count: usize)
     requires keys_fit { KeysFit entries.now count }
     ensures { KeysPut (firsts_of entries.now) (seconds_of entries.now) count t.old t.new }
 {
-    let mut a: usize = 0;
-    while a < count {
+    for a in 0..count {
         catalogue::put_key(t, a, entries[a] / 64);
-        a += 1;
     }
 }
 
@@ -39,11 +35,9 @@ fn put_sets(t: &mut [u64; 1544], entries: &[u64; 64], count: usize)
     requires keys_fit { KeysFit entries.now count }
     ensures { SetsPut (firsts_of entries.now) (seconds_of entries.now) count t.old t.new }
 {
-    let mut a: usize = 0;
-    while a < count {
+    for a in 0..count {
         let key = entries[a] / 64;
         item_names::mark_name(t, a, (key / 256) as u8, ((key % 256 + 255) % 256) as u8);
-        a += 1;
     }
 }
 

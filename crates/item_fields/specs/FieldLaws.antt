@@ -1,16 +1,12 @@
 -- The fields of an item are the bits that the format says.
-use Rattle.std.specs.Prelude.{Bool, true, false, List, [], ◌∷◌, ◌++◌, ◌≡◌, refl, ℕ, zero, suc, ◌+◌, ◌*◌, ◌-◌, ◌/◌, ◌%◌, ◌^◌, ◌≤◌, ◌<◌, length}
-use Rattle.std.proofs.Common.{append_assoc, append-nil, sym, ap, ap₂, ◌∙◌, arith, eq-eqb, ne_eqb, length-append}
-use Rattle.lists.specs.Lists.{each}
+use Rattle.std.specs.Prelude.{Bool, List, [], ◌∷◌, ◌++◌, ◌≡◌, ℕ, ◌+◌, ◌*◌, ◌-◌, ◌/◌, ◌%◌, length}
+use Rattle.std.proofs.Common.{append-nil, sym, ap, ap₂, ◌∙◌, arith, eq-eqb, ne_eqb, length-append}
 use Rattle.lists.specs.Appending.{each_append}
 use Rattle.definitions.specs.Bits.{odd, to_bits}
 use Rattle.definitions.specs.Records.{Name}
 use Rattle.definitions.specs.Packing.{name_bits, parent_bits}
 use Rattle.definitions.specs.Comparisons.{dotted}
-use Rattle.bits.specs.NumberLaws.{length-to_bits, to_bits-split}
 use Rattle.catalogue.specs.Catalogue.{name_of_key, virtual_head, trait_head}
-use Rattle.item_pen.specs.Pen.{Full, field_bits, Holds}
-use Rattle.item_pen.specs.PenLaws.{holds-join}
 use Rattle.item_fields.specs.Fields.{words_bits, head_bits, line_bits}
 
 -- ---- a name by its key

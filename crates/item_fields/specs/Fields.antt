@@ -1,5 +1,5 @@
 -- The fields of an item, out of keys of names.
-use Rattle.std.specs.Prelude.{Bool, true, false, List, [], ◌∷◌, ◌++◌, ℕ}
+use Rattle.std.specs.Prelude.{Bool, true, false, List, ◌∷◌, ◌++◌, ℕ}
 use Rattle.lists.specs.Lists.{each}
 use Rattle.definitions.specs.Bits.{odd, to_bits}
 use Rattle.definitions.specs.Records.{Name}

@@ -69,6 +69,7 @@ pub fn passing_field(key: u64, word: u64) -> Field
 }
 
 // What stands before the parents of a synthesized resource: the bit 0, the type's name, the word, virtual, and the number of parents (FORMAT 6.2).
+// Virtual is the last bit of a number, as heads have it: to make a bool of it, and a bit again, would cost.
 pub fn head_field(key: u64, word: u64, is_virtual: u64, parents: u64) -> Field
     ensures { Holds result (length (head_bits key word is_virtual parents)) (head_bits key word is_virtual parents) × (result.width ≤ 32) }
 {

@@ -2,7 +2,6 @@
 use Rattle.std.specs.Prelude.{Bool, true, false, ◌||◌, List, [], ◌∷◌, ◌++◌, ◌≡◌, refl, ℕ, ◌+◌, ◌*◌, ◌/◌, ◌%◌, ◌^◌, ◌≤◌, ◌<◌, eqb, length}
 use Rattle.std.proofs.Math.Bool.{or-false, and-true, and-false}
 use Rattle.std.proofs.Common.{sym, ap, ap₂, ◌∙◌, arith, eq-eqb, ne_eqb, length-append}
-use Rattle.std.specs.Int.Bits.{bit_or}
 use Rattle.std.proofs.Math.Pow
 use Rattle.lists.specs.Appending.{each_snoc}
 use Rattle.rows.specs.Rows.{has_bit}
@@ -10,16 +9,16 @@ use Rattle.definitions.specs.Bits.{odd, to_bits}
 use Rattle.definitions.specs.Records.{Mark, makelist_mark, derive_mark}
 use Rattle.definitions.specs.Packing as packing
 use Rattle.bits.specs.NumberLaws.{to_bits-split, to_bits-low}
-use Rattle.records.specs.Marks.{mark_as}
-use Rattle.item_names.specs.NamesLaws.{with-bit}
-use Rattle.item_heads.specs.Heads.{WithResource, Packs, WithMark}
+use Rattle.bitsets.specs.Bitsets.{more}
+use Rattle.bitsets.specs.BitLaws.{bit-more}
+use Rattle.item_heads.specs.Heads.{WithResource, Packs, WithMark, mark_as}
 use Rattle.item_heads.specs.declared.Packed.{Packed}
 
 -- ---- resources
 
-pub resource-joins : (types a variant : ℕ) → a < 64 → variant ≡ 1 → WithResource types a variant (bit_or types (1 * 2 ^ a % 2 ^ 64))
-resource-joins types a variant h e =
-    record { bits = λ b. with-bit types a b h ∙ ap (λ (c : Bool). has_bit types b || c) (sym (rw (eq-eqb variant 1 e) (and-true (eqb a b)))) }
+pub resource-joins : (types a variant : ℕ) → variant ≡ 1 → WithResource types a variant (more types a)
+resource-joins types a variant e =
+    record { bits = λ b. bit-more types a b ∙ ap (λ (c : Bool). has_bit types b || c) (sym (rw (eq-eqb variant 1 e) (and-true (eqb a b)))) }
 
 pub resource-not : (types a variant : ℕ) → (variant ≡ 1 → ⊥) → WithResource types a variant types
 resource-not types a variant n = record { bits = λ b. sym (rw (ne_eqb variant 1 n, and-false (eqb a b)) (or-false (has_bit types b))) }

@@ -1,16 +1,19 @@
 -- What the code makes of variants and of marks.
-use Rattle.std.specs.Prelude.{◌&&◌, ◌||◌, List, [], ◌∷◌, ◌++◌, ◌≡◌, ℕ, ◌*◌, ◌/◌, ◌%◌, ◌^◌, ◌≤◌, ◌<◌, eqb, length}
+use Rattle.std.specs.Prelude.{◌&&◌, ◌||◌, cond, List, [], ◌∷◌, ◌++◌, ◌≡◌, ℕ, ◌*◌, ◌/◌, ◌%◌, ◌^◌, ◌≤◌, ◌<◌, eqb, length}
 use Rattle.lists.specs.Lists.{each}
 use Rattle.rows.specs.Rows.{has_bit}
 use Rattle.definitions.specs.Bits.{to_bits}
-use Rattle.definitions.specs.Records.{Mark}
+use Rattle.definitions.specs.Records.{Mark, makelist_mark, derive_mark}
 use Rattle.definitions.specs.Packing as packing
-use Rattle.records.specs.Marks.{mark_as}
 use Rattle.item_heads.specs.declared.Packed.{Packed}
 
 -- A set with the type at a place, if it is a resource.
 pub record WithResource (types a variant r : ℕ) : Type 0 where
   pub bits : (b : ℕ) → has_bit r b ≡ (has_bit types b || (eqb a b && eqb variant 1))
+
+-- A mark from two numbers: whether it is Derive, and its tag.
+abbrev pub mark_as : ℕ → ℕ → Mark
+mark_as d t = cond (eqb d 1) (derive_mark t) makelist_mark
 
 -- The marks as bits, one behind the other as in a schedule, at most 7 (FORMAT 2.9, 6.2).
 pub record Packs (ms : List Mark) (p : Packed) : Type 0 where

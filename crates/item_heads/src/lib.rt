@@ -17,9 +17,7 @@ pub fn with_resource(set: u64, a: usize, variant: usize) -> u64
     ensures { WithResource set a variant result }
 {
     if variant == 1 {
-        let one: u64 = 1;
-        let bit = one << a;
-        return set | bit;
+        return bitsets::with_one(set, a);
     }
     set
 }

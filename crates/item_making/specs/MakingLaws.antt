@@ -1,20 +1,20 @@
 -- Laws of what is made, as the code counts and adds it.
 use Rattle.std.proofs.Math.Bool.{Bool, and-true, and-false, and_assoc}
-use Rattle.std.specs.Prelude.{true, false, cond, ◌&&◌, not, ◌≡◌, refl, eqb, ltb, length, drop}
+use Rattle.std.specs.Prelude.{true, false, ◌&&◌, not, ◌≡◌, refl, eqb, ltb, length, drop}
 use mathlib.Core.List.{List, [], ◌∷◌, ◌++◌, map, append_assoc, append-nil}
 use Rattle.std.proofs.Math.Path.{sym, ap, ap₂}
 use Rattle.std.proofs.Common.{◌∙◌, eq-eqb, ne_eqb, eqb-true, length-append}
-use Prim.Native.Nat.{ℕ, zero, suc, ◌+◌, ◌*◌, ◌-◌, ◌/◌, ◌%◌, ◌^◌, ◌≤◌, ◌<◌, min}
+use Prim.Native.Nat.{ℕ, ◌+◌, ◌*◌, ◌-◌, ◌/◌, ◌%◌, ◌≤◌, ◌<◌}
 use native.Mathlib.Omega.{arith}
 use Rattle.std.specs.Int.Bits.{bit_and, bit_xor}
 use Rattle.std.proofs.lemmas.List.{length-map}
-use Rattle.lists.specs.Lists.{In, all, each}
+use Rattle.lists.specs.Lists.{all, each}
 use Rattle.lists.specs.Tests.{by, never, and_left}
 use Rattle.lists.specs.Appending.{each_append, each_map, each-each, all_append}
 use Rattle.lists.specs.Tabulating.{length-tabulate}
 use Rattle.definitions.specs.Bits.{odd, to_bits}
 use Rattle.definitions.specs.Records.{Name}
-use Rattle.definitions.specs.Packing.{name_bits, parent_bits, counted_bits}
+use Rattle.definitions.specs.Packing.{name_bits, parent_bits}
 use Rattle.definitions.specs.Comparisons.{dotted}
 use Rattle.definitions.specs.LegalSchedule.{most_marks}
 use Rattle.bits.specs.NumberLaws.{length-to_bits, to_bits-split}
@@ -30,8 +30,8 @@ use Rattle.item_pen.specs.Pen.{field_bits, flushed, TakesIn}
 use Rattle.item_fields.specs.Fields.{head_bits}
 use Rattle.item_making.specs.declared.Making.{Making}
 use Rattle.item_making.specs.declared.Gathered.{Gathered}
-use Rattle.item_making.specs.Making.{members, each_of, total, ones, others, classes_of, name_in, first_in, Recorded, added, parents_of, first_bits, record_bits, others_bits, parents_bits, marks_bits, marks_in, all_virtual, Gathers, all_marks_bits, GathersAll, making_bits, made_bits, behind_bits, Alone, tail_bits}
-use Rattle.item_making.specs.Walks.{members-next, members-none, members-most, member_of, each_next, each_none, total-next, total-none, total-append, total-most, total-same, total-each, from_next, from_end}
+use Rattle.item_making.specs.Making.{members, each_of, total, classes_of, name_in, first_in, Recorded, added, parents_of, first_bits, record_bits, others_bits, parents_bits, marks_bits, marks_in, all_virtual, Gathers, all_marks_bits, GathersAll, making_bits, made_bits, behind_bits, Alone, tail_bits}
+use Rattle.item_making.specs.Walks.{members-next, members-none, members-most, member_of, each_next, each_none, total-next, total-append, total-most, total-same, total-each, from_next, from_end}
 
 -- ---- records
 

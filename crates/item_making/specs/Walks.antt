@@ -8,7 +8,7 @@ use Rattle.std.specs.Int.Count as counting
 use Rattle.lists.specs.Lists.{In, each}
 use Rattle.lists.specs.Tabulating.{tabulate, length-tabulate, get_d_tabulate}
 use Rattle.lists.specs.Places.{drop-step, drop-end}
-use Rattle.ordering.specs.Lists.{only, below, below_none, below-same, below-most}
+use Rattle.ordering.specs.Lists.{only, below, below_none, below-most}
 use Rattle.rows.specs.Rows.{has_bit}
 use Rattle.rows.specs.RowLaws.{bit-none}
 use Rattle.law_classes.proofs.SetLaws.{below_of}

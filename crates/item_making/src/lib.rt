@@ -24,7 +24,7 @@ pub struct Making {
     pub inherited: bool,
 }
 
-// How many marks some classes have, and, in the last bit, whether all are virtual.
+// How many marks some classes have, and, in the last bit, whether all are virtual: a bool would be made of it for each class.
 #[derive(Clone, Copy)]
 struct Gathered {
     marks: u64,
@@ -44,11 +44,8 @@ fn count_added(t: &[u64; 1544], records: u64) -> u64
     ensures { (result ≡ length (added t.now records)) × (result ≤ 512) }
 {
     let mut n: u64 = 0;
-    let mut left = records;
-    while left != 0 {
-        let e = bitsets::lowest(left);
+    for e in bitsets::members(records) {
         n += catalogue::extension_count_at(t, e);
-        left = bitsets::rest(left);
     }
     n
 }
@@ -60,12 +57,9 @@ fn gather(t: &[u64; 1544], g: Gathered, set: u64) -> Gathered
 {
     let mut marks = g.marks;
     let mut flag = g.flag;
-    let mut left = set;
-    while left != 0 {
-        let c = bitsets::lowest(left);
+    for c in bitsets::members(set) {
         marks += catalogue::tally_at(t, c) % 8;
         flag = flag & (catalogue::head_at(t, c) >> 5);
-        left = bitsets::rest(left);
     }
     Gathered { marks, flag }
 }
@@ -90,13 +84,10 @@ fn add_firsts(buf: &mut [u8], pen: Pen, t: &[u64; 1544], m: Making, head: Field)
 {
     let mut to = pen;
     let mut held = head;
-    let mut left = m.firsts;
-    while left != 0 {
-        let p = bitsets::lowest(left);
+    for p in bitsets::members(m.firsts) {
         let f = first_field(t, m, p);
         to = item_pen::make_room(buf, to, held, f);
         held = item_pen::take_in(held, f);
-        left = bitsets::rest(left);
     }
     item_pen::add(buf, to, held)
 }
@@ -109,11 +100,9 @@ fn add_record(buf: &mut [u8], pen: Pen, t: &[u64; 1544], e: usize) -> Pen
 {
     let count = catalogue::extension_count_at(t, e);
     let mut to = pen;
-    let mut j: usize = 0;
-    while (j as u64) < count {
+    for j in 0..count as usize {
         let key = catalogue::extension_parent_at(t, 8 * e + j);
         to = item_pen::add(buf, to, item_fields::parent_field(key));
-        j += 1;
     }
     to
 }
@@ -125,11 +114,8 @@ fn add_records(buf: &mut [u8], pen: Pen, t: &[u64; 1544], records: u64) -> Pen
     ensures { Adds buf.old buf.new pen result 0 (each_of (record_bits t.now) records) }
 {
     let mut to = pen;
-    let mut left = records;
-    while left != 0 {
-        let e = bitsets::lowest(left);
+    for e in bitsets::members(records) {
         to = add_record(buf, to, t, e);
-        left = bitsets::rest(left);
     }
     to
 }
@@ -169,11 +155,8 @@ fn add_classes(buf: &mut [u8], pen: Pen, t: &[u64; 1544], set: u64) -> Pen
     ensures { Adds buf.old buf.new pen result 0 (each_of (marks_bits t.now) set) }
 {
     let mut to = pen;
-    let mut left = set;
-    while left != 0 {
-        let c = bitsets::lowest(left);
+    for c in bitsets::members(set) {
         to = add_class(buf, to, t, c);
-        left = bitsets::rest(left);
     }
     to
 }
@@ -296,11 +279,8 @@ fn firsts_width(t: &[u64; 1544], m: Making) -> usize
     ensures { (result ≡ length (each_of (first_bits t.now m) m.firsts)) × (result ≤ 1664) }
 {
     let mut n: usize = 0;
-    let mut left = m.firsts;
-    while left != 0 {
-        let p = bitsets::lowest(left);
+    for p in bitsets::members(m.firsts) {
         n += first_width(t, m, p);
-        left = bitsets::rest(left);
     }
     n
 }
@@ -310,11 +290,8 @@ fn marks_width(t: &[u64; 1544], set: u64) -> usize
     ensures { (result ≡ length (each_of (marks_bits t.now) set)) × (result ≤ 9 * most_marks) }
 {
     let mut n: usize = 0;
-    let mut left = set;
-    while left != 0 {
-        let c = bitsets::lowest(left);
+    for c in bitsets::members(set) {
         n += ((catalogue::tally_at(t, c) >> 3) % 64) as usize;
-        left = bitsets::rest(left);
     }
     n
 }

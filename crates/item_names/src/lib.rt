@@ -40,17 +40,15 @@ pub fn put_words(t: &mut [u64; 1544], width: usize) -> usize
 {
     let none = catalogue::second_at(t, 0);
     let mut n: usize = 0;
-    let mut w: usize = 0;
-    while w < width {
+    for w in 0..width {
         let first = catalogue::first_at(t, w);
         let second = catalogue::second_at(t, w + 1);
         n = put_word_if(t, n, w, first & none | second);
-        w += 1;
     }
     n
 }
 
-// The place of the type of the set, 64 where the name of the key has one word or the set is empty.
+// The place of the type of the set, 64 where the name of the key has one word or the set is empty: a number of the table.
 fn owner_of(key: u64, set: u64) -> u64
     ensures { result ≡ owner_of key set }
 {
@@ -65,11 +63,9 @@ pub fn put_owners(t: &mut [u64; 1544], count: usize)
     requires { KeysSmall count t.old }
     ensures { OwnersPut count t.old t.new }
 {
-    let mut a: usize = 0;
-    while a < count {
+    for a in 0..count {
         let key = catalogue::key_at(t, a);
         let owner = catalogue::type_of(t, key / 256 * 256);
         catalogue::put_owner(t, a, owner_of(key, owner));
-        a += 1;
     }
 }

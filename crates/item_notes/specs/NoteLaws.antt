@@ -23,14 +23,13 @@ use Rattle.sheet_window.specs.WindowLaws.{split}
 use Rattle.sheet_peek.specs.PeekLaws.{refused-not, done-value, done-rest, next-done, pure-done, field-done, allowed-done, repeat-none, repeat-more, counted-done}
 use Rattle.records.specs.Annotations.{resource_of, annotation_as, row_of_word, row_of_tag, rows_for}
 use Rattle.records.specs.AnnotationLaws.{annotation-rows, rows_none}
-use Rattle.records.specs.Marks.{mark_as}
 use Rattle.sheet_notes.specs.Notes.{Notes, notes}
 use Rattle.catalogue.specs.Layout.{looked}
 use Rattle.item_names.specs.Names.{key_of}
 use Rattle.item_classes.specs.Classes.{class_in, Gathers, own_if, GathersMore}
 use Rattle.item_classes.specs.ClassLaws.{only_if, lists, own-as, given-as, gathers-none}
 use Rattle.item_classes.specs.declared.Classes.{Classes}
-use Rattle.item_heads.specs.Heads.{Packs, WithMark}
+use Rattle.item_heads.specs.Heads.{Packs, WithMark, mark_as}
 use Rattle.item_heads.specs.HeadLaws.{packs-none, packs-room}
 use Rattle.item_heads.specs.declared.Packed.{Packed}
 use Rattle.item_notes.specs.Notes.{name_in, name_end, mark_end, NamesAt, RowsAt, AnnotationAt, AnnotationsAt, MarksAt, NotesAt, Adds, row_sets}

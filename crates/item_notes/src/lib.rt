@@ -40,7 +40,8 @@ fn class_in(t: &[u64; 1544], w: usize) -> u64
     catalogue::type_of(t, (dom * 256 + (word + 1) % 256) as u64)
 }
 
-// The classes of n resources more, of an annotation of that kind.
+// The classes of n resources more, of an annotation of that kind. The loops here, of `gather` and of `pack_marks` count down: a
+// range takes a register more, and as all of this is inlined, others are spilled.
 fn with_rows(
     s: &[u8],
     t: &[u64; 1544],
@@ -75,11 +76,9 @@ fn skip_names(s: &[u8], at: usize, n: usize) -> usize
     ensures { NamesSkipped n (bits_of s.now) at result }
 {
     let mut next = at;
-    let mut left = n;
-    while 0 < left {
+    for _ in 0..n {
         let w = sheet_peek::peek(s, next, 17);
         next = next + 9 + w / 256 % 2 * 8;
-        left -= 1;
     }
     next
 }

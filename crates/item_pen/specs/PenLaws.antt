@@ -1,9 +1,8 @@
 -- Laws of fields and of the pen.
-use Rattle.std.specs.Prelude.{Bool, true, false, List, [], ◌∷◌, ◌++◌, ◌≡◌, refl, ℕ, zero, suc, ◌+◌, ◌*◌, ◌-◌, ◌/◌, ◌%◌, ◌^◌, ◌≤◌, ◌<◌, eqb, length}
-use Rattle.std.proofs.Common.{append_assoc, append-nil, sym, ap, ap₂, ◌∙◌, subst, mod-lt, add-zero, one-mul, arith, lt-ltb, le-ltb, length-append}
+use Rattle.std.specs.Prelude.{Bool, true, false, List, [], ◌∷◌, ◌++◌, ◌≡◌, refl, ℕ, ◌+◌, ◌*◌, ◌-◌, ◌/◌, ◌%◌, ◌^◌, ◌≤◌, ◌<◌, eqb, length}
+use Rattle.std.proofs.Common.{append_assoc, append-nil, sym, ap, ap₂, ◌∙◌, subst, mod-lt, one-mul, arith, lt-ltb, le-ltb, length-append}
 use Rattle.std.proofs.Math.Arith.{digits_lt}
 use Rattle.std.proofs.Math.Pow
-use Rattle.lists.specs.Tests.{by}
 use Rattle.lists.specs.Appending.{each_append}
 use Rattle.definitions.specs.Bits.{to_bits}
 use Rattle.bits.specs.Writing.{put, Wrote, Left}

@@ -1,12 +1,12 @@
 -- Eight bytes written at once: the bits before a field and the bytes behind it are as they were.
-use Rattle.std.specs.Prelude.{Bool, false, ◌≡◌, refl, ℕ, zero, suc, ◌+◌, ◌*◌, ◌-◌, ◌/◌, ◌%◌, ◌^◌, ◌≤◌, ◌<◌, length, get_or, set, take}
+use Rattle.std.specs.Prelude.{Bool, ◌≡◌, refl, ℕ, zero, suc, ◌+◌, ◌*◌, ◌-◌, ◌/◌, ◌%◌, ◌^◌, ◌≤◌, ◌<◌, length, get_or, set, take}
 use mathlib.Core.List.{List, [], ◌∷◌, ◌++◌, append_assoc, append-nil}
-use Rattle.std.proofs.Common.{sym, ◌∙◌, mod-lt, mod-eq_of_lt, add_assoc, zero-add, zero-mul, one-mul, arith, length-append, length-drop, take-append-drop, drop_of_length-le}
+use Rattle.std.proofs.Common.{sym, ◌∙◌, mod-lt, mod-eq_of_lt, add_assoc, zero-add, zero-mul, one-mul, arith, length-append, length-drop, take-append-drop}
 use Rattle.std.proofs.Math.Path.{ap, ap₂}
 use Rattle.std.proofs.Math.Nat.{zero-div}
 use Rattle.std.proofs.Math.Arith.{digits_lt}
-use Rattle.std.specs.Int.Bits.{bit_and, bit_or}
-use Rattle.std.proofs.lemmas.Nat.{and_le_l, or_shifted}
+use Rattle.std.specs.Int.{w64, byte_at as digit, bytes_high_first, from_be_bytes, to_be_bytes}
+use Rattle.std.specs.Int.Bits.{bit_and}
 use Rattle.std.proofs.lemmas.Nat.Bits.{and_high}
 use Rattle.std.proofs.Math.ListN.{drop}
 use Rattle.std.proofs.Math.Pow
@@ -57,26 +57,57 @@ eight_are s i =
     let e : 8 * i + 32 ≡ 8 * (i + 4) = omega arith in
     rw (num-split 32 32 (drop (8 * i) (bits_of s)), Seq.drop-drop 32 (8 * i) (bits_of s), e)
 
--- shifted bytes beside each other add up
-or-next : (x k y : ℕ) → y < 2 ^ k → (z : ℕ) → z ≡ x * 2 ^ k → bit_or z y ≡ z + y
-or-next x k y h z e = ap (λ (n : ℕ). bit_or n y) e ∙ or_shifted x k y h ∙ ap (λ (n : ℕ). n + y) (sym e)
+-- as the library's method makes it
+pub from-be : (s : List ℕ) (i : ℕ) → ((j : ℕ) → get_or s j 0 < 256) →
+    from_be_bytes w64 (get_or s i 0 ∷ get_or s (i + 1) 0 ∷ get_or s (i + 2) 0 ∷ get_or s (i + 3) 0 ∷ get_or s (i + 4) 0 ∷ get_or s (i + 5) 0 ∷ get_or s (i + 6) 0 ∷ get_or s (i + 7) 0 ∷ [])
+    ≡ num 64 (drop (8 * i) (bits_of s))
+from-be s i h =
+    let at : (j : ℕ) → get_or s (i + (4 + j)) 0 ≡ get_or s (i + 4 + j) 0 = λ j. ap (λ (k : ℕ). get_or s k 0) (sym (add_assoc i 4 j)) in
+    omega (
+      arith,
+      eight_are s i,
+      four_are s i (get_or s i 0) (get_or s (i + 1) 0) (get_or s (i + 2) 0) (get_or s (i + 3) 0) refl refl refl refl h,
+      four_are s (i + 4) (get_or s (i + 4) 0) (get_or s (i + 5) 0) (get_or s (i + 6) 0) (get_or s (i + 7) 0) refl (at 1) (at 2) (at 3) h,
+    )
 
-pub or-four : (a b c d : ℕ) → a < 256 → b < 256 → c < 256 → d < 256 →
-    bit_or (bit_or (bit_or (a * 16777216 % 18446744073709551616) (b * 65536 % 18446744073709551616)) (c * 256 % 18446744073709551616)) d
-    ≡ a * 16777216 + (b * 65536 + (c * 256 + d))
-or-four a b c d ha hb hc hd =
-    let x = a * 16777216 % 18446744073709551616 in
-    let y = b * 65536 % 18446744073709551616 in
-    let z = c * 256 % 18446744073709551616 in
-    let p : bit_or x y ≡ x + y = or-next a 24 y (omega arith) x (omega arith) in
-    let q : bit_or (x + y) z ≡ x + y + z = or-next (a * 256 + b) 16 z (omega arith) (x + y) (omega arith) in
-    let r : bit_or (x + y + z) d ≡ x + y + z + d = or-next (a * 65536 + b * 256 + c) 8 d (omega arith) (x + y + z) (omega arith) in
-    rw (p, q, r) (omega arith)
+pow-256 : (k : ℕ) → 256 ^ k ≡ 2 ^ (8 * k)
+pow-256 zero = refl
+pow-256 (suc k) =
+    let e : 8 * suc k ≡ 8 + 8 * k = omega arith in
+    rw (e, Pow.pow-add 2 8 (8 * k), ← pow-256 k) (omega arith)
 
-pub or-two : (a b : ℕ) → a < 4294967296 → b < 4294967296 → bit_or (a * 4294967296 % 18446744073709551616) b ≡ a * 4294967296 + b
-or-two a b ha hb =
-    let x = a * 4294967296 % 18446744073709551616 in
-    or-next a 32 b hb x (omega arith) ∙ omega arith
+byte-of : (k x : ℕ) → digit k x ≡ x / 2 ^ (8 * k) % 256
+byte-of zero x = omega arith
+byte-of (suc k) x = ap (λ (p : ℕ). x / p % 256) (pow-256 (suc k))
+
+-- the bytes of a number are its bits, packed
+packed-be : (k x : ℕ) → pack_to k (to_bits (8 * k) x) ≡ bytes_high_first k x
+unfolding pack_to
+packed-be zero x = refl
+packed-be (suc k) x =
+    let e : 8 * suc k ≡ 8 + 8 * k = omega arith in
+    let y = to_bits (8 * k) x in
+    rw (e, to_bits-split 8 (8 * k) x, num-to_bits 8 (x / 2 ^ (8 * k)) y, Seq.drop_at (to_bits 8 (x / 2 ^ (8 * k))) y 8 (length-to_bits 8 (x / 2 ^ (8 * k))), packed-be k x, byte-of k x)
+
+-- bits behind whole bytes
+pub put-over : (i p : ℕ) (buf : List ℕ) (bs : List Bool) → i ≤ length buf → put buf (8 * i + p) bs ≡ take i buf ++ put (drop i buf) p bs
+put-over zero p buf bs h = ap (λ (q : ℕ). put buf q bs) (zero-add p)
+put-over (suc i) p [] bs h = absurd (omega arith)
+put-over (suc i) p (x ∷ buf) bs h =
+    let e : 8 * suc i + p ≡ 8 + (8 * i + p) = omega arith in
+    rw (e, put-shift x buf (8 * i + p) bs, put-over i p buf bs (omega arith))
+
+-- they are written where the bits are
+pub put-be : (buf : List ℕ) (i x : ℕ) → i + 8 ≤ length buf → take i buf ++ (to_be_bytes w64 x ++ drop 8 (drop i buf)) ≡ put buf (8 * i) (to_bits 64 x)
+unfolding pack
+put-be buf i x h =
+    let l : size (length (to_bits 64 x)) ≡ 8 = ap size (length-to_bits 64 x) in
+    let e : 8 * i + 0 ≡ 8 * i = omega arith in
+    let t : put (drop i buf) 0 (to_bits 64 x) ≡ to_be_bytes w64 x ++ drop 8 (drop i buf) =
+    put-pack (drop i buf) (to_bits 64 x) (omega (arith, l, length-drop i buf))
+    ∙ ap (λ (j : ℕ). pack_to j (to_bits 64 x) ++ drop j (drop i buf)) l
+    ∙ ap (λ (b : List ℕ). b ++ drop 8 (drop i buf)) (packed-be 8 x) in
+    ap (λ (s : List ℕ). take i buf ++ s) (sym t) ∙ sym (put-over i 0 buf (to_bits 64 x) (omega (arith, h))) ∙ ap (λ (p : ℕ). put buf p (to_bits 64 x)) e
 
 -- ---- one number
 
@@ -239,14 +270,6 @@ put-inside [] o b bs h l = absurd (omega arith)
 put-inside (x ∷ buf) o b bs h l =
     let n : length (take o (to_bits 8 x)) ≡ o = Seq.length-take-le o (to_bits 8 x) (omega (arith, length-to_bits 8 x)) in
     put-again x buf (take o (to_bits 8 x)) o b bs h refl n ∙ ap (λ (A : List Bool). put (x ∷ buf) 0 (A ++ b ∷ bs)) (sym (first-bits x buf o h))
-
--- bits behind whole bytes
-pub put-over : (i p : ℕ) (buf : List ℕ) (bs : List Bool) → i ≤ length buf → put buf (8 * i + p) bs ≡ take i buf ++ put (drop i buf) p bs
-put-over zero p buf bs h = ap (λ (q : ℕ). put buf q bs) (zero-add p)
-put-over (suc i) p [] bs h = absurd (omega arith)
-put-over (suc i) p (x ∷ buf) bs h =
-    let e : 8 * suc i + p ≡ 8 + (8 * i + p) = omega arith in
-    rw (e, put-shift x buf (8 * i + p) bs, put-over i p buf bs (omega arith))
 
 -- ---- the whole
 

@@ -45,45 +45,21 @@ pub fn join(a: Field, b: Field) -> Field
     }
 }
 
-// A byte as a number of 64 bits.
-fn wide(x: u8) -> u64
-    ensures { result ≡ x }
-{
-    x as u64
-}
-
-// The 32 bits of the four bytes from i on.
-fn four_at(s: &[u8], i: usize) -> u64
-    requires { i + 4 ≤ length s.now }
-    ensures { (result ≡ num 32 (drop (8 * i) (bits_of s.now))) × (result < 2 ^ 32) }
-{
-    (wide(s[i]) << 24) | (wide(s[i + 1]) << 16) | (wide(s[i + 2]) << 8) | wide(s[i + 3])
-}
-
 // The 64 bits of the eight bytes from i on.
 fn eight_at(s: &[u8], i: usize) -> u64
     requires { i + 8 ≤ length s.now }
     ensures { result ≡ num 64 (drop (8 * i) (bits_of s.now)) }
 {
-    (four_at(s, i) << 32) | four_at(s, i + 4)
-}
-
-// The last 16 bits of x, into the two bytes from i on.
-fn put_two(buf: &mut [u8], i: usize, x: u64)
-    requires { i + 2 ≤ length buf.old }
-    ensures { buf.new ≡ put buf.old (8 * i) (to_bits 16 x) }
-{
-    buf[i] = ((x >> 8) % 256) as u8;
-    buf[i + 1] = (x % 256) as u8;
-}
-
-// The last 32 bits of x, into the four bytes from i on.
-fn put_four(buf: &mut [u8], i: usize, x: u64)
-    requires { i + 4 ≤ length buf.old }
-    ensures { buf.new ≡ put buf.old (8 * i) (to_bits 32 x) }
-{
-    put_two(buf, i, x >> 16);
-    put_two(buf, i + 2, x);
+    u64::from_be_bytes([
+        s[i],
+        s[i + 1],
+        s[i + 2],
+        s[i + 3],
+        s[i + 4],
+        s[i + 5],
+        s[i + 6],
+        s[i + 7],
+    ])
 }
 
 // The 64 bits of x, into the eight bytes from i on.
@@ -91,8 +67,7 @@ fn put_eight(buf: &mut [u8], i: usize, x: u64)
     requires { i + 8 ≤ length buf.old }
     ensures { buf.new ≡ put buf.old (8 * i) (to_bits 64 x) }
 {
-    put_four(buf, i, x >> 32);
-    put_four(buf, i + 4, x);
+    buf[i..i + 8].copy_from_slice(&x.to_be_bytes());
 }
 
 // Eight bytes as one number, with the n bits of v behind its first o bits: those stay, zeros go behind v to the end of its last byte, and what stands behind that
@@ -124,8 +99,9 @@ fn put_near(buf: &mut [u8], at: usize, n: usize, v: u64) -> usize
     requires { (n ≤ 56) × (at + n ≤ 8 * length buf.old) × (at + n < 2 ^ 64) }
     ensures { Wrote buf.old buf.new at result (to_bits n v) }
 {
-    let mut c = Cursor { at: at };
+    let mut c = Cursor { at };
     let mut left = n;
+    // What is left of the width is needed at each step and behind the last: a count of the steps would be no plainer.
     while 16 < left {
         left -= 16;
         c = c.write(buf, 16, (v >> left) as usize);
@@ -193,10 +169,7 @@ pub fn add(buf: &mut [u8], pen: Pen, f: Field) -> Pen
     ensures { Adds buf.old buf.new pen result 0 (field_bits f) }
 {
     let at = put(buf, pen.at, pen.count % 2 == 1, f.width, f.value);
-    Pen {
-        count: pen.count,
-        at: at,
-    }
+    Pen { at, ..pen }
 }
 
 // One more field, one that a listing has once.
@@ -209,10 +182,7 @@ pub fn add_once(buf: &mut [u8], pen: Pen, f: Field) -> Pen
         return pass_over(pen, f.width);
     }
     let at = put_near(buf, pen.at, f.width, f.value);
-    Pen {
-        count: pen.count,
-        at: at,
-    }
+    Pen { at, ..pen }
 }
 
 // Fields are held back to be written together. What is held is written where a field finds no room beside it.
@@ -225,10 +195,7 @@ pub fn make_room(buf: &mut [u8], pen: Pen, held: Field, f: Field) -> Pen
         return pen;
     }
     let at = put(buf, pen.at, pen.count % 2 == 1, held.width, held.value);
-    Pen {
-        count: pen.count,
-        at: at,
-    }
+    Pen { at, ..pen }
 }
 
 // What is held then.
@@ -249,7 +216,7 @@ pub fn counted(pen: Pen) -> Pen
 {
     Pen {
         count: pen.count + 2,
-        at: pen.at,
+        ..pen
     }
 }
 
@@ -259,7 +226,7 @@ pub fn pass_over(pen: Pen, n: usize) -> Pen
     ensures { PassesOver pen n result }
 {
     Pen {
-        count: pen.count,
         at: pen.at + n,
+        ..pen
     }
 }

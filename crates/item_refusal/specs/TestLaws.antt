@@ -1,8 +1,9 @@
 -- The branches of the code, each against its definition.
-use Rattle.std.specs.Prelude.{Bool, true, false, not, List, ◌≡◌, ℕ, ◌-◌, ◌/◌, ◌%◌, ◌^◌, ◌≤◌, ◌<◌, eqb}
+use Rattle.std.specs.Prelude.{Bool, true, false, not, List, [], ◌∷◌, refl, ◌≡◌, ℕ, ◌-◌, ◌/◌, ◌%◌, ◌^◌, ◌≤◌, ◌<◌, eqb}
 use Rattle.std.specs.Bool.{beq}
 use Rattle.std.proofs.Common.{sym, ap, ap₂, ◌∙◌}
 use Rattle.std.specs.Int.Bits.{bit_and, bit_or}
+use native.Mathlib.Omega.{arith}
 use borrow.Author.Tests.{eq-eqb, ne_eqb, lt-ltb, le-ltb}
 use Rattle.lists.specs.Lists.{any, all}
 use Rattle.rows.specs.Rows.{has_bit}
@@ -64,6 +65,15 @@ follow-next t marks left set e r ms tally out l w p q o =
 pub follow-end : (t : List ℕ) (marks left set : ℕ) → set ≡ 0 → follow t marks left (members set) ≡ left
 unfolding follow
 follow-end t marks left set e = ap (follow t marks left) (members-none set e)
+
+-- nothing is behind marks that do not begin so
+follow_parted : (t : List ℕ) (marks : ℕ) (l : List ℕ) → follow t marks 64 l ≡ 64
+unfolding follow
+follow_parted t marks [] = refl
+follow_parted t marks (e ∷ l) = ap (λ (x : ℕ). follow t marks x l) (sym (behind-parted marks 64 (marks_at t e) (tally_at t e / 8) (omega arith))) ∙ follow_parted t marks l
+
+pub follow-lost : (t : List ℕ) (marks left : ℕ) (l : List ℕ) → left ≡ 64 → follow t marks left l ≡ 64
+follow-lost t marks left l e = ap (λ (x : ℕ). follow t marks x l) e ∙ follow_parted t marks l
 
 pub marks-same : (t : List ℕ) (c classes marks alone tally rest others out : ℕ) → marks ≡ marks_at t c → alone ≡ second_at t 0 → tally ≡ tally_at t c
     → rest ≡ follow t marks (tally / 8) (members (bit_and classes alone)) → others ≡ less classes alone → out ≡ follow t marks rest (members others) → eqb out 0 ≡ same_marks t c classes

@@ -1,5 +1,5 @@
 -- What the code of refusal 9 computes from the numbers of a catalogue (FORMAT 4.9), and what its answer says of a sheet.
-use Rattle.std.specs.Prelude.{Bool, ◌&&◌, ◌||◌, not, cond, List, [], ◌∷◌, ◌≡◌, ℕ, ◌-◌, ◌/◌, ◌%◌, ◌^◌, eqb, ltb}
+use Rattle.std.specs.Prelude.{Bool, ◌&&◌, ◌||◌, not, cond, List, Option, None, Some, [], ◌∷◌, ◌≡◌, ℕ, ◌-◌, ◌/◌, ◌%◌, ◌^◌, eqb, ltb}
 use Rattle.std.specs.Bool.{beq}
 use Rattle.std.specs.Int.Bits.{bit_and, bit_or}
 use Rattle.lists.specs.Lists.{any, all}
@@ -48,6 +48,11 @@ behind marks left next width =
     cond (ltb left 64 && (not (ltb left width) && eqb (marks / 2 ^ (left - width) % 2 ^ width) (next % 2 ^ width)))
     (left - width)
     64
+
+-- How many bits are left, and 64 for none.
+abbrev pub number_left : Option ℕ → ℕ
+number_left None = 64
+number_left (Some left) = left
 
 -- The same behind the marks of the classes in turn (FORMAT 4.7).
 unfoldable pub follow : List ℕ → ℕ → ℕ → List ℕ → ℕ

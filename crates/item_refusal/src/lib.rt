@@ -5,7 +5,7 @@ ghost use Rattle.std.specs.Prelude.{◌≡◌, ◌<◌};
 ghost use Rattle.lists.specs.Lists.{any, all};
 ghost use Rattle.bitsets.specs.Bitsets.{members};
 ghost use Rattle.item_refusal.specs.Tests.{same_word, takes, passes, passes_alone, is_virtual, same_virtual, behind, follow};
-ghost use Rattle.item_refusal.specs.Tests.{same_marks, repeated, repeated_for, Decides};
+ghost use Rattle.item_refusal.specs.Tests.{same_marks, repeated, repeated_for, number_left, Decides};
 
 // The types whose last word is the second word of a type's name; none where the name has one word (FORMAT 4.2).
 fn same_word(t: &[u64; 1544], d: usize) -> u64
@@ -20,7 +20,8 @@ fn same_word(t: &[u64; 1544], d: usize) -> u64
     alone | catalogue::second_at(t, w)
 }
 
-// Whether a type is T.r for a type T, its owner, with a making of r (FORMAT 4.9). An owner from 64 on is none.
+// Whether a type is T.r for a type T, its owner, with a making of r (FORMAT 4.9). An owner from 64 on is none: the table has
+// numbers.
 fn takes_name(t: &[u64; 1544], d: usize) -> bool
     requires { d < 64 }
     ensures { result ≡ takes t.now d }
@@ -37,14 +38,7 @@ fn takes_name(t: &[u64; 1544], d: usize) -> bool
 fn any_taken(t: &[u64; 1544], types: u64) -> bool
     ensures { result ≡ any (takes t.now) (members types) }
 {
-    let mut left = types;
-    while left != 0 {
-        if takes_name(t, bitsets::lowest(left)) {
-            return true;
-        }
-        left = bitsets::rest(left);
-    }
-    false
+    bitsets::members(types).any(|d| takes_name(t, d))
 }
 
 // Whether a type passes a class of the set on (FORMAT 4.4).
@@ -59,14 +53,7 @@ fn passes_on(t: &[u64; 1544], p: usize, classes: u64) -> bool
 fn any_passes(t: &[u64; 1544], types: u64, classes: u64) -> bool
     ensures { result ≡ any (passes t.now classes) (members types) }
 {
-    let mut left = types;
-    while left != 0 {
-        if passes_on(t, bitsets::lowest(left), classes) {
-            return true;
-        }
-        left = bitsets::rest(left);
-    }
-    false
+    bitsets::members(types).any(|p| passes_on(t, p, classes))
 }
 
 // Whether p is a parent that passes a class of the set on, and the only one (FORMAT 4.4).
@@ -95,14 +82,7 @@ fn is_virtual(t: &[u64; 1544], a: usize) -> bool
 fn all_virtual(t: &[u64; 1544], types: u64) -> bool
     ensures { result ≡ all (is_virtual t.now) (members types) }
 {
-    let mut left = types;
-    while left != 0 {
-        if !is_virtual(t, bitsets::lowest(left)) {
-            return false;
-        }
-        left = bitsets::rest(left);
-    }
-    true
+    bitsets::members(types).all(|c| is_virtual(t, c))
 }
 
 // Whether the type's making of its own class c is virtual as that of the classes is (FORMAT 4.6).
@@ -116,43 +96,39 @@ fn same_virtual(t: &[u64; 1544], a: usize, c: usize, classes: u64) -> bool
     is_virtual(t, c) == all_virtual(t, classes)
 }
 
-// Of the last `left` bits of marks, how many are left behind the bits of `next`; 64 where they do not begin so, or did not
-// before.
-fn bits_behind(marks: u64, left: u64, next: u64, width: u64) -> u64
-    ensures { result ≡ behind marks left next width }
+// Of the last `left` bits of marks, how many are left behind the bits of `next`; none where they do not begin so.
+fn bits_behind(marks: u64, left: u64, next: u64, width: u64) -> Option<u64>
+    ensures { number_left result ≡ behind marks left next width }
 {
     if left >= 64 {
-        return 64;
+        return None;
     }
     if left < width {
-        return 64;
+        return None;
     }
     let rest = left - width;
     let one: u64 = 1;
     let size = one << width;
     if (marks >> rest) % size == next % size {
-        return rest;
+        return Some(rest);
     }
-    64
+    None
 }
 
 // The same behind the marks of the classes of a set in turn (FORMAT 4.7).
-fn marks_behind(t: &[u64; 1544], marks: u64, left: u64, classes: u64) -> u64
-    ensures { result ≡ follow t.now marks left (members classes) }
+fn marks_behind(t: &[u64; 1544], marks: u64, left: u64, classes: u64) -> Option<u64>
+    ensures { number_left result ≡ follow t.now marks left (members classes) }
 {
     let mut rest = left;
-    let mut set = classes;
-    while set != 0 {
-        let e = bitsets::lowest(set);
+    for e in bitsets::members(classes) {
         rest = bits_behind(
             marks,
             rest,
             catalogue::marks_at(t, e),
             catalogue::tally_at(t, e) / 8,
-        );
-        set = bitsets::rest(set);
+        )?;
     }
-    rest
+    Some(rest)
 }
 
 // Whether the marks of c are those of the classes in turn, that of one word first (FORMAT 4.4, 4.7).
@@ -162,8 +138,13 @@ fn same_marks(t: &[u64; 1544], c: usize, classes: u64) -> bool
 {
     let marks = catalogue::marks_at(t, c);
     let alone = catalogue::second_at(t, 0);
-    let rest = marks_behind(t, marks, catalogue::tally_at(t, c) / 8, classes & alone);
-    marks_behind(t, marks, rest, bitsets::without(classes, alone)) == 0
+    match marks_behind(t, marks, catalogue::tally_at(t, c) / 8, classes & alone) {
+        None => false,
+        Some(rest) => matches!(
+            marks_behind(t, marks, rest, bitsets::without(classes, alone)),
+            Some(0)
+        ),
+    }
 }
 
 // Whether the type's making of its own class c stands again as the inherited one: c is P.r, and P is the only parent that
@@ -194,28 +175,14 @@ fn repeated_for(t: &[u64; 1544], a: usize, pairs: u64) -> bool
     requires { a < 64 }
     ensures { result ≡ repeated_for t.now pairs a }
 {
-    let mut left = catalogue::own_at(t, a) & pairs;
-    while left != 0 {
-        if is_repeated(t, a, bitsets::lowest(left)) {
-            return true;
-        }
-        left = bitsets::rest(left);
-    }
-    false
+    bitsets::members(catalogue::own_at(t, a) & pairs).any(|c| is_repeated(t, a, c))
 }
 
 // Whether one of the types has such a class.
 fn any_repeated(t: &[u64; 1544], types: u64, pairs: u64) -> bool
     ensures { result ≡ any (repeated_for t.now pairs) (members types) }
 {
-    let mut left = types;
-    while left != 0 {
-        if repeated_for(t, bitsets::lowest(left), pairs) {
-            return true;
-        }
-        left = bitsets::rest(left);
-    }
-    false
+    bitsets::members(types).any(|a| repeated_for(t, a, pairs))
 }
 
 // Whether a type of the map is refused (FORMAT 4.9); `lost` says whether a class is undeclared or no resource, or an own class

@@ -9,7 +9,7 @@ use Rattle.definitions.specs.Answer.{schedule, schedule_of}
 use Rattle.line_laws.specs.Statements.{Readable, line_map, any_refused}
 use Rattle.line_laws.specs.Within.{Within}
 use Rattle.order_listing.specs.Listing.{Listing}
-use Rattle.order_listing.specs.declared.Listed.{Listed}
+use Rattle.answers.specs.Answers.{Answer}
 use Rattle.catalogue.specs.Catalogue.{Catalogued}
 use Rattle.item_pen.specs.Pen.{joined, Penned}
 use Rattle.order_listing.specs.Order.{names_in, names_bits, Placed}
@@ -55,5 +55,5 @@ pub record Schedulable (t order : List ℕ) (n : ℕ) : Type 0 where
   pub orderly : Orderly sheet t order n
 
 -- Its schedule is listed, whichever sheet it is (FORMAT 6.1, 7.4).
-pub record ListsSchedule (t order : List ℕ) (n : ℕ) (entry exit : List ℕ) (r : Listed) : Type 0 where
+pub record ListsSchedule (t order : List ℕ) (n : ℕ) (entry exit : List ℕ) (r : Answer) : Type 0 where
   pub lists : (s : Sheet) → Orderly s t order n → Listing entry exit (schedule_bits (schedule_of schedule (type_map_of s))) r

@@ -1,9 +1,9 @@
 -- What the passes write is the schedule of the sheet.
 use Rattle.std.proofs.Math.Bool.{Bool}
-use Rattle.std.specs.Prelude.{true, false, ◌≡◌, ℕ, ◌+◌, ◌/◌, ◌≤◌, ◌<◌, replicate}
+use Rattle.std.specs.Prelude.{true, false, ◌≡◌, ℕ, ◌+◌, ◌/◌, ◌≤◌, ◌<◌, replicate, Ok, Err}
 use mathlib.Core.List.{List, ◌++◌, map, append_assoc}
 use Rattle.std.proofs.Math.Path.{sym, ap, ap₂, subst}
-use Rattle.std.proofs.Common.{◌∙◌, arith, lt-ltb, le-ltb, length-append}
+use Rattle.std.proofs.Common.{◌∙◌, arith, length-append}
 use Rattle.std.proofs.Math.ListN.{length}
 use Rattle.std.proofs.lemmas.List.{length-map}
 use Rattle.lists.specs.Lists.{each}
@@ -33,9 +33,10 @@ use Rattle.item_writer.proofs.SheetItems.{sound, items-are}
 use Rattle.rows.specs.Rows.{has_bit}
 use Rattle.rows.specs.RowLaws.{bit-none}
 use Rattle.order_rounds.specs.Organized.{Holds, Organized}
-use Rattle.order_listing.proofs.ListingLaws.{wrote-overwrite}
+use Rattle.order_listing.proofs.ListingLaws.{wrote-overwrite, listing-short, listing-written}
 use Rattle.order_listing.proofs.OrderLaws.{placed_of, names-are}
 use Rattle.order_listing.specs.Order.{name_of, names_in, names_bits}
+use Rattle.answers.specs.declared.Refusal.TheVariants.{ShortListing}
 use Rattle.item_schedule.specs.declared.Pass.{Pass}
 use Rattle.item_schedule.specs.Schedule.{bits_in, Passable, Passed, Orderly, ListsSchedule}
 
@@ -164,17 +165,17 @@ module _ (s : Sheet) (t order : List ℕ) (n : ℕ) (h : Orderly s t order n) wh
 -- ---- a listing
 
 module _ (t order : List ℕ) (n : ℕ) (entry mid : List ℕ) (r : Pass) (p : Passed false entry mid t order n 0 r) where
-  pub lists-short : length mid < (r.bits + 7) / 8 → ListsSchedule t order n entry mid (record { short = true; size = (r.bits + 7) / 8 })
+  pub lists-short : length mid < (r.bits + 7) / 8 → ListsSchedule t order n entry mid (Err (ShortListing ((r.bits + 7) / 8)))
   lists-short l = record {
     lists = λ s h.
         let bs = schedule_bits (schedule_of schedule (type_map_of s)) in
         let e : r.bits ≡ length bs = omega (arith, p.penned.next, as_long s t order n h 0) in
         let same = ap length p.penned.holds in
-        record { sized = ap size e; short = sym (lt-ltb (length entry) (size (length bs)) (omega arith)); listing = p.penned.holds };
+        listing-short entry mid bs _ (ap size e) (omega (arith, l, same)) p.penned.holds;
   }
 
   pub lists-long : (exit : List ℕ) (q : Pass) → Passed true mid exit t order n r.items q → (r.bits + 7) / 8 ≤ length mid
-      → ListsSchedule t order n entry exit (record { short = false; size = (r.bits + 7) / 8 })
+      → ListsSchedule t order n entry exit (Ok ((r.bits + 7) / 8))
   lists-long exit q w l = record {
     lists = λ s h.
         let bs = schedule_bits (schedule_of schedule (type_map_of s)) in
@@ -186,11 +187,7 @@ module _ (t order : List ℕ) (n : ℕ) (entry mid : List ℕ) (r : Pass) (p : P
           holds = w.penned.holds ∙ ap₂ (λ (b : List ℕ) (x : List Bool). put b 0 x) p.penned.holds is;
           next = w.penned.next ∙ ap (λ (x : List Bool). 0 + length x) is;
         } in
-        record {
-          sized = ap size e;
-          short = sym (le-ltb (length entry) (size (length bs)) (omega arith));
-          listing = wrote-overwrite wrote (omega arith);
-        };
+        listing-written entry exit bs _ (ap size e) (omega (arith, l, same)) (wrote-overwrite wrote (omega arith));
   }
 
 -- no word is noted in an array of zeros

@@ -3,7 +3,7 @@
 
 ghost use Rattle.item_schedule.specs.Schedule.{Passable, Passed, Schedulable, ListsSchedule};
 
-use order_listing::Listed;
+use answers::{Answer, Refusal};
 
 // What a pass comes to: how many items there are, and how many bits.
 #[derive(Clone, Copy)]
@@ -35,8 +35,8 @@ fn add_all(
     }
 }
 
-// Writes the schedule and names its size. Nothing is touched where the listing is too short; then the size is what is needed (FORMAT 7.4).
-pub fn write_schedule(listing: &mut [u8], t: &[u64; 1544], order: &[u64; 64], n: usize) -> Listed
+// Writes the schedule, and answers its size: acceptance. Nothing is touched where the listing is too short: 10, with the size that is needed (FORMAT 7.4).
+pub fn write_schedule(listing: &mut [u8], t: &[u64; 1544], order: &[u64; 64], n: usize) -> Answer
     requires { Schedulable t.now order.now n }
     ensures { ListsSchedule t.now order.now n listing.old listing.new result }
 {
@@ -45,8 +45,8 @@ pub fn write_schedule(listing: &mut [u8], t: &[u64; 1544], order: &[u64; 64], n:
     let counted = add_all(listing, false, t, &words, order, n, 0);
     let size = (counted.bits + 7) / 8;
     if listing.len() < size {
-        return Listed { short: true, size };
+        return Err(Refusal::ShortListing(size));
     }
     add_all(listing, true, t, &words, order, n, counted.items);
-    Listed { short: false, size }
+    Ok(size)
 }

@@ -22,16 +22,14 @@ pub struct Numbers {
     pub width: u64,
 }
 
-// What the types of a set pass on, united.
+// What the types of a set pass on, united: as in item_spread, over the table. One function of both would take a closure, with a
+// clause for what it reads, and be no plainer.
 fn united(t: &[u64; 1544], types: u64) -> u64
     ensures { United types (passed_sets t.now) result }
 {
     let mut out: u64 = 0;
-    let mut left = types;
-    while left != 0 {
-        let p = bitsets::lowest(left);
+    for p in bitsets::members(types) {
         out = out | catalogue::passed_at(t, p);
-        left = bitsets::rest(left);
     }
     out
 }
@@ -43,14 +41,12 @@ pub fn spread(t: &mut [u64; 1544], given: &[u64; 64], order: &[u64; 64], count: 
     requires ordered { Ordered order.now count (parent_sets t.old) }
     ensures { SpreadPut order.now count given.now t.old t.new }
 {
-    let mut i: usize = 0;
-    while i < count {
+    for i in 0..count {
         let a = order[i] as usize;
         let parents = catalogue::parents_at(t, a);
         let above = united(t, parents);
         catalogue::put_above(t, a, above);
         catalogue::put_passed(t, a, given[a] | above);
-        i += 1;
     }
 }
 
@@ -84,11 +80,9 @@ pub fn extended_by(t: &[u64; 1544], count: usize) -> u64
     ensures { ExtendedIs t.now count result }
 {
     let mut out: u64 = 0;
-    let mut e: usize = 0;
-    while e < count {
+    for e in 0..count {
         let key = catalogue::extension_key_at(t, e);
         out = out | catalogue::type_of(t, key / 256);
-        e += 1;
     }
     out
 }

@@ -1,5 +1,5 @@
 -- The walk over a set, and the walk down the order.
-use Rattle.std.specs.Prelude.{Bool, true, false, ◌&&◌, ◌||◌, not, List, [], map, ◌≡◌, refl, ℕ, ◌+◌, ◌-◌, ◌*◌, ◌%◌, ◌^◌, ◌≤◌, ◌<◌, eqb, ltb, length, get_or, take, set}
+use Rattle.std.specs.Prelude.{Bool, true, false, ◌&&◌, ◌||◌, not, List, [], map, ◌≡◌, refl, ℕ, ◌+◌, ◌^◌, ◌≤◌, ◌<◌, eqb, ltb, length, get_or, take, set}
 use Rattle.std.proofs.Math.Bool.{or-false, or_assoc, and-false, and-true}
 use Rattle.std.proofs.Common.{sym, ◌∙◌, subst, arith, eqb-true, ne_eqb, ltb-true, ltb-false, lt-ltb, le-ltb, get_or-set_same, get_or-set_other}
 use Rattle.std.proofs.Math.Path.{ap, ap₂}
@@ -9,11 +9,11 @@ use Rattle.lists.specs.Lists.{In, any, filter}
 use Rattle.lists.specs.Tests.{by, never, same_test, or_elim, any-in, any_of, filter-in, filter-of}
 use Rattle.lists.specs.Places.{get_d-in}
 use Rattle.rows.specs.Rows.{has_bit}
-use Rattle.rows.specs.RowLaws.{bit-either, bit-none, bit-one, one_shifted}
+use Rattle.rows.specs.RowLaws.{bit-either, bit-none}
 use Rattle.rows.specs.Next.{NextBit}
 use Rattle.ordering.specs.Lists.{elem, elem-step, below, below_none, below-same}
-use Rattle.bitsets.specs.Bitsets.{members, Lowest, Rest}
-use Rattle.bitsets.specs.BitLaws.{below_of, in-below, members-next}
+use Rattle.bitsets.specs.Bitsets.{members, Lowest, Rest, more}
+use Rattle.bitsets.specs.BitLaws.{below_of, in-below, members-next, bit-more}
 use Rattle.definitions.specs.Records.{Sheet}
 use Rattle.definitions.specs.Map.{LineType, LineMap}
 use Rattle.definitions.specs.Items.{parents_of}
@@ -150,13 +150,8 @@ spread-more order count parents given above passed i t row o la lp h z u d =
 pub with_none : (types p met : ℕ) → met ≡ 0 → WithIf types p met types
 with_none types p met e = record { bits = λ a. sym (rw e (ap (λ b. has_bit types a || b) (and-false (eqb p a)) ∙ or-false (has_bit types a))) }
 
-pub with-one : (types p met : ℕ) → p < 64 → (met ≡ 0 → ⊥) → WithIf types p met (bit_or types (1 * 2 ^ p % 2 ^ 64))
-with-one types p met h n =
-    record {
-      bits = λ a.
-          bit-either types (1 * 2 ^ p % 2 ^ 64) a
-          ∙ ap (λ b. has_bit types a || b) (ap (λ (x : ℕ). has_bit x a) (one_shifted p h) ∙ bit-one p a ∙ sym (rw (ne_eqb met 0 n) (and-true (eqb p a))));
-    }
+pub with-one : (types p met : ℕ) → (met ≡ 0 → ⊥) → WithIf types p met (more types p)
+with-one types p met n = record { bits = λ a. bit-more types p a ∙ ap (λ b. has_bit types a || b) (sym (rw (ne_eqb met 0 n) (and-true (eqb p a)))) }
 
 -- the parents below p; p is the next
 pub record PassingTo (parents : ℕ) (passed : List ℕ) (mask out p : ℕ) : Type 0 where

@@ -10,11 +10,8 @@ pub fn united(types: u64, passed: &[u64]) -> u64
     ensures { United types passed.now result }
 {
     let mut out: u64 = 0;
-    let mut left = types;
-    while left != 0 {
-        let p = bitsets::lowest(left);
+    for p in bitsets::members(types) {
         out = out | passed[p];
-        left = bitsets::rest(left);
     }
     out
 }
@@ -27,7 +24,5 @@ pub fn with_if(types: u64, p: usize, met: u64) -> u64
     if met == 0 {
         return types;
     }
-    let one: u64 = 1;
-    let bit = one << p;
-    types | bit
+    bitsets::with_one(types, p)
 }

@@ -1,21 +1,21 @@
 -- Where a table is the catalogue of a sheet, its items are those that the sets of classes give the sheet's map.
 use Rattle.std.proofs.Math.Bool.{Bool, true, false, cond, not}
-use Rattle.std.specs.Prelude.{◌&&◌, ◌||◌, ◌≡◌, refl, eqb, ltb, get_or, take}
+use Rattle.std.specs.Prelude.{◌&&◌, ◌||◌, ◌≡◌, refl, eqb, ltb}
 use mathlib.Core.List.Memᴰ
 use mathlib.Core.List.{List, [], ◌∷◌, ◌++◌, map}
 use Rattle.std.proofs.Math.Logic.{⊎_elim}
 use Rattle.std.proofs.Math.Path.{sym, ap, ap₂}
 use Rattle.std.proofs.Common.{◌∙◌, subst, arith}
-use Prim.Native.Nat.{ℕ, zero, suc, ◌+◌, ◌*◌, ◌/◌, ◌%◌, ◌^◌, ◌≤◌, ◌<◌}
-use borrow.Author.Tests.{eq-eqb, eqb-true, eqb-false, ltb-true, ltb-false}
+use Prim.Native.Nat.{ℕ, zero, suc, ◌/◌, ◌%◌, ◌<◌}
+use borrow.Author.Tests.{ltb-true, ltb-false}
 use Rattle.std.specs.Int.Bits.{bit_and, bit_or, bit_xor, xor_lt}
 use Rattle.std.proofs.Math.ListN.{length}
 use Rattle.std.proofs.Math.Seq
-use Rattle.lists.specs.Lists.{In, all, keep, filter, each}
+use Rattle.lists.specs.Lists.{In, all, filter, each}
 use Rattle.lists.specs.Tests.{by, never, cons-elim, any-in, any_of, and_left, and_right, and_both, same_test}
 use Rattle.lists.specs.Appending.{map-append, map-map, map_same, map-self, map_each, each_map, each-each, each_same, all_map, filter-append}
 use Rattle.lists.specs.Tabulating.{tabulate, map-tabulate, tabulate-in, tabulate-of, taken}
-use Rattle.definitions.specs.Records.{Name, Mark, Sheet, Item, synthesized, extension}
+use Rattle.definitions.specs.Records.{Name, Sheet}
 use Rattle.definitions.specs.Bits.{to_bits}
 use Rattle.definitions.specs.Packing.{name_bits, parent_bits, mark_bits, item_bits, counted_bits}
 use Rattle.definitions.specs.Comparisons.{dotted}
@@ -26,15 +26,15 @@ use Rattle.line_laws.specs.Statements.{line_map}
 use Rattle.line_laws.specs.Within.{Within}
 use Rattle.ordering.specs.Lists.{only, below, below-same, tab-get_d, filter-below, map_below}
 use Rattle.rows.specs.Rows.{has_bit}
-use Rattle.rows.specs.RowLaws.{bit-either, bit-without}
+use Rattle.rows.specs.RowLaws.{bit-without}
 use Rattle.law_classes.specs.Sets.{Set, both, some, one_word, masked, own_set, above_set, passed_set, classes_in, making_of, own_making, inherited_making, set_items_at, made_set, set_items_for, set_items, no_type, type_at, SetIs}
 use Rattle.law_classes.specs.Numbers.{Fits, fits_both, holds-both, holds-either, holds-some}
-use Rattle.law_classes.proofs.SetLaws.{below_of, in-below}
+use Rattle.law_classes.proofs.SetLaws.{below_of}
 use Rattle.law_classes.specs.Walks.{filter-twice}
-use Rattle.catalogue.specs.Layout.{key_at, head_at, marks_at, tally_at, parents_at, own_at, above_at, passed_at, word_at, mask_at, count_in, words_in, extended_in, resource_in, second_at}
-use Rattle.catalogue.specs.Catalogue.{name_of_key, virtual_head, trait_head, added_in, Entry, Catalogued}
+use Rattle.catalogue.specs.Layout.{key_at, head_at, marks_at, tally_at, parents_at, own_at, above_at, passed_at, word_at, mask_at, words_in, extended_in, resource_in, second_at}
+use Rattle.catalogue.specs.Catalogue.{virtual_head, trait_head, Entry, Catalogued}
 use Rattle.item_fields.specs.Fields.{line_bits}
-use Rattle.item_making.specs.Making.{members, total, name_in, classes_of, marks_bits, marks_in, all_virtual, making_bits}
+use Rattle.item_making.specs.Making.{members, name_in, classes_of, marks_bits, marks_in, all_virtual, making_bits}
 use Rattle.item_making.specs.Walks.{member_of, total-same, total-each}
 use Rattle.item_writer.specs.Items.{Sound, passes, passing_in, added_for, own_bits, inherited_bits, word_items, makes, type_items, all_items}
 use Rattle.item_writer.specs.WriterLaws.{below-cut}

@@ -1,7 +1,7 @@
 -- A table of two types: `base`, which owns the class `file`, and `file`; an extension record adds the parent `file` to
 -- base.file. What the writer asks of a table, of a type with a word and of cleared words is no empty demand, and the table has
 -- two items: base.file and its extension line.
-use Rattle.std.specs.Prelude.{true, List, [], ◌∷◌, ◌++◌, ◌≡◌, refl, ℕ, zero, suc, ◌+◌, ◌<◌, ◌≤◌, length, replicate}
+use Rattle.std.specs.Prelude.{true, List, [], ◌∷◌, ◌++◌, ◌≡◌, refl, ℕ, zero, suc, ◌<◌, ◌≤◌, length, replicate}
 use Rattle.std.proofs.Common.{ap, ◌∙◌, arith}
 use Rattle.lists.specs.Tests.{never}
 use Rattle.lists.specs.Places.{zero-at}

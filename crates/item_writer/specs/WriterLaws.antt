@@ -1,5 +1,5 @@
 -- Laws of the sets that the writer walks, and of the items that it adds one after the other.
-use Rattle.std.specs.Prelude.{Bool, false, ◌&&◌, ◌||◌, not, ◌≡◌, refl, ℕ, zero, suc, ◌+◌, ◌*◌, ◌-◌, ◌/◌, ◌%◌, ◌^◌, ◌≤◌, ◌<◌, ltb, length, get_or, drop, set, replicate}
+use Rattle.std.specs.Prelude.{Bool, false, ◌&&◌, ◌||◌, not, ◌≡◌, refl, ℕ, zero, suc, ◌+◌, ◌*◌, ◌/◌, ◌%◌, ◌^◌, ◌≤◌, ◌<◌, ltb, length, get_or, drop, set, replicate}
 use Rattle.std.proofs.Math.Bool.{true, cond, or-false, and-false, and-true}
 use mathlib.Core.List.Memᴰ
 use mathlib.Core.List.{List, [], ◌∷◌, ◌++◌, map, append-nil}
@@ -23,7 +23,8 @@ use Rattle.law_classes.proofs.SetLaws.{below_of, in-below}
 use Rattle.catalogue.specs.Layout.{key_at, head_at, parents_at, own_at, above_at, passed_at, word_at, mask_at, extension_key_at}
 use Rattle.catalogue.specs.Layout.{count_in, words_in, extensions_in, extended_in, resource_in}
 use Rattle.catalogue.specs.Catalogue.{added_in, parents_in}
-use Rattle.bitsets.specs.Bitsets.{Lowest, Rest}
+use Rattle.bitsets.specs.Bitsets.{Lowest, Rest, more}
+use Rattle.bitsets.specs.BitLaws.{bit-more}
 use Rattle.item_spread.specs.Spread.{United, WithIf}
 use Rattle.item_fields.specs.Fields.{line_bits}
 use Rattle.item_making.specs.Making.{members, name_in, first_in, classes_of, added, parents_of, making_bits, made_bits}
@@ -126,13 +127,9 @@ pub record-skipped : (t : List ℕ) (records e key : ℕ) → (extension_key_at 
 record-skipped t records e key n =
     record { bits = λ i. sym (rw (ne_eqb (extension_key_at t e) key n) (ap (λ b. has_bit records i || b) (and-false (eqb e i)) ∙ or-false (has_bit records i))) }
 
-pub record-taken : (t : List ℕ) (records e key : ℕ) → e < 64 → extension_key_at t e ≡ key → WithRecord t records e key (bit_or records (1 * 2 ^ e % 2 ^ 64))
-record-taken t records e key h q =
-    record {
-      bits = λ i.
-          bit-either records (1 * 2 ^ e % 2 ^ 64) i
-          ∙ ap (λ b. has_bit records i || b) (ap (λ (x : ℕ). has_bit x i) (one_shifted e h) ∙ bit-one e i ∙ sym (rw (eq-eqb (extension_key_at t e) key q) (and-true (eqb e i))));
-    }
+pub record-taken : (t : List ℕ) (records e key : ℕ) → extension_key_at t e ≡ key → WithRecord t records e key (more records e)
+record-taken t records e key q =
+    record { bits = λ i. bit-more records e i ∙ ap (λ b. has_bit records i || b) (sym (rw (eq-eqb (extension_key_at t e) key q) (and-true (eqb e i)))) }
 
 -- those below e with the key
 pub record RecordsTo (t : List ℕ) (key out e : ℕ) : Type 0 where

@@ -23,11 +23,8 @@ fn passing(t: &[u64; 1544], parents: u64, mask: u64) -> u64
     ensures { PassingIs t.now parents mask result }
 {
     let mut out: u64 = 0;
-    let mut left = parents;
-    while left != 0 {
-        let p = bitsets::lowest(left);
+    for p in bitsets::members(parents) {
         out = item_spread::with_if(out, p, catalogue::passed_at(t, p) & mask);
-        left = bitsets::rest(left);
     }
     out
 }
@@ -37,11 +34,8 @@ fn common_of(t: &[u64; 1544], types: u64) -> u64
     ensures { CommonIs t.now types result }
 {
     let mut out: u64 = 18446744073709551615;
-    let mut left = types;
-    while left != 0 {
-        let p = bitsets::lowest(left);
+    for p in bitsets::members(types) {
         out = out & catalogue::passed_at(t, p);
-        left = bitsets::rest(left);
     }
     out
 }
@@ -65,9 +59,7 @@ fn with_record(t: &[u64; 1544], records: u64, e: usize, key: u64) -> u64
     if catalogue::extension_key_at(t, e) != key {
         return records;
     }
-    let one: u64 = 1;
-    let bit = one << e;
-    records | bit
+    bitsets::with_one(records, e)
 }
 
 // The extension records of a type and a word (FORMAT 4.5).
@@ -81,10 +73,8 @@ fn records_of(t: &[u64; 1544], a: usize, word: u64) -> u64
     let key = catalogue::key_at(t, a) * 256 + word;
     let count = catalogue::extensions_in(t) as usize;
     let mut out: u64 = 0;
-    let mut e: usize = 0;
-    while e < count {
+    for e in 0..count {
         out = with_record(t, out, e, key);
-        e += 1;
     }
     out
 }
@@ -97,9 +87,7 @@ fn add_own(buf: &mut [u8], pen: Pen, t: &[u64; 1544], site: Site, own: u64) -> P
 {
     let one: u64 = 1;
     let mut to = pen;
-    let mut left = own;
-    while left != 0 {
-        let c = bitsets::lowest(left);
+    for c in bitsets::members(own) {
         let class = one << c;
         let m = Making {
             word: site.word,
@@ -109,7 +97,6 @@ fn add_own(buf: &mut [u8], pen: Pen, t: &[u64; 1544], site: Site, own: u64) -> P
             inherited: false,
         };
         to = item_making::create_synthetic_resource(buf, to, t, site.place, m);
-        left = bitsets::rest(left);
     }
     to
 }
@@ -167,11 +154,8 @@ fn fill_word(words: &mut [u64], types: u64, k: usize)
 {
     let one: u64 = 1;
     let bit = one << k;
-    let mut left = types;
-    while left != 0 {
-        let c = bitsets::lowest(left);
+    for c in bitsets::members(types) {
         words[c] = words[c] | bit;
-        left = bitsets::rest(left);
     }
 }
 
@@ -181,10 +165,8 @@ pub fn fill_words(t: &[u64; 1544], words: &mut [u64])
     ensures { WordsAre t.now words.new }
 {
     let count = catalogue::word_count_in(t) as usize;
-    let mut k: usize = 0;
-    while k < count {
+    for k in 0..count {
         fill_word(words, catalogue::mask_at(t, k), k);
-        k += 1;
     }
 }
 
@@ -196,12 +178,10 @@ fn add_type(buf: &mut [u8], pen: Pen, t: &[u64; 1544], words: &[u64], a: usize) 
 {
     let common = common_of(t, catalogue::parents_at(t, a));
     let made = catalogue::own_at(t, a) | catalogue::above_at(t, a);
+    let noted = item_spread::united(made, words);
     let mut to = pen;
-    let mut left = item_spread::united(made, words);
-    while left != 0 {
-        let k = bitsets::lowest(left);
+    for k in bitsets::members(noted) {
         to = add_word(buf, to, t, a, k, common);
-        left = bitsets::rest(left);
     }
     to
 }
@@ -214,10 +194,8 @@ pub fn add_items(buf: &mut [u8], pen: Pen, t: &[u64; 1544], words: &[u64]) -> Pe
 {
     let count = catalogue::count_in(t) as usize;
     let mut to = pen;
-    let mut a: usize = 0;
-    while a < count {
+    for a in 0..count {
         to = add_type(buf, to, t, words, a);
-        a += 1;
     }
     to
 }

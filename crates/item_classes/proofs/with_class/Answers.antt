@@ -1,5 +1,4 @@
 use borrow.Author.Tests.{eq-eqb, ne_eqb}
-use borrow.Author.Rules.{rules}
 use Rattle.item_classes.proofs.with_class.Goals as goal
 
 pub returns-then-kind-eq1 : goal.returns-then-kind-eq1

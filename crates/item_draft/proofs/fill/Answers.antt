@@ -2,7 +2,6 @@ use mathlib.Core.Path.{refl, ◌∙◌}
 use native.Mathlib.Omega.{arith}
 use Rattle.definitions.specs.Bits.{bits_of}
 use Rattle.item_draft.specs.Filling.{filled, keys-fit, notes-ready, order-fits}
-use borrow.Author.Rules.{rules}
 use Rattle.item_draft.proofs.fill.Goals as goal
 
 pub extended_by-extended-requires : goal.extended_by-extended-requires

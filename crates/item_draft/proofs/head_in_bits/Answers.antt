@@ -1,5 +1,4 @@
 use Rattle.item_draft.specs.PartLaws.{head-same, head-past}
-use borrow.Author.Rules.{rules}
 use Rattle.item_draft.proofs.head_in_bits.Goals as goal
 
 pub returns-then-h-lt256 : goal.returns-then-h-lt256

@@ -1,12 +1,11 @@
 use mathlib.Core.Path.{◌≡◌, subst}
 use native.Mathlib.Omega.{arith}
-use Prim.Native.Nat.{◌-◌, ◌≤◌}
 use Rattle.item_draft.specs.Parts.{HeadOf, HeadsPut}
 use Rattle.item_draft.specs.PartLaws.{heads-none, heads-more}
 use Rattle.item_draft.proofs.put_heads.Goals as goal
 
 pub loop-a-init : goal.loop-a-init
-loop-a-init c = (omega arith, heads-none _ _ _)
+loop-a-init c = heads-none _ _ _
 
 pub offset_bounds-entries-a : goal.offset_bounds-entries-a
 offset_bounds-entries-a c = omega (arith, c.requires.1)
@@ -26,23 +25,17 @@ put_head-requires c = omega (arith, c.requires.1)
 pub with_resource-resources-requires : goal.with_resource-resources-requires
 with_resource-resources-requires c = omega (arith, c.requires.1)
 
-pub overflow_add-a : goal.overflow_add-a
-overflow_add-a c = omega (arith, c.requires.1)
-
-pub loop-a-smaller : goal.loop-a-smaller
-loop-a-smaller c = omega arith
-
 pub loop-a-preserved : goal.loop-a-preserved
 loop-a-preserved c =
     let s = c in
     let l = c.loop-a in
     let x = c.head_in_bits-head in
     let y = c.head_at in
-    (omega arith, heads-more s.args.d.now s.args.entries.now l.a s.args.t.now l.t l.resources c.with_resource-resources.result x.result (omega (arith, s.requires.1)) s.requires.0 (subst (λ h. HeadOf h x.result) y.ensures x.ensures) c.put_head.ensures c.with_resource-resources.ensures l.invariant.1)
+    heads-more s.args.d.now s.args.entries.now l.a s.args.t.now l.t l.resources c.with_resource-resources.result x.result (omega (arith, s.requires.1)) s.requires.0 (subst (λ h. HeadOf h x.result) y.ensures x.ensures) c.put_head.ensures c.with_resource-resources.ensures l.invariant
 
 pub returns : goal.returns
 returns c =
     let s = c in
     let l = c.loop-a in
-    let e : l.a ≡ s.args.count = omega (arith, l.invariant.0) in
-    subst (λ n. HeadsPut s.args.d.now s.args.entries.now n s.args.t.now l.t l.resources) e l.invariant.1
+    let e : l.a ≡ s.args.count = omega arith in
+    subst (λ n. HeadsPut s.args.d.now s.args.entries.now n s.args.t.now l.t l.resources) e l.invariant

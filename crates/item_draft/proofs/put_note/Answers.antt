@@ -1,5 +1,4 @@
 use Rattle.item_draft.specs.PartLaws.{note-put}
-use borrow.Author.Rules.{rules}
 use Rattle.item_draft.proofs.put_note.Goals as goal
 
 pub returns : goal.returns

@@ -1,10 +1,8 @@
 use mathlib.Core.Path.{sym, subst, ◌∙◌}
 use Rattle.item_notes.specs.Notes.{NotesAt, NotesGathered}
 use native.Mathlib.Omega.{arith}
-use Prim.Native.Nat.{◌-◌, ◌≤◌}
 use mathlib.Core.Path.{◌≡◌}
 use Rattle.definitions.specs.Bits.{bits_of}
-use Rattle.catalogue.specs.Layout.{resources_in, childed_in}
 use Rattle.item_draft.specs.Parts.{NotesPut}
 use Rattle.item_draft.specs.PartLaws.{notes-at, notes-none, notes-more}
 use Rattle.item_draft.proofs.put_notes.Goals as goal
@@ -18,7 +16,7 @@ childed_in-childed-requires c = tt
 pub loop-a-init : goal.loop-a-init
 loop-a-init c =
     let s = c in
-    (omega arith, c.resources_in-resources.ensures, c.childed_in-childed.ensures, notes-none (bits_of s.args.s.now) s.args.d.now s.args.entries.now s.args.t.now s.args.t.now s.args.given.now s.requires.addressable.1)
+    (c.resources_in-resources.ensures, c.childed_in-childed.ensures, notes-none (bits_of s.args.s.now) s.args.d.now s.args.entries.now s.args.t.now s.args.t.now s.args.given.now s.requires.addressable.1)
 
 pub offset_bounds-entries-a : goal.offset_bounds-entries-a
 offset_bounds-entries-a c = omega (arith, c.requires.notes_ready.few)
@@ -39,7 +37,7 @@ pub put_note-requires : goal.put_note-requires
 put_note-requires c =
     let s = c in
     let l = c.loop-a in
-    (l.invariant.3.kept.long ∙ s.requires.notes_ready.long, omega (arith, s.requires.notes_ready.few))
+    (l.invariant.2.kept.long ∙ s.requires.notes_ready.long, omega (arith, s.requires.notes_ready.few))
 
 pub offset_bounds-given-a : goal.offset_bounds-given-a
 offset_bounds-given-a c = omega (arith, c.requires.notes_ready.few)
@@ -50,12 +48,6 @@ bounds-given-a c = omega (arith, c.requires.notes_ready.few)
 pub is_lost-lost-requires : goal.is_lost-lost-requires
 is_lost-lost-requires c = omega (arith, c.requires.notes_ready.few)
 
-pub overflow_add-a : goal.overflow_add-a
-overflow_add-a c = omega (arith, c.requires.notes_ready.few)
-
-pub loop-a-smaller : goal.loop-a-smaller
-loop-a-smaller c = omega arith
-
 pub loop-a-preserved : goal.loop-a-preserved
 loop-a-preserved c =
     let s = c in
@@ -63,11 +55,11 @@ loop-a-preserved c =
     let x = c.gather_notes-x in
     let p = c.place_at-place in
     let bs = bits_of s.args.s.now in
-    (omega (arith, c.loop-a-test.true), l.invariant.1, l.invariant.2, notes-more bs s.args.d.now s.args.entries.now s.args.t.now s.args.count l.a c.resources_in-resources.result c.childed_in-childed.result l.t l.given l.lost c.is_lost-lost.result x.result c.loop-a-test.true s.requires.notes_ready l.invariant.1 l.invariant.2 (subst (λ k. NotesGathered l.t c.resources_in-resources.result bs k x.result) p.ensures x.ensures) c.put_note.ensures c.is_lost-lost.ensures l.invariant.3)
+    (l.invariant.0, l.invariant.1, notes-more bs s.args.d.now s.args.entries.now s.args.t.now s.args.count l.a c.resources_in-resources.result c.childed_in-childed.result l.t l.given l.lost c.is_lost-lost.result x.result c.loop-a-test.true s.requires.notes_ready l.invariant.0 l.invariant.1 (subst (λ k. NotesGathered l.t c.resources_in-resources.result bs k x.result) p.ensures x.ensures) c.put_note.ensures c.is_lost-lost.ensures l.invariant.2)
 
 pub returns : goal.returns
 returns c =
     let s = c in
     let l = c.loop-a in
-    let e : l.a ≡ s.args.count = omega (arith, l.invariant.0) in
-    subst (λ n. NotesPut (bits_of s.args.s.now) s.args.d.now s.args.entries.now n s.args.t.now l.t l.given l.lost) e l.invariant.3
+    let e : l.a ≡ s.args.count = omega arith in
+    subst (λ n. NotesPut (bits_of s.args.s.now) s.args.d.now s.args.entries.now n s.args.t.now l.t l.given l.lost) e l.invariant.2

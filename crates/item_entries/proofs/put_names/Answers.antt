@@ -1,7 +1,6 @@
 use mathlib.Core.Path.{◌∙◌}
 use Rattle.item_names.specs.NamesLaws.{sets-kept, keys-small, words-few, names-put}
 use Rattle.item_entries.specs.EntryLaws.{cleared-all, names-anew}
-use borrow.Author.Rules.{rules}
 use Rattle.item_entries.proofs.put_names.Goals as goal
 
 pub put_keys-requires : goal.put_keys-requires

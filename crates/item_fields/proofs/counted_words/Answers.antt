@@ -1,7 +1,5 @@
-use Prim.Native.Nat.{◌-◌}
 use Rattle.item_pen.specs.PenLaws.{holds-join}
 use mathlib.Core.Path.{refl}
-use borrow.Author.Rules.{rules}
 use Rattle.item_fields.proofs.counted_words.Goals as goal
 
 pub returns : goal.returns

@@ -1,9 +1,7 @@
-use Prim.Native.Nat.{◌-◌}
 use native.Mathlib.Omega.{arith}
 use Rattle.item_pen.specs.PenLaws.{holds-join, holds-all}
 use Rattle.item_fields.specs.Fields.{head_bits}
 use Rattle.item_fields.specs.FieldLaws.{head-bits}
-use borrow.Author.Rules.{rules}
 use Rattle.item_fields.proofs.head_field.Goals as goal
 
 pub returns : goal.returns

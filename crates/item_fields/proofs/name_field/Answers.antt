@@ -1,10 +1,8 @@
-use Prim.Native.Nat.{◌-◌}
 use native.Mathlib.Omega.{arith}
 use Rattle.definitions.specs.Packing.{name_bits}
 use Rattle.catalogue.specs.Catalogue.{name_of_key}
 use Rattle.item_pen.specs.PenLaws.{holds-join, holds-all}
 use Rattle.item_fields.specs.FieldLaws.{bits-alone, bits-paired}
-use borrow.Author.Rules.{rules}
 use Rattle.item_fields.proofs.name_field.Goals as goal
 
 pub returns-then-second-eq0 : goal.returns-then-second-eq0

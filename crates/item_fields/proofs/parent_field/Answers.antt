@@ -1,10 +1,8 @@
-use Prim.Native.Nat.{◌-◌}
 use native.Mathlib.Omega.{arith}
 use Rattle.definitions.specs.Packing.{parent_bits}
 use Rattle.catalogue.specs.Catalogue.{name_of_key}
 use Rattle.item_pen.specs.PenLaws.{holds-all}
 use Rattle.item_fields.specs.FieldLaws.{parent-bits}
-use borrow.Author.Rules.{rules}
 use Rattle.item_fields.proofs.parent_field.Goals as goal
 
 pub returns : goal.returns

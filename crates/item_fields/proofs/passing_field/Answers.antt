@@ -1,7 +1,7 @@
 use mathlib.Core.Bool.{Bool}
 use mathlib.Core.List.{List, ◌++◌}
 use mathlib.Core.Path.{◌≡◌, ap, ◌∙◌}
-use Prim.Native.Nat.{◌*◌, ◌-◌}
+use Prim.Native.Nat.{◌*◌}
 use native.Mathlib.Omega.{arith}
 use lib.ListN.{length}
 use Rattle.definitions.specs.Bits.{to_bits}
@@ -10,7 +10,6 @@ use Rattle.definitions.specs.Comparisons.{dotted}
 use Rattle.catalogue.specs.Catalogue.{name_of_key}
 use Rattle.item_pen.specs.PenLaws.{holds-join, holds-all}
 use Rattle.item_fields.specs.FieldLaws.{words-alone, long-alone, words-paired, long-paired, parent-bits, dotted-bits, dotted-long}
-use borrow.Author.Rules.{rules}
 use Rattle.item_fields.proofs.passing_field.Goals as goal
 
 pub returns-then-second-eq0 : goal.returns-then-second-eq0

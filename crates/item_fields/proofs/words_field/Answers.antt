@@ -1,4 +1,4 @@
-use Prim.Native.Nat.{◌*◌, ◌-◌}
+use Prim.Native.Nat.{◌*◌}
 use native.Mathlib.Omega.{arith}
 use lib.ListN.{length}
 use Rattle.catalogue.specs.Catalogue.{name_of_key}
@@ -6,7 +6,6 @@ use Rattle.item_pen.specs.PenLaws.{holds-join, holds_as}
 use Rattle.item_fields.specs.Fields.{words_bits}
 use Rattle.item_fields.specs.FieldLaws.{words-alone, long-alone, words-paired, long-paired}
 use mathlib.Core.Path.{sym}
-use borrow.Author.Rules.{rules}
 use Rattle.item_fields.proofs.words_field.Goals as goal
 
 pub returns-then-second-eq0 : goal.returns-then-second-eq0

@@ -1,6 +1,5 @@
 use native.Mathlib.Omega.{arith}
 use Rattle.item_heads.specs.HeadLaws.{packs-derive, packs-list}
-use borrow.Author.Rules.{rules}
 use Rattle.item_heads.proofs.with_mark.Goals as goal
 
 pub returns-then-derive-eq1 : goal.returns-then-derive-eq1

@@ -1,7 +1,6 @@
 use mathlib.Core.Path.{sym}
 use Rattle.item_pen.specs.PenLaws.{adds-as, adds_then, room_as, room-head, room-tail}
 use Rattle.item_making.specs.MakingLaws.{alone-behind, behind-are}
-use borrow.Author.Rules.{rules}
 use Rattle.item_making.proofs.add_behind.Goals as goal
 
 pub lowest-requires : goal.lowest-requires

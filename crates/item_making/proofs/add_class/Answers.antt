@@ -5,7 +5,6 @@ use native.Mathlib.Omega.{arith}
 use Rattle.definitions.specs.Bits.{to_bits}
 use Rattle.item_pen.specs.PenLaws.{room_as, room-head, room-tail, adds-as, adds_then}
 use Rattle.item_making.specs.MakingLaws.{marks-are, marks-parts}
-use borrow.Author.Rules.{rules}
 use Rattle.item_making.proofs.add_class.Goals as goal
 
 pub add-requires : goal.add-requires

@@ -2,7 +2,6 @@ use mathlib.Core.Path.{sym}
 use Rattle.definitions.specs.Bits.{to_bits}
 use Rattle.item_pen.specs.PenLaws.{adds-as, adds_then, room_as, room-head, room-tail}
 use Rattle.item_making.specs.MakingLaws.{marks-both}
-use borrow.Author.Rules.{rules}
 use Rattle.item_making.proofs.add_marks.Goals as goal
 
 pub add-to-requires : goal.add-to-requires

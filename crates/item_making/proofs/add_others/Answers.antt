@@ -1,7 +1,6 @@
 use mathlib.Core.Path.{sym, ◌∙◌}
 use Rattle.item_pen.specs.PenLaws.{holds-join, adds-as, adds_then, room_as, room-head, room-tail}
 use Rattle.item_making.specs.MakingLaws.{others-are, resource-bits}
-use borrow.Author.Rules.{rules}
 use Rattle.item_making.proofs.add_others.Goals as goal
 
 pub add-to-requires : goal.add-to-requires

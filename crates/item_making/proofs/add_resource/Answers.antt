@@ -4,7 +4,6 @@ use mathlib.Core.Path.{sym, ap}
 use Rattle.item_pen.specs.PenLaws.{adds-as, adds_then, room_as, room-head, room-tail}
 use Rattle.item_making.specs.Making.{each_of, first_bits}
 use Rattle.item_making.specs.MakingLaws.{resource-parts}
-use borrow.Author.Rules.{rules}
 use Rattle.item_making.proofs.add_resource.Goals as goal
 
 pub add_firsts-to-requires : goal.add_firsts-to-requires

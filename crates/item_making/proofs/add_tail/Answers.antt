@@ -3,7 +3,6 @@ use mathlib.Core.Path.{sym, ap₂, ◌∙◌}
 use native.Mathlib.Omega.{arith}
 use Rattle.item_pen.specs.PenLaws.{holds-join, room_as, room-head, room-tail, adds-as, adds_then}
 use Rattle.item_making.specs.MakingLaws.{tail-short, tail-long}
-use borrow.Author.Rules.{rules}
 use Rattle.item_making.proofs.add_tail.Goals as goal
 
 pub add-requires : goal.add-requires

@@ -1,6 +1,5 @@
 use native.Mathlib.Omega.{arith}
 use Rattle.item_making.specs.MakingLaws.{parents-count}
-use borrow.Author.Rules.{rules}
 use Rattle.item_making.proofs.count_parents.Goals as goal
 
 pub returns : goal.returns

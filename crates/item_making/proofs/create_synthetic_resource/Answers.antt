@@ -1,8 +1,6 @@
 use mathlib.Core.Path.{sym, ◌∙◌}
 use native.Mathlib.Omega.{arith}
-use borrow.Author.Tests.{not-true}
 use Rattle.item_pen.specs.PenLaws.{adds_same, adds_then}
-use borrow.Author.Rules.{rules}
 use Rattle.item_making.proofs.create_synthetic_resource.Goals as goal
 
 pub pass_over-requires : goal.pass_over-requires

@@ -2,10 +2,8 @@ use mathlib.Core.List.{[]}
 use mathlib.Core.Path.{sym, ap, ap₂, ◌∙◌}
 use native.Mathlib.Omega.{arith}
 use lib.ListN.{length}
-use borrow.Author.Tests.{not-true}
 use Rattle.item_fields.specs.Fields.{line_bits}
 use Rattle.item_pen.specs.PenLaws.{adds-as, adds_then, room_as, room-tail}
-use borrow.Author.Rules.{rules}
 use Rattle.item_making.proofs.extension_line.Goals as goal
 
 pub pass_over-requires : goal.pass_over-requires

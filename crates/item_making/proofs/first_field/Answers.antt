@@ -1,7 +1,6 @@
 use native.Mathlib.Omega.{arith}
 use Rattle.item_pen.specs.PenLaws.{holds-all}
 use Rattle.item_making.specs.MakingLaws.{first-passing, first-own}
-use borrow.Author.Rules.{rules}
 use Rattle.item_making.proofs.first_field.Goals as goal
 
 pub returns-then-m : goal.returns-then-m

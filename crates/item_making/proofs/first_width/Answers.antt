@@ -1,4 +1,3 @@
-use borrow.Author.Rules.{rules}
 use Rattle.item_making.proofs.first_width.Goals as goal
 
 pub returns : goal.returns

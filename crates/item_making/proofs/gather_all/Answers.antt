@@ -1,5 +1,4 @@
 use Rattle.item_making.specs.MakingLaws.{gathers-both}
-use borrow.Author.Rules.{rules}
 use Rattle.item_making.proofs.gather_all.Goals as goal
 
 pub returns : goal.returns

@@ -3,7 +3,6 @@ use native.Mathlib.Omega.{arith}
 use borrow.Author.Tests.{eqb-true}
 use Rattle.lists.specs.Tests.{never}
 use Rattle.bitsets.specs.Bitsets.{Rest}
-use borrow.Author.Rules.{rules}
 use Rattle.item_making.proofs.is_alone.Goals as goal
 
 pub returns-then-m-ne0 : goal.returns-then-m-ne0

@@ -6,7 +6,6 @@ use Rattle.definitions.specs.Packing.{parent_bits}
 use Rattle.catalogue.specs.Layout.{resource_in}
 use Rattle.item_pen.specs.PenLaws.{holds_as, holds-join}
 use Rattle.item_making.specs.MakingLaws.{resource-bits}
-use borrow.Author.Rules.{rules}
 use Rattle.item_making.proofs.tail_start.Goals as goal
 
 pub returns : goal.returns

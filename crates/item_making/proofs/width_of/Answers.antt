@@ -1,5 +1,4 @@
 use Rattle.item_making.specs.MakingLaws.{made-long}
-use borrow.Author.Rules.{rules}
 use Rattle.item_making.proofs.width_of.Goals as goal
 
 pub returns : goal.returns

@@ -1,6 +1,5 @@
 use native.Mathlib.Omega.{arith}
 use Rattle.item_names.specs.NamesLaws.{marked}
-use borrow.Author.Rules.{rules}
 use Rattle.item_names.proofs.mark_name.Goals as goal
 
 pub returns : goal.returns

@@ -1,5 +1,5 @@
 use mathlib.Core.Path.{◌≡◌, ap, ap₂, subst, ◌∙◌}
-use Prim.Native.Nat.{◌+◌, ◌-◌, ◌≤◌}
+use Prim.Native.Nat.{◌+◌}
 use lib.Bits.{bit_and, bit_or}
 use Rattle.catalogue.specs.Layout.{first_at, second_at}
 use Rattle.item_names.specs.Names.{mask_of, WordPut, WordsPut}
@@ -15,46 +15,28 @@ turn-mask : (c : After-second_at-second) →
 turn-mask c =
     let l = c.loop-w in
     ap₂ (λ x y. bit_or (bit_and x c.second_at-none.result) y) c.first_at-first.ensures c.second_at-second.ensures
-    ∙ ap (λ z. bit_or (bit_and (first_at l.t l.w) z) (second_at l.t (l.w + 1))) l.invariant.1
-    ∙ turned _ l.t l.w l.invariant.2
-
-pub second_at-none-requires : goal.second_at-none-requires
-second_at-none-requires c = omega arith
+    ∙ ap (λ z. bit_or (bit_and (first_at l.t l.w) z) (second_at l.t (l.w + 1))) l.invariant.0
+    ∙ turned _ l.t l.w l.invariant.1
 
 pub loop-w-init : goal.loop-w-init
-loop-w-init c = (omega arith, c.second_at-none.ensures, words-none _)
-
-pub first_at-first-requires : goal.first_at-first-requires
-first_at-first-requires c = omega (arith, c.requires.small)
-
-pub overflow_add-w : goal.overflow_add-w
-overflow_add-w c = omega (arith, c.requires.small)
-
-pub second_at-second-requires : goal.second_at-second-requires
-second_at-second-requires c = omega (arith, c.requires.small)
+loop-w-init c = (c.second_at-none.ensures, words-none _)
 
 pub put_word_if-n-requires : goal.put_word_if-n-requires
 put_word_if-n-requires c =
     let s = c in
     let l = c.loop-w in
-    λ q. room s.args.width l.w l.n s.args.t.now l.t s.requires c.loop-w-test.true l.invariant.2 (λ e. q (turn-mask (goal.at.put_word_if-n-requires c).After-second_at-second ∙ e))
-
-pub overflow_add-w-in-loop-w : goal.overflow_add-w-in-loop-w
-overflow_add-w-in-loop-w c = omega (arith, c.requires.small)
-
-pub loop-w-smaller : goal.loop-w-smaller
-loop-w-smaller c = omega arith
+    λ q. room s.args.width l.w l.n s.args.t.now l.t s.requires c.loop-w-test.true l.invariant.1 (λ e. q (turn-mask (goal.at.put_word_if-n-requires c).After-second_at-second ∙ e))
 
 pub loop-w-preserved : goal.loop-w-preserved
 loop-w-preserved c =
     let s = c in
     let l = c.loop-w in
     let e = turn-mask (goal.at.loop-w-preserved c).After-second_at-second in
-    (omega arith, l.invariant.1, words_more s.args.width l.w l.n s.args.t.now l.t s.requires c.loop-w-test.true l.invariant.2 _ _ (subst (λ m. WordPut l.n l.w m l.t c.put_word_if-n.new.t c.put_word_if-n.result) e c.put_word_if-n.ensures))
+    (l.invariant.0, words_more s.args.width l.w l.n s.args.t.now l.t s.requires c.loop-w-test.true l.invariant.1 _ _ (subst (λ m. WordPut l.n l.w m l.t c.put_word_if-n.new.t c.put_word_if-n.result) e c.put_word_if-n.ensures))
 
 pub returns : goal.returns
 returns c =
     let s = c in
     let l = c.loop-w in
-    let e : l.w ≡ s.args.width = omega (arith, l.invariant.0) in
-    subst (λ w. WordsPut w s.args.t.now l.t l.n) e l.invariant.2
+    let e : l.w ≡ s.args.width = omega arith in
+    subst (λ w. WordsPut w s.args.t.now l.t l.n) e l.invariant.1

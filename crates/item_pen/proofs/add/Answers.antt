@@ -1,12 +1,7 @@
-use native.Mathlib.Omega.{arith}
 use Rattle.item_pen.specs.PenLaws.{field_room}
-use borrow.Author.Rules.{rules}
 use Rattle.item_pen.proofs.add.Goals as goal
 
 pub put-at-requires : goal.put-at-requires
 put-at-requires c =
     let s = c in
     field_room s.args.buf.now s.args.pen s.args.f s.requires.full s.requires.room_for
-
-pub returns : goal.returns
-returns c = record { items = omega arith; penned = c.put-at.ensures }

@@ -1,9 +1,7 @@
 use mathlib.Core.Path.{sym, ◌∙◌}
 use native.Mathlib.Omega.{arith}
-use borrow.Author.Tests.{not-true, not-false}
 use Rattle.bits.specs.NumberLaws.{length-to_bits}
 use Rattle.item_pen.specs.PenLaws.{field_room, once-down}
-use borrow.Author.Rules.{rules}
 use Rattle.item_pen.proofs.add_once.Goals as goal
 
 pub pass_over-requires : goal.pass_over-requires

@@ -1,11 +1,9 @@
 use mathlib.Core.Path.{◌≡◌, refl, subst}
 use mathlib.Core.Bool.{true}
 use native.Mathlib.Omega.{arith}
-use borrow.Author.Tests.{not-true, not-false}
 use Rattle.bits.specs.NumberLaws.{length-to_bits}
 use Rattle.item_pen.specs.Pen.{fresh, field_bits, RoomFor}
 use Rattle.item_pen.specs.PenLaws.{begun-up, begun-down}
-use borrow.Author.Rules.{rules}
 use Rattle.item_pen.proofs.begin.Goals as goal
 
 pub returns-then-not-down : goal.returns-then-not-down

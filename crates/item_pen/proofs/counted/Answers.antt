@@ -1,5 +1,4 @@
 use Rattle.item_pen.specs.PenLaws.{counted_is}
-use borrow.Author.Rules.{rules}
 use Rattle.item_pen.proofs.counted.Goals as goal
 
 pub returns : goal.returns

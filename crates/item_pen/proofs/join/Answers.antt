@@ -1,5 +1,4 @@
 use Rattle.item_pen.specs.PenLaws.{joined_small, join-holds}
-use borrow.Author.Rules.{rules}
 use Rattle.item_pen.proofs.join.Goals as goal
 
 pub overflow_add-result-2 : goal.overflow_add-result-2

@@ -1,7 +1,6 @@
 use mathlib.Core.Path.{sym}
 use native.Mathlib.Omega.{arith}
 use Rattle.item_pen.specs.PenLaws.{flushed-none, flushed-all, field_room, adds-as, adds_none, room_as}
-use borrow.Author.Rules.{rules}
 use Rattle.item_pen.proofs.make_room.Goals as goal
 
 pub returns-then-held-f-le56 : goal.returns-then-held-f-le56

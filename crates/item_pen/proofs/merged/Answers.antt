@@ -1,7 +1,6 @@
 use lib.Bits.{and_le_l}
 use Rattle.item_pen.specs.WideLaws.{hole-one, hole-under, merged-is, merged-small}
 use native.Mathlib.Omega.{arith}
-use borrow.Author.Rules.{rules}
 use Rattle.item_pen.proofs.merged.Goals as goal
 
 pub overflow_sub-hole : goal.overflow_sub-hole

@@ -4,7 +4,6 @@ use native.Mathlib.Nat.{mod-lt}
 use lib.Pow.{pow_pos}
 use Rattle.definitions.specs.Bits.{to_bits}
 use Rattle.item_pen.specs.PenLaws.{shifted_one, last-bits}
-use borrow.Author.Rules.{rules}
 use Rattle.item_pen.proofs.number.Goals as goal
 
 pub nonzero_rem-result : goal.nonzero_rem-result

@@ -1,5 +1,4 @@
 use Rattle.item_pen.specs.PenLaws.{passed_over}
-use borrow.Author.Rules.{rules}
 use Rattle.item_pen.proofs.pass_over.Goals as goal
 
 pub returns : goal.returns

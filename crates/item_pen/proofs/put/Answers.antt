@@ -1,8 +1,6 @@
-use borrow.Author.Tests.{not-true, not-false}
 use mathlib.Core.Path.{refl}
 use native.Mathlib.Omega.{arith}
 use Rattle.bits.specs.NumberLaws.{length-to_bits}
-use borrow.Author.Rules.{rules}
 use Rattle.item_pen.proofs.put.Goals as goal
 
 pub returns-then-not-down : goal.returns-then-not-down

@@ -2,7 +2,6 @@ use mathlib.Core.Path.{sym}
 use native.Mathlib.Omega.{arith}
 use Rattle.bits.specs.NumberLaws.{length-to_bits}
 use Rattle.bits.specs.WriteLaws.{put-none}
-use borrow.Author.Rules.{rules}
 use Rattle.item_pen.proofs.put_bits.Goals as goal
 
 pub returns-then-n-eq0 : goal.returns-then-n-eq0

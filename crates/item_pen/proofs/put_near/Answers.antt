@@ -1,23 +1,11 @@
 use Rattle.item_pen.specs.PenLaws.{part-less, part-last}
 use Rattle.bits.specs.WriteLaws.{length-put}
 use mathlib.Core.Path.{ap, ◌∙◌}
-use Prim.Native.Nat.{◌-◌, ◌≤◌}
 use native.Mathlib.Omega.{arith}
 use lib.ListN.{length}
 use Rattle.definitions.specs.Bits.{to_bits}
-use Rattle.bits.specs.Writing.{Left}
 use Rattle.bits.specs.NumberLaws.{length-to_bits}
-use Rattle.bits.specs.WriteLaws.{left-all}
 use Rattle.item_pen.proofs.put_near.Goals as goal
-
-pub loop-left-init : goal.loop-left-init
-loop-left-init c = (omega arith, left-all _ _ _)
-
-pub overflow_sub-left : goal.overflow_sub-left
-overflow_sub-left c = omega arith
-
-pub overflow_shr-v : goal.overflow_shr-v
-overflow_shr-v c = omega arith
 
 pub write-c-requires : goal.write-c-requires
 write-c-requires c =
@@ -26,9 +14,6 @@ write-c-requires c =
     let x = length-to_bits a.n a.v in
     let y = length-to_bits l.left a.v in
     (omega arith, omega (arith, l.invariant.1.end, l.invariant.1.long, c.requires), omega (arith, l.invariant.1.end, c.requires))
-
-pub loop-left-smaller : goal.loop-left-smaller
-loop-left-smaller c = omega arith
 
 pub loop-left-preserved : goal.loop-left-preserved
 loop-left-preserved c =

@@ -1,13 +1,6 @@
-use Rattle.item_pen.specs.PenLaws.{part-less, part-last}
-use Rattle.bits.specs.WriteLaws.{length-put}
-use mathlib.Core.Path.{ap, ◌∙◌}
-use Prim.Native.Nat.{◌-◌, ◌≤◌}
-use native.Mathlib.Omega.{arith}
-use lib.ListN.{length}
+use Prim.Native.Nat.{◌≤◌}
 use Rattle.definitions.specs.Bits.{to_bits}
 use Rattle.bits.specs.Writing.{Left}
-use Rattle.bits.specs.NumberLaws.{length-to_bits}
-use Rattle.bits.specs.WriteLaws.{left-all}
 use Rattle.item_pen.proofs.put_near.Given as goal
 
 abbrev pub invariant-loop-left : goal.invariant-loop-left

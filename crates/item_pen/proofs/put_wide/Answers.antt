@@ -1,7 +1,5 @@
 use Rattle.item_pen.specs.WideLaws.{put-wide-is}
 use mathlib.Core.Path.{◌∙◌}
-use Prim.Native.Nat.{◌-◌}
-use borrow.Author.Rules.{rules}
 use Rattle.item_pen.proofs.put_wide.Goals as goal
 
 pub returns : goal.returns

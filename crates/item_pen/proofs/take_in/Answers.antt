@@ -2,7 +2,6 @@ use mathlib.Core.List.{◌++◌}
 use mathlib.Core.Path.{ap, ◌∙◌}
 use Rattle.item_pen.specs.Pen.{field_bits}
 use Rattle.item_pen.specs.PenLaws.{flushed-none, flushed-all}
-use borrow.Author.Rules.{rules}
 use Rattle.item_pen.proofs.take_in.Goals as goal
 
 pub returns-then-held-f-le56 : goal.returns-then-held-f-le56

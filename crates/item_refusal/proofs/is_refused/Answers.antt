@@ -1,4 +1,3 @@
-use borrow.Author.Rules.{rules}
 use Rattle.item_refusal.specs.DecideLaws.{decides, refused-lost, refused_none, refused-taken, refused-again}
 use Rattle.item_refusal.proofs.is_refused.Goals as goal
 

@@ -1,4 +1,3 @@
-use borrow.Author.Rules.{rules}
 use Rattle.item_refusal.specs.TestLaws.{repeated-none, repeated-apart, repeated-beside, repeated-unlike, repeated-marks}
 use Rattle.item_refusal.proofs.is_repeated.Goals as goal
 

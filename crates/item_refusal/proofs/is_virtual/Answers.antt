@@ -1,6 +1,5 @@
 use mathlib.Core.Path.{ap}
 use Prim.Native.Nat.{ℕ}
-use borrow.Author.Rules.{rules}
 use Rattle.catalogue.specs.Catalogue.{virtual_head}
 use Rattle.item_refusal.specs.Tests.{is_virtual}
 use Rattle.item_refusal.proofs.is_virtual.Goals as goal

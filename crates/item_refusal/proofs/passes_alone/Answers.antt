@@ -1,4 +1,3 @@
-use borrow.Author.Rules.{rules}
 use Rattle.item_refusal.specs.TestLaws.{alone-none, alone-not, alone-some}
 use Rattle.item_refusal.proofs.passes_alone.Goals as goal
 

@@ -3,7 +3,6 @@ use mathlib.Core.Path.{ap}
 use Prim.Native.Nat.{ℕ}
 use lib.Bits.{bit_and}
 use lib.Dec.{eqb}
-use borrow.Author.Rules.{rules}
 use Rattle.item_refusal.specs.Tests.{passes}
 use Rattle.item_refusal.proofs.passes_on.Goals as goal
 

@@ -1,5 +1,3 @@
-use borrow.Author.Rules.{rules}
-use borrow.Author.Tests.{not-true, not-false}
 use Rattle.item_refusal.specs.TestLaws.{virtual-not, virtual-both}
 use Rattle.item_refusal.proofs.same_virtual.Goals as goal
 

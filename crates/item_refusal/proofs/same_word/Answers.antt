@@ -1,4 +1,3 @@
-use borrow.Author.Rules.{rules}
 use Rattle.item_refusal.specs.TestLaws.{word_none, word_some}
 use Rattle.item_refusal.proofs.same_word.Goals as goal
 

@@ -1,4 +1,3 @@
-use borrow.Author.Rules.{rules}
 use Rattle.item_refusal.specs.TestLaws.{takes_none, takes-some}
 use Rattle.item_refusal.proofs.takes_name.Goals as goal
 

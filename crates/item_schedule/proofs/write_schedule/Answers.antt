@@ -4,7 +4,6 @@ use native.Mathlib.Omega.{arith}
 use Rattle.lists.specs.Tests.{never}
 use Rattle.item_writer.proofs.SheetItems.{sound}
 use Rattle.item_schedule.specs.ScheduleLaws.{bits-long, bits_most, passable, none-noted, lists-short, lists-long}
-use borrow.Author.Rules.{rules}
 use Rattle.item_schedule.proofs.write_schedule.Goals as goal
 
 pub fill_words-requires : goal.fill_words-requires

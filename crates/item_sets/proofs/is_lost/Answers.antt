@@ -1,6 +1,5 @@
 use mathlib.Core.Bool.{◌&&◌, ◌||◌}
 use mathlib.Core.Path.{ap}
-use borrow.Author.Rules.{rules}
 use Rattle.item_sets.proofs.is_lost.Goals as goal
 
 pub returns : goal.returns

@@ -1,5 +1,4 @@
 use Rattle.item_sets.specs.SetsLaws.{numbers-put}
-use borrow.Author.Rules.{rules}
 use Rattle.item_sets.proofs.put_numbers.Goals as goal
 
 pub returns : goal.returns

@@ -1,11 +1,7 @@
-use native.Mathlib.Omega.{arith}
-use Rattle.item_spread.specs.SpreadLaws.{UnitedTo, united-none, united-all}
+use Rattle.item_spread.specs.SpreadLaws.{UnitedTo}
 use Rattle.item_sets.specs.Sets.{passed_sets}
-use Rattle.item_sets.specs.SetsLaws.{united-next}
 use Rattle.item_sets.proofs.united.Given as goal
 
-abbrev pub invariant-loop-left : goal.invariant-loop-left
-invariant-loop-left l = UnitedTo l.types (passed_sets l.t) l.out l.left
-
-abbrev pub decreases-loop-left : goal.decreases-loop-left
-decreases-loop-left l = l.left
+abbrev pub invariant-loop-p : goal.invariant-loop-p
+invariant-loop-p l =
+    (goal.iterator-loop-p).can_next l.p-iterator × (goal.iterator-loop-p).is_finite l.p-iterator × UnitedTo l.types (passed_sets l.t) l.out l.p-iterator.left

@@ -2,12 +2,11 @@ use mathlib.Core.Path.{subst}
 use Rattle.item_writer.specs.Items.{CommonIs, PassingIs}
 use mathlib.Core.List.{[], ◌∷◌}
 use mathlib.Core.Path.{sym, ap}
-use Prim.Native.Nat.{ℕ, ◌-◌}
+use Prim.Native.Nat.{ℕ}
 use lib.Bits.{bit_and}
 use Rattle.item_pen.specs.PenLaws.{adds-as, adds_one, room-one, room_as, all-as, room-all-as, adds_none}
 use Rattle.item_writer.specs.Items.{inherited_bits, inherited_items}
 use Rattle.item_writer.specs.WriterLaws.{inherited-made, inherited-not, inherited-so}
-use borrow.Author.Rules.{rules}
 use Rattle.item_writer.proofs.add_inherited.Goals as goal
 
 pub returns-then-classes-eq0 : goal.returns-then-classes-eq0

@@ -1,6 +1,5 @@
 use mathlib.Core.List.{◌++◌, [], ◌∷◌}
 use mathlib.Core.Path.{sym}
-use Prim.Native.Nat.{◌+◌, ◌-◌}
 use native.Mathlib.Omega.{arith}
 use lib.Bits.{bit_and}
 use Rattle.catalogue.specs.Layout.{key_at, head_at}
@@ -9,7 +8,6 @@ use Rattle.item_pen.specs.PenLaws.{adds_one, room-one, all_head, all_tail, all_t
 use Rattle.item_writer.specs.declared.Site.{Site}
 use Rattle.item_writer.specs.Items.{own_items, inherited_items, word_items}
 use Rattle.item_writer.specs.WriterLaws.{word-parts}
-use borrow.Author.Rules.{rules}
 use Rattle.item_writer.proofs.add_word.Goals as goal
 
 pub records_of-requires : goal.records_of-requires

@@ -1,30 +1,21 @@
 use native.Mathlib.Omega.{arith}
-use Rattle.item_writer.specs.WriterLaws.{CommonTo, common-none, common-more, common-all}
+use Rattle.item_writer.specs.WriterLaws.{common-none, common-more, common-all}
 use Rattle.item_writer.proofs.common_of.Goals as goal
 
-pub loop-left-init : goal.loop-left-init
-loop-left-init c = common-none _ _ _
-
-pub lowest-p-requires : goal.lowest-p-requires
-lowest-p-requires c = omega arith
+pub loop-p-init : goal.loop-p-init
+loop-p-init c = rw (c.into_iter-p-iterator.ensures.into_iter_gives, c.members-p-items.ensures) (tt, tt, common-none _ _ _)
 
 pub passed_at-out-requires : goal.passed_at-out-requires
-passed_at-out-requires c = c.lowest-p.ensures.place
+passed_at-out-requires c = c.in-Some.ensures.steps.0.place
 
-pub rest-left-requires : goal.rest-left-requires
-rest-left-requires c = omega arith
-
-pub loop-left-smaller : goal.loop-left-smaller
-loop-left-smaller c = c.rest-left.ensures.less
-
-pub loop-left-preserved : goal.loop-left-preserved
-loop-left-preserved c =
+pub loop-p-preserved : goal.loop-p-preserved
+loop-p-preserved c =
     let a = c.args in
-    let l = c.loop-left in
-    common-more a.t.now a.types l.out l.left c.lowest-p.result c.rest-left.result c.passed_at-out.result c.lowest-p.ensures c.rest-left.ensures c.passed_at-out.ensures l.invariant
+    let l = c.loop-p in
+    (tt, tt, common-more a.t.now a.types l.out l.p-iterator.left c.in-Some.p c.next.new.self.left c.passed_at-out.result c.in-Some.ensures.steps.0 c.in-Some.ensures.steps.1 c.passed_at-out.ensures l.invariant.2)
 
 pub returns : goal.returns
 returns c =
     let a = c.args in
-    let l = c.loop-left in
-    common-all a.t.now a.types l.out l.left (omega arith) l.invariant
+    let l = c.loop-p in
+    common-all a.t.now a.types l.out l.p-iterator.left (omega (arith, c.in-None.ensures.steps.0)) l.invariant.2

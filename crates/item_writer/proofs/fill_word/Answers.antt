@@ -1,43 +1,33 @@
-use Prim.Native.Nat.{◌-◌}
 use native.Mathlib.Omega.{arith}
-use Rattle.item_writer.specs.WriterLaws.{FillsTo, fills-none, fills-more, fills-all}
+use Rattle.item_writer.specs.WriterLaws.{fills-none, fills-more, fills-all}
 use Rattle.item_writer.proofs.fill_word.Goals as goal
 
 pub overflow_shl-bit : goal.overflow_shl-bit
 overflow_shl-bit c = c.requires.1
 
-pub loop-left-init : goal.loop-left-init
-loop-left-init c = fills-none _ _ _
-
-pub lowest-c-requires : goal.lowest-c-requires
-lowest-c-requires c = omega arith
+pub loop-c-init : goal.loop-c-init
+loop-c-init c = rw (c.into_iter-c-iterator.ensures.into_iter_gives, c.members-c-items.ensures) (tt, tt, fills-none _ _ _)
 
 pub offset_bounds-words-c : goal.offset_bounds-words-c
-offset_bounds-words-c c = omega (arith, c.lowest-c.ensures.place)
+offset_bounds-words-c c = omega (arith, c.in-Some.ensures.steps.0.place)
 
 pub bounds-words-c : goal.bounds-words-c
-bounds-words-c c = omega (arith, c.lowest-c.ensures.place, c.loop-left.invariant.long, c.requires)
+bounds-words-c c = omega (arith, c.in-Some.ensures.steps.0.place, c.loop-c.invariant.2.long, c.requires)
 
-pub offset_bounds-words-c-in-loop-left : goal.offset_bounds-words-c-in-loop-left
-offset_bounds-words-c-in-loop-left c = omega (arith, c.lowest-c.ensures.place)
+pub offset_bounds-words-c-in-loop-c : goal.offset_bounds-words-c-in-loop-c
+offset_bounds-words-c-in-loop-c c = omega (arith, c.in-Some.ensures.steps.0.place)
 
-pub bounds-words-c-in-loop-left : goal.bounds-words-c-in-loop-left
-bounds-words-c-in-loop-left c = omega (arith, c.lowest-c.ensures.place, c.loop-left.invariant.long, c.requires)
+pub bounds-words-c-in-loop-c : goal.bounds-words-c-in-loop-c
+bounds-words-c-in-loop-c c = omega (arith, c.in-Some.ensures.steps.0.place, c.loop-c.invariant.2.long, c.requires)
 
-pub rest-left-requires : goal.rest-left-requires
-rest-left-requires c = omega arith
-
-pub loop-left-smaller : goal.loop-left-smaller
-loop-left-smaller c = c.rest-left.ensures.less
-
-pub loop-left-preserved : goal.loop-left-preserved
-loop-left-preserved c =
+pub loop-c-preserved : goal.loop-c-preserved
+loop-c-preserved c =
     let s = c in
-    let l = c.loop-left in
-    fills-more s.args.words.now s.args.types s.args.k l.words l.left c.lowest-c.result c.rest-left.result s.requires.0 s.requires.1 c.lowest-c.ensures c.rest-left.ensures l.invariant
+    let l = c.loop-c in
+    (tt, tt, fills-more s.args.words.now s.args.types s.args.k l.words l.c-iterator.left c.in-Some.c c.next.new.self.left s.requires.0 s.requires.1 c.in-Some.ensures.steps.0 c.in-Some.ensures.steps.1 l.invariant.2)
 
 pub shape_of-words : goal.shape_of-words
-shape_of-words c = c.loop-left.invariant.long
+shape_of-words c = c.loop-c.invariant.2.long
 
 pub returns : goal.returns
-returns c = fills-all _ _ _ _ c.loop-left.left (omega arith) c.loop-left.invariant
+returns c = fills-all _ _ _ _ c.loop-c.c-iterator.left (omega (arith, c.in-None.ensures.steps.0)) c.loop-c.invariant.2

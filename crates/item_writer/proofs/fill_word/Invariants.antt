@@ -1,10 +1,6 @@
-use Prim.Native.Nat.{◌-◌}
-use native.Mathlib.Omega.{arith}
-use Rattle.item_writer.specs.WriterLaws.{FillsTo, fills-none, fills-more, fills-all}
+use Rattle.item_writer.specs.WriterLaws.{FillsTo}
 use Rattle.item_writer.proofs.fill_word.Given as goal
 
-abbrev pub invariant-loop-left : goal.invariant-loop-left
-invariant-loop-left l = FillsTo l.initial.words l.types l.k l.words l.left
-
-abbrev pub decreases-loop-left : goal.decreases-loop-left
-decreases-loop-left l = l.left
+abbrev pub invariant-loop-c : goal.invariant-loop-c
+invariant-loop-c l =
+    (goal.iterator-loop-c).can_next l.c-iterator × (goal.iterator-loop-c).is_finite l.c-iterator × FillsTo l.initial.words l.types l.k l.words l.c-iterator.left

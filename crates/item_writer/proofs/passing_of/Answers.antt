@@ -1,6 +1,5 @@
 use native.Mathlib.Omega.{arith}
 use Rattle.item_writer.specs.WriterLaws.{all_pass}
-use borrow.Author.Rules.{rules}
 use Rattle.item_writer.proofs.passing_of.Goals as goal
 
 pub returns-then-common-mask-ne0 : goal.returns-then-common-mask-ne0

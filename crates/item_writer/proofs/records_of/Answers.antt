@@ -1,5 +1,5 @@
 use mathlib.Core.Path.{subst}
-use Prim.Native.Nat.{ℕ, ◌≤◌, ◌+◌, ◌-◌, ◌*◌}
+use Prim.Native.Nat.{ℕ, ◌+◌, ◌*◌}
 use native.Mathlib.Omega.{arith}
 use Rattle.item_writer.specs.WriterLaws.{RecordsTo, records-none, records-more, records-all, records-empty, has-not, has-so}
 use Rattle.item_writer.proofs.records_of.Goals as goal
@@ -28,25 +28,19 @@ pub extensions_in-count-requires : goal.extensions_in-count-requires
 extensions_in-count-requires c = tt
 
 pub loop-e-init : goal.loop-e-init
-loop-e-init c = (omega arith, records-none _ _)
+loop-e-init c = records-none _ _
 
 pub with_record-out-requires : goal.with_record-out-requires
 with_record-out-requires c = omega (arith, c.extensions_in-count.ensures, c.requires.0.records)
 
-pub overflow_add-e : goal.overflow_add-e
-overflow_add-e c = omega (arith, c.extensions_in-count.ensures, c.requires.0.records)
-
-pub loop-e-smaller : goal.loop-e-smaller
-loop-e-smaller c = omega arith
-
 pub loop-e-preserved : goal.loop-e-preserved
-loop-e-preserved c = (omega arith, records-more _ _ _ _ _ c.with_record-out.ensures c.loop-e.invariant.1)
+loop-e-preserved c = records-more _ _ _ _ _ c.with_record-out.ensures c.loop-e.invariant
 
 pub returns : goal.returns
 returns c =
     let s = c in
     let a = s.args in
     let l = c.loop-e in
-    records-all a.t.now a.a a.word s.requires.0 l.out l.e (omega (arith, c.extensions_in-count.ensures)) (omega (arith, c.extensions_in-count.ensures, l.invariant.0))
+    records-all a.t.now a.a a.word s.requires.0 l.out l.e (omega (arith, c.extensions_in-count.ensures)) (omega (arith, c.extensions_in-count.ensures))
     (rw (← c.extended_in.ensures) (has-so c.extended_in.result a.a c.if-extended_in-a-eq0.false))
-    (subst (λ (k : ℕ). RecordsTo a.t.now (k * 256 + a.word) l.out l.e) c.key_at.ensures l.invariant.1)
+    (subst (λ (k : ℕ). RecordsTo a.t.now (k * 256 + a.word) l.out l.e) c.key_at.ensures l.invariant)
