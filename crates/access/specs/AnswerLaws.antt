@@ -1,9 +1,9 @@
 -- Test by test, what the definitions answer to either call.
-use Rattle.std.specs.Prelude.{Bool, true, false, ◌≡◌, ℕ, ◌≤◌, ltb, length}
+use Rattle.std.specs.Prelude.{Bool, true, false, ◌≡◌, ℕ, ◌≤◌, ltb, length, Ok}
 use Rattle.std.proofs.Math.Bool.{not}
 use mathlib.Core.List.{List, [], ◌∷◌}
 use Rattle.std.proofs.Math.Path.{refl, sym, ap}
-use Rattle.std.proofs.Common.{◌∙◌, le-ltb}
+use Rattle.std.proofs.Common.{◌∙◌, arith, le-ltb}
 use Rattle.lists.specs.Lists.{null}
 use Rattle.lists.specs.Tests.{by}
 use Rattle.definitions.specs.Bits.{bits_of, size, pack}
@@ -25,10 +25,12 @@ use Rattle.decoding.specs.Decoding.{turned_back, decoded}
 use Rattle.decoding.specs.Statements.{Why, unread, fill, words, twice}
 use Rattle.decoding.specs.DecodingLaws.{turned-back-why}
 use Rattle.laws.specs.Alike.{first_holds, first-passed}
-use Rattle.answers.specs.declared.Answer.{Answer}
-use Rattle.answers.specs.Answers.{outcome_of, input_of}
-use Rattle.answers.specs.Telling.{has_parts, untouched}
+use Rattle.answers.specs.Answers.{alone, outcome_of, input_of}
 use Rattle.access.specs.Ending.{bits_for, ended}
+
+-- a refusal by its number alone leaves both slices
+abbrev pub untouched : ℕ → List ℕ → List ℕ → Outcome
+untouched n listing diagnosis = record { answer = alone n; listing = listing; diagnosis = diagnosis }
 
 module _ (call : Call) (s l d : List ℕ) where
   abbrev i : Input
@@ -67,7 +69,7 @@ module _ (call : Call) (s l d : List ℕ) where
     too_short h k q = up-to-ten h k ∙ first_holds i (ten m) [] q ∙ sym (rw (h, k, q))
 
     acceptance : List Bool → Outcome
-    acceptance bits = outcome_of (Answer.Accepted (length (pack bits))) (overwrite (pack bits) l) d
+    acceptance bits = outcome_of (Ok (length (pack bits))) (overwrite (pack bits) l) d
 
     accepted : has_order m ≡ true → null (synthesis_rows call m) ≡ true → ltb (length l) (size (length (bits_for call m))) ≡ false →
         first_refusal i (late_refusals i m) ≡ ended call m l d
@@ -76,7 +78,7 @@ module _ (call : Call) (s l d : List ℕ) where
         up-to-ten h k
         ∙ first-passed i (ten m) [] q
         ∙ ap (λ (x : TypeMap). acceptance (bits_for call x)) e
-        ∙ ap (λ (x : ℕ). outcome_of (Answer.Accepted x) (overwrite (pack (bits_for call m)) l) d) (length-pack_to (size (length (bits_for call m))) (bits_for call m))
+        ∙ ap (λ (x : ℕ). outcome_of (Ok x) (overwrite (pack (bits_for call m)) l) d) (length-pack_to (size (length (bits_for call m))) (bits_for call m))
         ∙ sym (rw (h, k, q))
 
     last-three : first_refusal i (late_refusals i m) ≡ ended call m l d
@@ -148,17 +150,3 @@ module _ (call : Call) (s l d : List ℕ) where
         all_pass i (sheet_refusals i) (late_refusals i (type_map_in i)) (held-passes i t (record { held = q; lent = k }))
         ∙ last-three (type_map_in i) refl
         ∙ ap (λ p. ended call (type_map_of (sheet_of p)) l d) q.read
-
--- and its number stands alone
-pub turned-alone : (s : List ℕ) (n : ℕ) → decoded s ≡ turned_back n → has_parts n ≡ false
-turned-alone s n e = go (turned-back-why s n e)
-  where
-    alone : (f : Fault) → has_parts (sheet_fault f) ≡ false
-    alone past = refl
-    alone not_allowed = refl
-
-    go : Why s n → has_parts n ≡ false
-    go (unread f q g) = ap has_parts g ∙ alone f
-    go (fill t rest q a g) = ap has_parts g
-    go (words t rest q a b g) = ap has_parts g
-    go (twice t rest q a b c g) = ap has_parts g

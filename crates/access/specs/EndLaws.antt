@@ -1,10 +1,11 @@
 -- What the parts of a call leave is what is due.
-use Rattle.std.specs.Prelude.{Bool, true, cond, List, ◌≡◌, ℕ}
+use Rattle.std.specs.Prelude.{Bool, true, cond, List, ◌≡◌, ℕ, ltb, length}
 use Rattle.std.proofs.Math.Bool.{false}
 use Rattle.std.proofs.Common.{sym, ◌∙◌}
 use Rattle.std.proofs.Math.Path.{ap}
 use Rattle.lists.specs.Lists.{null}
 use Rattle.lists.specs.Tests.{by, never, null-nil}
+use Rattle.definitions.specs.Bits.{size}
 use Rattle.definitions.specs.Records.{Row, Sheet}
 use Rattle.definitions.specs.Map.{TypeMap, type_map_of}
 use Rattle.definitions.specs.Order.{has_order, organize_type_map}
@@ -18,12 +19,9 @@ use Rattle.ordering.specs.declared.Parents.{Parents}
 use Rattle.ordering.specs.Reading.{Reads}
 use Rattle.diagnosis.specs.Reported.{Reported}
 use Rattle.order_compact.specs.Reading.{Drawn, Compacts}
-use Rattle.order_listing.specs.declared.Listed.{Listed}
 use Rattle.order_listing.specs.Listing.{Listing}
 use Rattle.synthesis.specs.Synthesized.{Written}
-use Rattle.answers.specs.declared.Answer.{Answer}
-use Rattle.answers.specs.Answers.{parts, Answered}
-use Rattle.answers.specs.Telling.{Tells}
+use Rattle.answers.specs.Answers.{Answer, parts, answer_of, Answered}
 use Rattle.answers.specs.TellingLaws.{answered, answered-as}
 use Rattle.access.specs.Ending.{diagnosed, listed, ended, Unordered}
 
@@ -31,22 +29,18 @@ use Rattle.access.specs.Ending.{diagnosed, listed, ended, Unordered}
 
 -- 8
 pub diagnosed-so : (t d entries : List ℕ) (n w : ℕ) (p : Parents) (b b' : List ℕ) (rows : ℕ) (more : Bool) (a : Answer) → Compacts t d entries n w p → Reported p 256 b b' rows more
-    → Tells a (parts 8 0 rows more) → Unordered t d entries n w b b' a
+    → answer_of a ≡ parts 8 0 rows more → Unordered t d entries n w b b' a
 diagnosed-so t d entries n w p b b' rows more a c q f = record { due = λ m e l. answered a _ l b' _ f (eight m (c.reads m e) l) }
   where
     eight : (m : TypeMap) → Reads p m → (l : List ℕ) → record { answer = parts 8 0 rows more; listing = l; diagnosis = b' } ≡ diagnosed 8 (order_rows m) l b
     eight m e l = rw (q.written m e, q.counted m e, q.rest m e)
 
 -- 10 and acceptance
-pub listed-so : (bits : List Bool) (l l' d : List ℕ) (w : Listed) (a : Answer) → Listing l l' bits w → Tells a (parts (cond w.short 10 0) w.size 0 false) →
-    Answered a l' d (listed bits l d)
-listed-so bits l l' d w a q t = answered a _ l' d _ t due
+pub listed-so : (bits : List Bool) (l l' d : List ℕ) (a : Answer) → Listing l l' bits a → Answered a l' d (listed bits l d)
+listed-so bits l l' d a q = answered a _ l' d _ q.answer due
   where
-    due : record { answer = parts (cond w.short 10 0) w.size 0 false; listing = l'; diagnosis = d } ≡ listed bits l d
-    due =
-        by w.short
-        (λ s. rw (sym q.short ∙ s, q.listing, s, q.sized))
-        (λ s. rw (sym q.short ∙ s, q.listing, s, q.sized))
+    due : record { answer = parts (cond (ltb (length l) (size (length bits))) 10 0) (size (length bits)) 0 false; listing = l'; diagnosis = d } ≡ listed bits l d
+    due = by (ltb (length l) (size (length bits))) (λ s. rw (q.listing, s)) (λ s. rw (q.listing, s))
 
 -- 8 is due to either call where there is no order
 pub unordered-so : (call : Call) (t d entries : List ℕ) (n w : ℕ) (m : TypeMap) → Drawn m t d entries n w → (l b b' : List ℕ) (a : Answer) → has_order m ≡ false
@@ -55,11 +49,11 @@ unfolding ended
 unordered-so call t d entries n w m e l b b' a f q = answered-as a l b' _ _ (q.due m e l) (sym (rw f))
 
 -- the order-only call with an order
-pub ordered-so : (m : TypeMap) (bits : List Bool) (l l' d : List ℕ) (w : Listed) (a : Answer) → has_order m ≡ true → bits ≡ order_bits (organize_type_map m)
-    → Listing l l' bits w → Tells a (parts (cond w.short 10 0) w.size 0 false) → Answered a l' d (ended order m l d)
+pub ordered-so : (m : TypeMap) (bits : List Bool) (l l' d : List ℕ) (a : Answer) → has_order m ≡ true → bits ≡ order_bits (organize_type_map m)
+    → Listing l l' bits a → Answered a l' d (ended order m l d)
 unfolding ended schedule_of
-ordered-so m bits l l' d w a h e q t =
-    answered-as a l' d _ _ (listed-so bits l l' d w a q t) (ap (λ (b : List Bool). listed b l d) e ∙ sym (rw h))
+ordered-so m bits l l' d a h e q =
+    answered-as a l' d _ _ (listed-so bits l l' d a q) (ap (λ (b : List Bool). listed b l d) e ∙ sym (rw h))
 
 -- ---- the schedule call
 
@@ -70,7 +64,7 @@ module _ (s : Sheet) (r : Readable s) (h : has_order (type_map_of s) ≡ true) w
 
   -- 9: there is a row where a type is refused (FORMAT 8.11)
   pub rows-so : (l d d' : List ℕ) (count : ℕ) (more : Bool) (a : Answer) → any_refused (line_map s) ≡ true → Written (synthesis (type_map_of s)).rows d d' count more
-      → Tells a (parts 9 0 count more) → Answered a l d' (ended schedule (type_map_of s) l d)
+      → answer_of a ≡ parts 9 0 count more → Answered a l d' (ended schedule (type_map_of s) l d)
   unfolding ended
   rows-so l d d' count more a e w t =
       let some : null rows ≡ false =
@@ -80,10 +74,10 @@ module _ (s : Sheet) (r : Readable s) (h : has_order (type_map_of s) ≡ true) w
       answered a _ l d' _ t (rw (h, some, w.counted, w.rest, w.bytes))
 
   -- 10 and acceptance
-  pub scheduled-so : (l l' d : List ℕ) (w : Listed) (a : Answer) → any_refused (line_map s) ≡ false → Listing l l' (schedule_bits (schedule_of schedule (type_map_of s))) w
-      → Tells a (parts (cond w.short 10 0) w.size 0 false) → Answered a l' d (ended schedule (type_map_of s) l d)
+  pub scheduled-so : (l l' d : List ℕ) (a : Answer) → any_refused (line_map s) ≡ false → Listing l l' (schedule_bits (schedule_of schedule (type_map_of s))) a
+      → Answered a l' d (ended schedule (type_map_of s) l d)
   unfolding ended
-  scheduled-so l l' d w a e q u =
+  scheduled-so l l' d a e q =
       answered-as a l' d _ _
-      (listed-so (schedule_bits (schedule_of schedule (type_map_of s))) l l' d w a q u)
+      (listed-so (schedule_bits (schedule_of schedule (type_map_of s))) l l' d a q)
       (sym (rw (h, ap null ((rows-are-tested s (record { readable = r; order = h })).1 e))))

@@ -9,8 +9,7 @@ use Rattle.definitions.specs.OrderRows.{order_rows}
 use Rattle.definitions.specs.Packing.{row_bytes}
 use Rattle.definitions.specs.Answer.{Call, Outcome, schedule_of, bits_written, synthesis_rows, overwrite}
 use Rattle.order_compact.specs.Reading.{Drawn}
-use Rattle.answers.specs.declared.Answer.{Answer}
-use Rattle.answers.specs.Answers.{parts, Answered}
+use Rattle.answers.specs.Answers.{Answer, parts, Answered}
 
 -- 8 and 9: at most 256 rows are written, and no byte behind them changes (FORMAT 8.2)
 abbrev pub diagnosed : ℕ → List Row → List ℕ → List ℕ → Outcome

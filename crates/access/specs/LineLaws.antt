@@ -15,8 +15,7 @@ use Rattle.synthesis_laws.specs.Rows.{items-listed}
 use Rattle.reading_laws.specs.Statements.{NoneHolds}
 use Rattle.reading_laws.specs.Refusals.{passed, none-front, all_pass}
 use Rattle.reading_laws.proofs.Answers.{accepted-exactly, passed-is-held}
-use Rattle.answers.specs.declared.Answer.{Answer}
-use Rattle.answers.specs.Answers.{answer_of, Answered, schedule_input}
+use Rattle.answers.specs.Answers.{Answer, answer_of, Answered, schedule_input}
 use Rattle.access.specs.Lines.{Lists, LinesListed}
 
 module _ (s l d : List ℕ) (e : (outcome (schedule_input s l d)).answer.number ≡ 0) where

@@ -1,6 +1,6 @@
 -- What the schedule call works on: the tables where rows are written, and the catalogue where it is filled.
 use Rattle.std.specs.Prelude.{Bool, true, false, List, ◌≡◌, ℕ, ◌*◌, ◌<◌, length}
-use Rattle.std.proofs.Common.{sym, ap, ◌∙◌, subst, arith}
+use Rattle.std.proofs.Common.{refl, sym, ap, ◌∙◌, subst, arith}
 use Rattle.lists.specs.Tabulating.{tabulate, tabulate-same}
 use Rattle.definitions.specs.Bits.{bits_of}
 use Rattle.definitions.specs.Records.{Sheet}
@@ -28,11 +28,9 @@ use Rattle.item_draft.specs.Standing.{record-as, records-stand}
 use Rattle.item_draft.specs.Rows as rows
 use Rattle.item_refusal.specs.Tests.{Decides}
 use Rattle.item_schedule.specs.Schedule.{Orderly}
-use Rattle.answers.specs.declared.Answer.{Answer}
-use Rattle.answers.specs.Answers.{parts}
-use Rattle.answers.specs.Telling.{Tells}
+use Rattle.answers.specs.Answers.{Answer, parts, answer_of}
 use Rattle.access.specs.declared.Placing.{Placing}
-use Rattle.access.specs.Tables.{known_of, Organizes, FilledFor, RowsDue}
+use Rattle.access.specs.Tables.{known_of, Looked, FilledFor, RowsDue}
 use Rattle.access.specs.TableLaws as tables
 use Rattle.access.specs.EndLaws.{rows-so}
 
@@ -70,14 +68,14 @@ module _ (bytes d entries t : List ℕ) (n : Decoding) (s : Sheet) (f : FilledFo
 
 pub rows-due : (bytes d entries t : List ℕ) (n : Decoding) (p : Parents) (notes : List ℕ) → Compacts t d entries n.count n.own p
     → places.Numbered n.width (bits_of bytes) d entries n.count notes → (b b' : List ℕ) (count : ℕ) (more : Bool) (a : Answer)
-    → Synthesized t (bits_of bytes) notes p b b' count more → Tells a (parts 9 0 count more) → RowsDue bytes d entries t n b b' a
+    → Synthesized t (bits_of bytes) notes p b b' count more → answer_of a ≡ parts 9 0 count more → RowsDue bytes d entries t n b b' a
 rows-due bytes d entries t n p notes c k b b' count more a q u = record {
   due = λ s f r l. rows-so s f.drawn.readable f.order l b b' count more a r (q.written s (synthesizes bytes d entries t n s f p notes c k)) u;
 }
 
 -- ---- the catalogue
 
-module _ (bytes d entries t : List ℕ) (n : Decoding) (w : Whole bytes d entries t n) (u places : List ℕ) (r : Placing) (o : Organizes d entries t u n places r) (f : r.found ≡ true) where
+module _ (bytes d entries t : List ℕ) (n : Decoding) (w : Whole bytes d entries t n) (u places : List ℕ) (r : Placing) (o : Looked d entries t u n places true r) where
   abbrev s : Sheet
   s = w.s
 
@@ -112,8 +110,8 @@ module _ (bytes d entries t : List ℕ) (n : Decoding) (w : Whole bytes d entrie
         word = word-is;
         names = names;
         parents = record { bits = p.bits; within = p.within; childed = λ b h. ap (λ (y : ℕ). has_bit y b) o.childed ∙ c.bits b h };
-        ordered = o.organized.ordered f;
-        placed = o.organized.has f;
+        ordered = o.organized.ordered refl;
+        placed = o.organized.has refl;
         extensions = records;
       }
 
@@ -121,7 +119,7 @@ module _ (bytes d entries t : List ℕ) (n : Decoding) (w : Whole bytes d entrie
   fillable k q = rw q (record { sheet = s; stands = stands })
 
   pub has-order : has_order (type_map_of w.s) ≡ true
-  has-order = tables.found-is bytes d entries t n w u places r o f
+  has-order = tables.found-is bytes d entries t n w u places true r o
 
   module _ (k : Known) (q : k ≡ known_of n r) (v : List ℕ) (lost b : Bool) (g : Fills (bits_of bytes) d entries places u k v lost) (x : Decides v lost b) where
     filled : Fills (bits_of bytes) d entries places u (known_of n r) v lost
@@ -155,9 +153,9 @@ module _ (bytes d entries t : List ℕ) (n : Decoding) (w : Whole bytes d entrie
       within = tables.within bytes d entries t n w;
       catalogued = catalogued;
       accepted = sym refused-is ∙ e;
-      placed = tables.placed-in bytes d entries t n w u places r o f;
+      placed = tables.placed-in bytes d entries t n w u places r o;
       names =
-          tables.names_in_lem bytes d entries t n w u places r o f v
+          tables.names_in_lem bytes d entries t n w u places r o v
           (λ a h.
           let l : a < length (line_map s).types = omega (arith, rows.count-is s (bits_of bytes) d entries n.count (tables.drawn bytes d entries t n w)) in
           (catalogued.listed.entry a l).name ∙ rows.name-of-listed s (bits_of bytes) d entries n.count (tables.drawn bytes d entries t n w) a h);

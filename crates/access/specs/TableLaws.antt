@@ -42,7 +42,7 @@ use Rattle.order_compact.specs.Reading as compact
 use Rattle.order_compact.specs.SheetLaws.{names_of, drafts-of}
 use Rattle.order_listing.specs.Order.{name_of, names_in, order_in, Placed}
 use Rattle.access.specs.declared.Placing.{Placing}
-use Rattle.access.specs.Tables.{Organizes}
+use Rattle.access.specs.Tables.{Looked}
 use Rattle.access.specs.ReadLaws as read
 
 tabulate-tab : {A : Type 0} (f : ℕ → A) (n : ℕ) → tabulate f n ≡ tab f n
@@ -154,9 +154,6 @@ module _ (bytes d entries t : List ℕ) (n : Decoding) (w : Whole bytes d entrie
         ∙ sym (rows.name-at s bs d entries n.count drawn a h)
         ∙ rows.name-of-listed s bs d entries n.count drawn a h
 
-    found_as : (places : List ℕ) (b : Bool) → Organized new n.count f.whole places b → b ≡ true → has_order m ≡ true
-    found_as places b o e = sym (o.found m holds) ∙ e
-
     -- the names in the order, in a table that has the names
     names-as : (places u : List ℕ) (b : Bool) → ((a : ℕ) → a < n.count → name_of_key (key_at u a) ≡ (type_at m a).name) → Organized new n.count f.whole places b → b ≡ true
         → names_in u places n.count ≡ organize_type_map m
@@ -167,24 +164,22 @@ module _ (bytes d entries t : List ℕ) (n : Decoding) (w : Whole bytes d entrie
         ∙ ap (map (λ (a : ℕ). (type_at m a).name)) (sym (taken places 0 n.count (omega (arith, o.long, w.drafted.few))))
         ∙ o.names m holds e
 
-  -- the order that was looked for
-  module _ (u places : List ℕ) (r : Placing) (o : Organizes d entries t u n places r) where
+  -- an order that was looked for, and is there or is not
+  module _ (u places : List ℕ) (found : Bool) (r : Placing) (o : Looked d entries t u n places found r) where
     pub sketch : compact.Drawn (type_map_of w.s) u d entries n.count n.own
     sketch = sketched o.named u r.words o.parents o.names o.put
 
-    pub none_is : r.found ≡ false → has_order (type_map_of w.s) ≡ false
-    none_is e = sym (o.organized.found m (holds o.named u r.words o.parents o.names o.put)) ∙ e
+    pub found-is : has_order (type_map_of w.s) ≡ found
+    found-is = sym (o.organized.found m (holds o.named u r.words o.parents o.names o.put))
 
-    module _ (e : r.found ≡ true) where
-      pub found-is : has_order (type_map_of w.s) ≡ true
-      found-is = found_as o.named u r.words o.parents o.names o.put places r.found o.organized e
+  -- one that was found
+  module _ (u places : List ℕ) (r : Placing) (o : Looked d entries t u n places true r) where
+    pub placed-in : Placed places n.count
+    placed-in = record { few = w.drafted.few; place = λ i h. omega (arith, o.organized.within refl i h, w.drafted.few) }
 
-      pub placed-in : Placed places n.count
-      placed-in = record { few = w.drafted.few; place = λ i h. omega (arith, o.organized.within e i h, w.drafted.few) }
+    pub names_in_lem : (v : List ℕ) → ((a : ℕ) → a < n.count → name_of_key (key_at v a) ≡ (type_at (type_map_of w.s) a).name) → names_in v places n.count ≡ organize_type_map (type_map_of w.s)
+    names_in_lem v k = names-as o.named u r.words o.parents o.names o.put places v true k o.organized refl
 
-      pub names_in_lem : (v : List ℕ) → ((a : ℕ) → a < n.count → name_of_key (key_at v a) ≡ (type_at (type_map_of w.s) a).name) → names_in v places n.count ≡ organize_type_map (type_map_of w.s)
-      names_in_lem v k = names-as o.named u r.words o.parents o.names o.put places v r.found k o.organized e
-
-      pub bits_are : order_in u places n.count ≡ order_bits (organize_type_map (type_map_of w.s))
-      unfolding order_in
-      bits_are = ap order_bits (names_in_lem u (key-name o.named u r.words o.parents o.names o.put))
+    pub bits_are : order_in u places n.count ≡ order_bits (organize_type_map (type_map_of w.s))
+    unfolding order_in
+    bits_are = ap order_bits (names_in_lem u (key-name o.named u r.words o.parents o.names o.put))

@@ -1,5 +1,5 @@
 -- What stands in the tables of a call, from test to test.
-use Rattle.std.specs.Prelude.{true, false, List, ◌≡◌, ℕ, ◌*◌, ◌≤◌, length}
+use Rattle.std.specs.Prelude.{Bool, true, false, List, ◌≡◌, ℕ, ◌*◌, ◌≤◌, length, Option, MatchOption, Result, MatchResult}
 use Rattle.definitions.specs.Bits.{bits_of}
 use Rattle.definitions.specs.Records.{Sheet}
 use Rattle.definitions.specs.Map.{type_map_of}
@@ -17,8 +17,8 @@ use Rattle.order_rounds.specs.Organized.{Organized}
 use Rattle.order_compact.specs.Reading as compact
 use Rattle.sheet_decode.specs.declared.Decoding.{Decoding}
 use Rattle.sheet_decode.specs.Decodes.{Whole}
-use Rattle.answers.specs.declared.Answer.{Answer}
-use Rattle.answers.specs.Answers.{Answered}
+use Rattle.answers.specs.declared.Refusal.{Refusal}
+use Rattle.answers.specs.Answers.{Answer, Answered}
 use Rattle.answers.specs.Telling.{Refuses}
 use Rattle.access.specs.declared.Placing.{Placing}
 use Rattle.access.specs.Ending.{ended}
@@ -30,9 +30,8 @@ pub record Taken (s : List ℕ) (room : ℕ) (d entries t : List ℕ) (r : Decod
   pub whole : Whole s d entries t r
 
 -- Or they are refused by each call that lends a diagnosis slice of so many bytes, and both slices stay (FORMAT 7.3).
-pub record Takes (s : List ℕ) (room : ℕ) (d entries t : List ℕ) (r : Decoding) : Type 0 where
-  pub refused : r.ok ≡ false → Refuses s room r.refusal
-  pub passed : r.ok ≡ true → Taken s room d entries t r
+abbrev pub Takes : List ℕ → ℕ → List ℕ → List ℕ → List ℕ → Result Decoding Refusal → Type 0
+Takes s room d entries t r = MatchResult r (λ n. Taken s room d entries t n) (λ e. Refuses s room e)
 
 -- Some bytes hold the sheet of which the tables have the types.
 pub record Decoded (d entries t : List ℕ) (n : Decoding) : Type 0 where
@@ -40,13 +39,18 @@ pub record Decoded (d entries t : List ℕ) (n : Decoding) : Type 0 where
   pub whole : Whole bytes d entries t n
 
 -- Names and parents of the types went into the decoder's table, and the order was looked for (FORMAT 3.2).
-pub record Organizes (d entries old new : List ℕ) (n : Decoding) (places : List ℕ) (r : Placing) : Type 0 where
+pub record Looked (d entries old new : List ℕ) (n : Decoding) (places : List ℕ) (found : Bool) (r : Placing) : Type 0 where
   pub named : List ℕ
   pub parents : Found
   pub names : NamesPut (firsts_of entries) (seconds_of entries) n.count n.width old named r.words
   pub put : ParentsPut d entries (n.own * 256) n.count named new parents
   pub childed : r.childed ≡ parents.set
-  pub organized : Organized new n.count parents.whole places r.found
+  pub organized : Organized new n.count parents.whole places found
+
+-- There is one, or none.
+abbrev pub Organizes : List ℕ → List ℕ → List ℕ → List ℕ → Decoding → List ℕ → Option Placing → Type 0
+Organizes d entries old new n places r =
+    MatchOption r ((p : Placing) × Looked d entries old new n places false p) (λ p. Looked d entries old new n places true p)
 
 -- What the order-only call owes to each sheet of which the tables have the types (FORMAT 7.3, 7.4).
 pub record Ordered (d entries t : List ℕ) (n : Decoding) (listing diagnosis : List ℕ) (r : Answer) (listing' diagnosis' : List ℕ) : Type 0 where

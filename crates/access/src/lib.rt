@@ -12,7 +12,7 @@ ghost use Rattle.access.specs.Ending.{Unordered};
 ghost use Rattle.access.specs.Lines.{LinesListed};
 ghost use Rattle.access.specs.Tables.{Takes, Decoded, Organizes, Ordered, known_of, FilledFor, RowsDue, Scheduled};
 
-use answers::Answer;
+use answers::{Answer, Refusal};
 use item_draft::Known;
 use sheet_decode::Decoding;
 
@@ -31,7 +31,7 @@ fn no_order(
     let mut l = order_table::blank();
     order_compact::fill(&mut l, t, d, entries, n.count, n.own);
     let report = diagnosis::diagnose(&l, diagnosis, answers::ROWS);
-    answers::no_order(report.rows, report.more)
+    Err(Refusal::NoOrder(report))
 }
 
 // Tests 1 to 7, for a diagnosis slice of `room` bytes. What passes stands in the tables (FORMAT 7.3).
@@ -41,30 +41,18 @@ fn take(
     d: &mut [u64; 704],
     entries: &mut [u64; 64],
     t: &mut [u64; 1544],
-) -> Decoding
+) -> Result<Decoding, Refusal>
     requires tables { Tables d.old t.old }
     requires entries_len { length entries.old ≡ 64 }
     ensures { Takes sheet.now room d.new entries.new t.new result }
 {
-    let number = answers::refused_early(sheet.len(), room);
-    if 0 < number {
-        return Decoding {
-            ok: false,
-            refusal: number,
-            width: 0,
-            count: 0,
-            extensions: 0,
-            resource: 0,
-            own: 0,
-        };
-    }
+    answers::refused_early(sheet.len(), room)?;
     sheet_decode::decode(sheet, d, entries, t)
 }
 
-// What is known of the order: whether there is one, how many words are the last of a name, and the types that are a parent.
+// What is known where there is an order: how many words are the last of a name, and the types that are a parent.
 #[derive(Clone, Copy)]
 struct Placing {
-    found: bool,
     words: usize,
     childed: u64,
 }
@@ -76,19 +64,20 @@ fn organize(
     entries: &[u64; 64],
     n: Decoding,
     places: &mut [u64; 64],
-) -> Placing
+) -> Option<Placing>
     requires decoded { Decoded d.now entries.now t.old n }
     requires places_len { length places.old ≡ 64 }
     ensures { Organizes d.now entries.now t.old t.new n places.new result }
 {
     let words = item_entries::put_names(t, entries, n.count, n.width);
     let parents = order_parents::put_parents(t, d, entries, n.count, n.own as u64 * 256);
-    let found = order_rounds::organize_type_map(t, n.count, parents.whole, places);
-    Placing {
-        found,
+    if !order_rounds::organize_type_map(t, n.count, parents.whole, places) {
+        return None;
+    }
+    Some(Placing {
         words,
         childed: parents.set,
-    }
+    })
 }
 
 // Writes the order, if there is one: 8, 10 or acceptance.
@@ -105,12 +94,10 @@ fn end_order(
     ensures { Ordered d.now entries.now t.old n listing.old diagnosis.old result listing.new diagnosis.new }
 {
     let mut places = [0u64; 64];
-    let o = organize(t, d, entries, n, &mut places);
-    if !o.found {
+    let Some(_) = organize(t, d, entries, n, &mut places) else {
         return no_order(t, d, entries, n, diagnosis);
-    }
-    let listed = order_listing::write_order(listing, t, &places, n.count);
-    answers::listed(listed.short, listed.size)
+    };
+    order_listing::write_order(listing, t, &places, n.count)
 }
 
 // The order-only call.
@@ -120,10 +107,7 @@ pub fn order(sheet: &[u8], listing: &mut [u8], diagnosis: &mut [u8]) -> Answer
     let mut d = sheet_draft::blank();
     let mut entries = [0u64; 64];
     let mut t = catalogue::blank();
-    let n = take(sheet, diagnosis.len(), &mut d, &mut entries, &mut t);
-    if !n.ok {
-        return answers::refused(n.refusal);
-    }
+    let n = take(sheet, diagnosis.len(), &mut d, &mut entries, &mut t)?;
     end_order(&mut t, &d, &entries, n, listing, diagnosis)
 }
 
@@ -159,7 +143,7 @@ fn type_refused(
     let mut notes = [0u64; 64];
     synth_places::fill(&mut notes, sheet, d, entries, n.count, n.width);
     let report = synthesis::apply_associate_annotations(sheet, t, &l, &notes, diagnosis);
-    answers::type_refused(report.rows, report.more)
+    Err(Refusal::TypeRefused(report))
 }
 
 // Writes the schedule, if there is one: 8, 9, 10 or acceptance. The catalogue of the map tells whether a type is refused, at once
@@ -178,10 +162,9 @@ fn end_schedule(
     ensures { Scheduled sheet.now d.now entries.now t.old n listing.old diagnosis.old result listing.new diagnosis.new }
 {
     let mut places = [0u64; 64];
-    let o = organize(t, d, entries, n, &mut places);
-    if !o.found {
+    let Some(o) = organize(t, d, entries, n, &mut places) else {
         return no_order(t, d, entries, n, diagnosis);
-    }
+    };
     let k = known(n, o);
     let lost = item_draft::fill(t, sheet, d, entries, &places, k);
     if lost {
@@ -190,8 +173,7 @@ fn end_schedule(
     if item_refusal::is_refused(t, lost) {
         return type_refused(sheet, t, d, entries, n, diagnosis);
     }
-    let listed = item_schedule::write_schedule(listing, t, &places, n.count);
-    answers::listed(listed.short, listed.size)
+    item_schedule::write_schedule(listing, t, &places, n.count)
 }
 
 // The schedule call.
@@ -202,9 +184,6 @@ pub fn schedule(sheet: &[u8], listing: &mut [u8], diagnosis: &mut [u8]) -> Answe
     let mut d = sheet_draft::blank();
     let mut entries = [0u64; 64];
     let mut t = catalogue::blank();
-    let n = take(sheet, diagnosis.len(), &mut d, &mut entries, &mut t);
-    if !n.ok {
-        return answers::refused(n.refusal);
-    }
+    let n = take(sheet, diagnosis.len(), &mut d, &mut entries, &mut t)?;
     end_schedule(sheet, &mut t, &d, &entries, n, listing, diagnosis)
 }

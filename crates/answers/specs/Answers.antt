@@ -1,36 +1,74 @@
 -- What the answers mean: the number, the size, the row count and the flag for each case, and the case for each number.
-use Rattle.std.specs.Prelude.{Bool, false, ◌||◌, cond, List, ◌≡◌, ℕ, eqb}
+use Rattle.std.specs.Prelude.{Bool, false, cond, List, ◌≡◌, ℕ, eqb, Result, Ok, Err}
 use Rattle.definitions.specs.Answer as rules
 use Rattle.definitions.specs.Answer.{standard, Call, Input, Outcome}
-use Rattle.answers.specs.declared.Answer.{Answer}
+use Rattle.emitting.specs.declared.Report.{Report}
+use Rattle.answers.specs.declared.Refusal.{Refusal}
+use Rattle.answers.specs.declared.Refusal.TheVariants.{LongSheet, ShortDiagnosis, Past, NotAllowed, Words, Repeats, Fill, NoOrder, TypeRefused, ShortListing}
+
+-- what a call answers
+abbrev pub Answer : Type 0
+Answer = Result ℕ Refusal
 
 -- the parts of an answer
 abbrev pub parts : ℕ → ℕ → ℕ → Bool → rules.Answer
 parts number size rows more = record { number = number; size = size; rows = rows; more = more }
 
--- acceptance has the number 0, and what a case does not name is 0
-abbrev pub answer_of : Answer → rules.Answer
-answer_of (Answer.Accepted size) = parts 0 size 0 false
-answer_of (Answer.Refused number) = parts number 0 0 false
-answer_of (Answer.Diagnosed number rows more) = parts number 0 rows more
-answer_of (Answer.TooShort size) = parts 10 size 0 false
+-- a refusal that has its number alone
+abbrev pub alone : ℕ → rules.Answer
+alone number = parts number 0 0 false
 
--- Each number has one case: 0 and 10 come with a size, 8 and 9 with rows and a flag, every other refusal alone.
+-- and one that comes with rows
+abbrev pub reported : ℕ → Report → rules.Answer
+reported number r = parts number 0 r.rows r.more
+
+-- the number of each refusal, and what comes with it; what a case does not name is 0
+abbrev pub refusal_of : Refusal → rules.Answer
+refusal_of LongSheet = alone 1
+refusal_of ShortDiagnosis = alone 2
+refusal_of Past = alone 3
+refusal_of NotAllowed = alone 4
+refusal_of Words = alone 5
+refusal_of Repeats = alone 6
+refusal_of Fill = alone 7
+refusal_of (NoOrder r) = reported 8 r
+refusal_of (TypeRefused r) = reported 9 r
+refusal_of (ShortListing size) = parts 10 size 0 false
+
+-- acceptance has the number 0
+abbrev pub answer_of : Answer → rules.Answer
+answer_of (Ok size) = parts 0 size 0 false
+answer_of (Err r) = refusal_of r
+
+-- the number of a refusal
+abbrev pub number_of : Refusal → ℕ
+number_of r = (refusal_of r).number
+
+-- the refusal that has these parts
+abbrev pub refusal_with : rules.Answer → Refusal
+refusal_with a =
+    cond (eqb a.number 1) LongSheet
+    (cond (eqb a.number 2) ShortDiagnosis
+    (cond (eqb a.number 3) Past
+    (cond (eqb a.number 4) NotAllowed
+    (cond (eqb a.number 5) Words
+    (cond (eqb a.number 6) Repeats
+    (cond (eqb a.number 7) Fill
+    (cond (eqb a.number 8) (NoOrder (record { rows = a.rows; more = a.more }))
+    (cond (eqb a.number 9) (TypeRefused (record { rows = a.rows; more = a.more }))
+    (ShortListing a.size)))))))))
+
+-- Each number has one case.
 abbrev pub case_of : rules.Answer → Answer
-case_of a =
-    cond (eqb a.number 0) (Answer.Accepted a.size)
-    (cond (eqb a.number 10) (Answer.TooShort a.size)
-    (cond (eqb a.number 8 || eqb a.number 9) (Answer.Diagnosed a.number a.rows a.more)
-    (Answer.Refused a.number)))
+case_of a = cond (eqb a.number 0) (Ok a.size) (Err (refusal_with a))
 
 -- an answer with both slices at exit
 abbrev pub outcome_of : Answer → List ℕ → List ℕ → Outcome
 outcome_of a listing diagnosis = record { answer = answer_of a; listing = listing; diagnosis = diagnosis }
 
--- What a call promises where o is due: the parts and both slices are those of o, and r is the case of its number.
+-- What a call promises where o is due: the parts and both slices are those of o.
 pub record Answered (r : Answer) (listing diagnosis : List ℕ) (o : Outcome) : Type 0 where
   pub outcome : outcome_of r listing diagnosis ≡ o
-  pub case : r ≡ case_of (answer_of r)
 
 -- the input of a call: the sheet, and both slices at entry
 abbrev pub input_of : Call → List ℕ → List ℕ → List ℕ → Input

@@ -1,10 +1,13 @@
 -- What follows for the cases of an answer. The proofs are in TellingLaws.antt.
 use Rattle.std.specs.Prelude.{List, ◌≡◌, ℕ}
 use Rattle.definitions.specs.Answer.{Input, Outcome, outcome}
-use Rattle.answers.specs.declared.Answer.{Answer}
-use Rattle.answers.specs.Answers.{case_of, Answered}
+use Rattle.answers.specs.Answers.{Answer, answer_of, case_of, Answered}
 
--- At most one answer, with one listing and one diagnosis slice, is what a call promises.
+-- No two cases have the same parts.
+abbrev pub EachIsItsCase : Type 0
+EachIsItsCase = (r : Answer) → r ≡ case_of (answer_of r)
+
+-- So at most one answer, with one listing and one diagnosis slice, is what a call promises.
 abbrev pub OneAnswer : Type 0
 OneAnswer = (o : Outcome) (r t : Answer) (l d l' d' : List ℕ) → Answered r l d o → Answered t l' d' o → (r ≡ t) × (l ≡ l') × (d ≡ d')
 

@@ -1,51 +1,49 @@
 -- Laws of the answers and of the early tests.
-use Rattle.std.specs.Prelude.{Bool, true, false, ◌||◌, cond, ◌≡◌, ℕ, ◌≤◌, ◌<◌, min, eqb, ltb, length}
+use Rattle.std.specs.Prelude.{Bool, false, ◌≡◌, ℕ, ◌≤◌, ◌<◌, min, ltb, length, Ok, Err}
 use mathlib.Core.List.{List, [], ◌∷◌}
 use Rattle.std.proofs.Math.Path.{refl, sym}
 use Rattle.std.proofs.Common.{ap, ◌∙◌, subst, arith, lt-ltb, le-ltb}
-use Rattle.lists.specs.Tests.{by, never}
+use Rattle.lists.specs.Tests.{by}
 use Rattle.definitions.specs.Records.{Row}
 use Rattle.definitions.specs.Legal.{Every}
 use Rattle.definitions.specs.Answer as rules
-use Rattle.definitions.specs.Answer.{most_row_bytes, Input, Outcome, Refusal, bare, short, refusals, reject, accept, first_refusal, outcome}
+use Rattle.definitions.specs.Answer.{most_row_bytes, Input, Outcome, bare, short, refusals, reject, accept, first_refusal, outcome}
 use Rattle.laws.specs.Alike.{first_holds, first-passed}
-use Rattle.answers.specs.declared.Answer.{Answer}
-use Rattle.answers.specs.Answers.{parts, answer_of, case_of, Answered, input_of}
-use Rattle.answers.specs.Telling.{has_parts, Tells, Refuses, Early}
-use Rattle.answers.specs.Statements.{OneAnswer, EachHasItsCase}
+use Rattle.answers.specs.declared.Refusal.{Refusal}
+use Rattle.answers.specs.declared.Refusal.TheVariants.{LongSheet, ShortDiagnosis, Past, NotAllowed, Words, Repeats, Fill, NoOrder, TypeRefused, ShortListing}
+use Rattle.answers.specs.Answers.{Answer, alone, refusal_of, answer_of, case_of, Answered, input_of}
+use Rattle.answers.specs.Telling.{Refuses, Early}
+use Rattle.answers.specs.Statements.{EachIsItsCase, OneAnswer, EachHasItsCase}
 
 -- ---- cases
 
-last-case : (a b c : Bool) (x y z w : Answer) → (a || (b || c)) ≡ false → w ≡ cond a x (cond b y (cond c z w))
-last-case true b c x y z w h = never refl h
-last-case false true c x y z w h = never refl h
-last-case false false true x y z w h = never refl h
-last-case false false false x y z w h = refl
+refusal-is : (r : Refusal) → Err r ≡ case_of (refusal_of r)
+refusal-is LongSheet = refl
+refusal-is ShortDiagnosis = refl
+refusal-is Past = refl
+refusal-is NotAllowed = refl
+refusal-is Words = refl
+refusal-is Repeats = refl
+refusal-is Fill = refl
+refusal-is (NoOrder r) = refl
+refusal-is (TypeRefused r) = refl
+refusal-is (ShortListing size) = refl
 
--- a number without parts is a refusal alone
-pub alone-case : (n : ℕ) → has_parts n ≡ false → Answer.Refused n ≡ case_of (parts n 0 0 false)
-alone-case n h = last-case (eqb n 0) (eqb n 10) (eqb n 8 || eqb n 9) _ _ _ _ h
-
-pub short-tells : (b : Bool) (n : ℕ) → b ≡ true → Tells (Answer.TooShort n) (parts (cond b 10 0) n 0 false)
-short-tells b n e = rw e (record { parts = refl; case = refl })
-
-pub accepted-tells : (b : Bool) (n : ℕ) → b ≡ false → Tells (Answer.Accepted n) (parts (cond b 10 0) n 0 false)
-accepted-tells b n e = rw e (record { parts = refl; case = refl })
+pub each-is-its-case : EachIsItsCase
+each-is-its-case (Ok size) = refl
+each-is-its-case (Err r) = refusal-is r
 
 pub one_answer : OneAnswer
 one_answer o r t l d l' d' p q =
     let e = p.outcome ∙ sym q.outcome in (
-      p.case ∙ ap (λ (x : Outcome). case_of x.answer) e ∙ sym q.case,
+      each-is-its-case r ∙ ap (λ (x : Outcome). case_of x.answer) e ∙ sym (each-is-its-case t),
       ap (λ (x : Outcome). x.listing) e,
       ap (λ (x : Outcome). x.diagnosis) e,
     )
 
 -- an answer that tells what is due
-pub answered : (r : Answer) (a : rules.Answer) (l d : List ℕ) (o : Outcome) → Tells r a → record { answer = a; listing = l; diagnosis = d } ≡ o → Answered r l d o
-answered r a l d o t e = record {
-  outcome = ap (λ (x : rules.Answer). record { answer = x; listing = l; diagnosis = d }) t.parts ∙ e;
-  case = t.case;
-}
+pub answered : (r : Answer) (a : rules.Answer) (l d : List ℕ) (o : Outcome) → answer_of r ≡ a → record { answer = a; listing = l; diagnosis = d } ≡ o → Answered r l d o
+answered r a l d o t e = record { outcome = ap (λ (x : rules.Answer). record { answer = x; listing = l; diagnosis = d }) t ∙ e }
 
 pub answered-as : (r : Answer) (l d : List ℕ) (o p : Outcome) → Answered r l d o → o ≡ p → Answered r l d p
 answered-as r l d o p h e = subst (Answered r l d) e h
@@ -63,12 +61,12 @@ no_more : (k : ℕ) → ltb k 0 ≡ false
 no_more k = le-ltb k 0 (omega arith)
 
 module _ (i : Input) where
-  abbrev Keeps : Refusal → Type 0
+  abbrev Keeps : rules.Refusal → Type 0
   Keeps r = Kept (reject i r).answer
 
-  bare-kept : (n : ℕ) (test : Unit {0} → Bool) → has_parts n ≡ false → Keeps (bare n test)
+  bare-kept : (n : ℕ) (test : Unit {0} → Bool) → Kept (alone n) → Keeps (bare n test)
   unfolding reject
-  bare-kept n test h = rw (no_rows i.settings.rows, no_more i.settings.rows) (sym (ap answer_of (alone-case n h)))
+  bare-kept n test h = rw (no_rows i.settings.rows, no_more i.settings.rows) h
 
   short-kept : (test : Unit {0} → Bool) (size : Unit {0} → ℕ) → Keeps (short 10 test size)
   unfolding reject
@@ -107,7 +105,7 @@ module _ (i : Input) where
     ),
   )
 
-  first-kept : (l : List Refusal) → Every Keeps l → Kept (first_refusal i l).answer
+  first-kept : (l : List rules.Refusal) → Every Keeps l → Kept (first_refusal i l).answer
   unfolding first_refusal accept
   first-kept [] h = refl
   first-kept (r ∷ l) h =
@@ -122,35 +120,31 @@ module _ (i : Input) where
 pub each-has-its-case : EachHasItsCase
 each-has-its-case i = record {
   outcome = ap (λ (a : rules.Answer). record { answer = a; listing = (outcome i).listing; diagnosis = (outcome i).diagnosis }) (kept i);
-  case = sym (ap case_of (kept i));
 }
 
 -- ---- tests 1 and 2
 
 module _ (room : ℕ) (s : List ℕ) where
-  one : 40960 < length s → Refuses s room 1
+  one : 40960 < length s → Refuses s room LongSheet
   unfolding outcome refusals reject
   one h = record {
-    alone = refl;
-    due = λ call l d k. sym (first_holds (input_of call s l d) (bare 1 _) _ (lt-ltb 40960 (length s) h));
+    due = λ call l d k. record { outcome = sym (first_holds (input_of call s l d) (bare 1 _) _ (lt-ltb 40960 (length s) h)) };
   }
 
-  two : length s ≤ 40960 → room < most_row_bytes → Refuses s room 2
+  two : length s ≤ 40960 → room < most_row_bytes → Refuses s room ShortDiagnosis
   unfolding outcome refusals reject
   two h g = record {
-    alone = refl;
-    due = λ call l d k.
-        sym
-        (first-passed (input_of call s l d) (bare 1 _) _ (le-ltb 40960 (length s) h)
-        ∙ first_holds (input_of call s l d) (bare 2 _) _ (lt-ltb (length d) most_row_bytes (omega (arith, k, g))));
+    due = λ call l d k. record {
+      outcome =
+          sym
+          (first-passed (input_of call s l d) (bare 1 _) _ (le-ltb 40960 (length s) h)
+          ∙ first_holds (input_of call s l d) (bare 2 _) _ (lt-ltb (length d) most_row_bytes (omega (arith, k, g))));
+    };
   }
 
 module _ (size room : ℕ) where
-  pub too_long : 40960 < size → Early size room 1
-  too_long h = record { refused = λ _ s e. one room s (omega (arith, e, h)); passed = λ q. absurd (omega (arith, q)) }
+  pub too_long : 40960 < size → Early size room (Err LongSheet)
+  too_long h s e = one room s (omega (arith, e, h))
 
-  pub no_room : size ≤ 40960 → room < most_row_bytes → Early size room 2
-  no_room h g = record { refused = λ _ s e. two room s (omega (arith, e, h)) g; passed = λ q. absurd (omega (arith, q)) }
-
-  pub neither : size ≤ 40960 → most_row_bytes ≤ room → Early size room 0
-  neither h g = record { refused = λ q. absurd (omega (arith, q)); passed = λ _. (h, g) }
+  pub no_room : size ≤ 40960 → room < most_row_bytes → Early size room (Err ShortDiagnosis)
+  no_room h g s e = two room s (omega (arith, e, h)) g

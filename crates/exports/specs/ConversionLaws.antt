@@ -1,17 +1,18 @@
 -- Laws of the exported calls that turn a schedule into records and back.
 use mathlib.Core.List.{List, [], ◌∷◌}
-use Rattle.std.specs.Prelude.{◌≡◌, ℕ, ◌≤◌, ◌<◌, length}
+use Rattle.std.specs.Prelude.{◌≡◌, ℕ, ◌≤◌, ◌<◌, length, Result}
 use Rattle.std.proofs.Math.Path.{sym, ap, ap₂}
 use Rattle.std.proofs.Common.{◌∙◌, arith, lt-ltb, le-ltb}
-use Rattle.definitions.specs.Answer.{overwrite}
+use Rattle.definitions.specs.Answer.{Answer, overwrite}
 use Rattle.definitions.specs.ScheduleFields.{Form}
 use Rattle.definitions.specs.Conversion.{Converted, convert}
-use Rattle.answers.specs.declared.Answer as held
-use Rattle.answers.specs.Answers.{answer_of}
-use Rattle.schedule_records.specs.Turning.{Converts}
+use Rattle.fields.specs.declared.Fault.{Fault}
+use Rattle.schedule_records.specs.Turning.{answer_of, Converts}
 use Rattle.schedule_records.specs.CallLaws.{plain}
-use Rattle.exports.specs.Exports.{flag, too_few_parts}
-use Rattle.exports.specs.Parts.{Small}
+use Rattle.exports.specs.declared.Parts.{Parts}
+use Rattle.exports.specs.Exports.{too_few_parts}
+use Rattle.exports.specs.Parts.{Small, Tells}
+use Rattle.exports.specs.ExportLaws.{told-by}
 use Rattle.exports.specs.Conversions.{told_conversion, exported_conversion}
 
 -- fewer than three numbers are lent
@@ -20,7 +21,7 @@ pub too-few-lent : (o : Converted) (lent parts : List ℕ) → length parts < 3
 unfolding exported_conversion
 too-few-lent o lent parts h = rw (lt-ltb (length parts) 3 h)
 
-module _ (from to : Form) (W : ℕ) (source lent : List ℕ) (a : held.Answer) (output : List ℕ) (h : Converts a output (convert from to W source lent)) where
+module _ (from to : Form) (W : ℕ) (source lent : List ℕ) (a : Result ℕ Fault) (output : List ℕ) (h : Converts a output (convert from to W source lent)) where
   -- the parts of an answer fit
   pub small-conversion : Small (answer_of a)
   small-conversion =
@@ -32,11 +33,11 @@ module _ (from to : Form) (W : ℕ) (source lent : List ℕ) (a : held.Answer) (
       }
 
   -- and all are told
-  pub told-conversion : (number : ℕ) (parts new : List ℕ) → 3 ≤ length parts → number ≡ (answer_of a).number
-      → new ≡ overwrite ((answer_of a).size ∷ (answer_of a).rows ∷ flag (answer_of a).more ∷ []) parts
+  pub told-conversion : (p : Parts) → Tells p (answer_of a) → (number : ℕ) (parts new : List ℕ) → 3 ≤ length parts → number ≡ p.number
+      → new ≡ overwrite (p.size ∷ p.rows ∷ p.more ∷ []) parts
       → record { number = number; parts = new; output = output } ≡ exported_conversion (convert from to W source lent) lent parts
   unfolding exported_conversion
-  told-conversion number parts new k n p =
-      ap₂ (λ (x : ℕ) (y : List ℕ). record { number = x; parts = y; output = output }) n p
+  told-conversion p t number parts new k n q =
+      ap₂ (λ (x : ℕ) (y : List ℕ). record { number = x; parts = y; output = output }) (n ∙ ap (λ (x : Answer). x.number) t.same) (told-by p (answer_of a) t parts new q)
       ∙ ap (λ (o : Converted). told_conversion o parts) h.outcome
       ∙ sym (rw (le-ltb (length parts) 3 k))

@@ -1,17 +1,19 @@
 // The calls for C and Rust, for `rt staticlib exports`. See include/gidzelma.h.
 #![tactic(auto)]
 
-ghost use Rattle.std.specs.Prelude.{[], ◌∷◌, ◌≡◌, ◌<◌, ◌≤◌, length};
+ghost use Rattle.std.specs.Prelude.{false, [], ◌∷◌, ◌≡◌, ◌^◌, ◌<◌, ◌≤◌, length};
 ghost use Rattle.definitions.specs.Answer.{overwrite};
-ghost use Rattle.answers.specs.Answers.{answer_of, order_input, schedule_input};
+ghost use Rattle.answers.specs.Answers.{parts, reported, refusal_of, answer_of, order_input, schedule_input};
 ghost use Rattle.access.specs.Lines.{LinesListed};
 ghost use Rattle.definitions.specs.Conversion.{read_schedule, write_schedule};
 ghost use Rattle.tariff_definitions.specs.Tariff.{charged};
 ghost use Rattle.exports.specs.Exports.{exported};
 ghost use Rattle.exports.specs.Conversions.{exported_conversion};
-ghost use Rattle.exports.specs.Parts.{parts_of, Small};
+ghost use Rattle.exports.specs.Parts.{Small, Tells, converted};
 
-use answers::Answer;
+use answers::{Answer, Refusal};
+use emitting::Report;
+use fields::Fault;
 
 // What is answered where fewer than three numbers are lent for the parts.
 const TOO_FEW_PARTS: u32 = 255;
@@ -31,45 +33,71 @@ fn flag(more: bool) -> u32
     if more { 1 } else { 0 }
 }
 
+// A number and a size.
+fn sized(number: u32, size: usize) -> Parts
+    requires { size < 2 ^ 32 }
+    ensures { Tells result (parts number size 0 false) }
+{
+    Parts {
+        number: number,
+        size: size as u32,
+        rows: 0,
+        more: 0,
+    }
+}
+
+// A number and a report of rows.
+fn with_rows(number: u32, report: Report) -> Parts
+    requires { report.rows < 2 ^ 32 }
+    ensures { Tells result (reported number report) }
+{
+    Parts {
+        number: number,
+        size: 0,
+        rows: report.rows as u32,
+        more: flag(report.more),
+    }
+}
+
+fn parts_of_refusal(r: Refusal) -> Parts
+    requires { Small (refusal_of r) }
+    ensures { Tells result (refusal_of r) }
+{
+    let number = r.number() as u32;
+    match r {
+        Refusal::NoOrder(report) => with_rows(number, report),
+        Refusal::TypeRefused(report) => with_rows(number, report),
+        Refusal::ShortListing(size) => sized(number, size),
+        _ => sized(number, 0),
+    }
+}
+
 fn parts_of(a: Answer) -> Parts
     requires { Small (answer_of a) }
-    ensures { (parts_of result ≡ answer_of a) × (result.more ≡ Rattle.exports.specs.Exports.flag (answer_of a).more) }
+    ensures { Tells result (answer_of a) }
 {
     match a {
-        Answer::Accepted(size) => Parts {
-            number: 0,
-            size: size as u32,
-            rows: 0,
-            more: 0,
-        },
-        Answer::Refused(number) => Parts {
-            number: number as u32,
-            size: 0,
-            rows: 0,
-            more: 0,
-        },
-        Answer::Diagnosed(number, rows, more) => Parts {
-            number: number as u32,
-            size: 0,
-            rows: rows as u32,
-            more: flag(more),
-        },
-        Answer::TooShort(size) => Parts {
-            number: 10,
-            size: size as u32,
-            rows: 0,
-            more: 0,
-        },
+        Ok(size) => sized(0, size),
+        Err(refusal) => parts_of_refusal(refusal),
+    }
+}
+
+// Of a schedule that was turned into records, or back.
+fn parts_of_conversion(a: Result<usize, Fault>) -> Parts
+    requires { Small (converted a) }
+    ensures { Tells result (converted a) }
+{
+    match a {
+        Ok(size) => sized(0, size),
+        Err(fault) => sized(schedule_values::number_of(fault) as u32, 0),
     }
 }
 
 // Writes size, rows and flag, and answers the number.
-fn tell(a: Answer, parts: &mut [u32]) -> u32
-    requires small { Small (answer_of a) }
-    requires in_bounds { 3 ≤ length parts.old }
-    ensures { (result ≡ (answer_of a).number) × (parts.new ≡ overwrite ((answer_of a).size ∷ (answer_of a).rows ∷ Rattle.exports.specs.Exports.flag (answer_of a).more ∷ []) parts.old) }
+fn tell(p: Parts, parts: &mut [u32]) -> u32
+    requires { 3 ≤ length parts.old }
+    ensures { (result ≡ p.number) × (parts.new ≡ overwrite (p.size ∷ p.rows ∷ p.more ∷ []) parts.old) }
 {
-    let p = parts_of(a);
     parts[0] = p.size;
     parts[1] = p.rows;
     parts[2] = p.more;
@@ -90,7 +118,7 @@ pub extern "C" fn gidzelma_order(
         return TOO_FEW_PARTS;
     }
     let answer = access::order(sheet, listing, diagnosis);
-    tell(answer, parts)
+    tell(parts_of(answer), parts)
 }
 
 // The schedule call, likewise; the lines of an accepted map stand in the listing, as `access::schedule` promises.
@@ -109,7 +137,7 @@ pub extern "C" fn gidzelma_schedule(
         return TOO_FEW_PARTS; // and nothing is touched
     }
     let answer = access::schedule(sheet, listing, diagnosis);
-    tell(answer, parts)
+    tell(parts_of(answer), parts)
 }
 
 // A packed schedule into records, for a sheet of w words (FORMAT 12.1). Where fewer than three numbers are lent nothing is touched.
@@ -126,7 +154,7 @@ pub extern "C" fn gidzelma_read_schedule(
         return TOO_FEW_PARTS;
     }
     let answer = schedule_records::read_schedule(w, schedule, records);
-    tell(answer, parts)
+    tell(parts_of_conversion(answer), parts)
 }
 
 // Records into a packed schedule, likewise.
@@ -143,7 +171,7 @@ pub extern "C" fn gidzelma_write_schedule(
         return TOO_FEW_PARTS;
     }
     let answer = schedule_records::write_schedule(w, records, schedule);
-    tell(answer, parts)
+    tell(parts_of_conversion(answer), parts)
 }
 
 // What a tariff charges for a packed schedule (FORMAT 13.4). The sum goes to `total`, 0 where the answer is a refusal.
@@ -152,7 +180,14 @@ pub extern "C" fn gidzelma_tariff(tariff: &[i32], w: usize, schedule: &[u8], tot
     ensures { record { number = result; total = total.new } ≡ charged tariff.now w schedule.now }
 {
     let charged = tariff::total(tariff, w, schedule);
-    let sum = charged.total;
-    *total = sum;
-    charged.number as u32
+    match charged {
+        Ok(sum) => {
+            *total = sum;
+            0
+        }
+        Err(refusal) => {
+            *total = 0;
+            refusal.number() as u32
+        }
+    }
 }

@@ -51,7 +51,8 @@ pub enum Place {
     End,
 }
 
-// A field's width in bits, its least and its greatest value; all are 0 at the end.
+// A field's width in bits, its least and its greatest value; all are 0 at the end. No Option: who walks a schedule asks for the
+// rule at places that it names, and would have to open one each time.
 #[derive(Clone, Copy)]
 pub struct Rule {
     pub width: usize,
@@ -86,11 +87,7 @@ fn word_rule(w: usize) -> Rule
 fn count_rule(width: usize, least: usize, most: usize) -> Rule
     ensures { result ≡ record { width = width; least = least; most = most } }
 {
-    Rule {
-        width: width,
-        least: least,
-        most: most,
-    }
+    Rule { width, least, most }
 }
 
 // The field at a place, for a sheet of w words.

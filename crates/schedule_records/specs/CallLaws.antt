@@ -1,38 +1,22 @@
 -- Laws of the two calls: what two passes over the fields make of an input.
-use Rattle.std.specs.Prelude.{Bool, not, cond, ◌≡◌, ℕ, ◌+◌, ◌*◌, ◌/◌, ◌≤◌, ◌<◌, length, drop}
+use Rattle.std.specs.Prelude.{Bool, not, cond, ◌≡◌, ℕ, ◌+◌, ◌*◌, ◌/◌, ◌≤◌, length, drop, Result, Ok, Err}
 use Rattle.std.proofs.Math.Bool.{true, false}
-use mathlib.Core.List.{List, [], ◌++◌}
+use mathlib.Core.List.{List, ◌++◌}
 use Rattle.std.proofs.Math.Path.{refl, ap}
 use Rattle.std.proofs.Common.{sym, ap₂, ◌∙◌, subst, arith, le-ltb}
-use Rattle.std.proofs.Math.Decide.{dec_le}
 use Rattle.lists.specs.Tests.{never}
 use Rattle.definitions.specs.Bits.{bits_of, size, pack}
 use Rattle.definitions.specs.Parse.{Fault, past, not_allowed, Parsed, done, refused}
 use Rattle.definitions.specs.Checks.{bad_fill}
 use Rattle.definitions.specs.LegalSchedule.{least_words, most_words, LegalWidth}
-use Rattle.definitions.specs.Answer as rules
 use Rattle.definitions.specs.Answer.{overwrite}
 use Rattle.definitions.specs.ScheduleFields.{Form, read_fields, write_fields, schedule_fields}
 use Rattle.definitions.specs.Conversion.{Converted, schedule_fault, turned_away, written, concluded, bad_width, convert}
 use Rattle.bits.specs.NumberLaws.{length-pack_to}
 use Rattle.bits.specs.ReadLaws.{is_done}
-use Rattle.bits.specs.Writing.{put}
 use Rattle.bits.specs.WriteLaws.{put-pack}
-use Rattle.answers.specs.declared.Answer.{Answer}
-use Rattle.answers.specs.Answers.{parts}
-use Rattle.answers.specs.Telling.{has_parts, Tells}
-use Rattle.schedule_records.specs.declared.Passed.{Passed}
-use Rattle.schedule_records.specs.Turning.{form_of, mapped, left, whole, filled, told, Passes, Converts}
-
--- a refusal of a schedule comes with its number alone
-pub alone : (f : Fault) → has_parts (schedule_fault f) ≡ false
-alone past = refl
-alone not_allowed = refl
-
--- the bits that were made
-abbrev made_of : Parsed (List Bool) → List Bool
-made_of (done xs rest) = xs
-made_of (refused f) = []
+use Rattle.fields.specs.declared.Fault as code
+use Rattle.schedule_records.specs.Turning.{form_of, mapped, left, whole, filled, told, Passes, answer_of, Converts}
 
 length-pack : (xs : List Bool) → length (pack xs) ≡ size (length xs)
 unfolding pack
@@ -106,57 +90,39 @@ module _ (W : ℕ) (reading : Bool) (source lent : List ℕ) where
   -- ---- the answers
 
   -- W that may not be
-  pub turned-away : (a : Answer) → bad_width W ≡ true → Tells a (parts 12 0 0 false) → Converts a lent due
-  turned-away a e t = record {
-    outcome = ap (λ (x : rules.Answer). record { answer = x; output = lent }) t.parts ∙ sym (by_width true e);
-    case = t.case;
-    small = omega (arith, ap (λ (x : rules.Answer). x.size) t.parts);
-  }
+  pub turned-away : bad_width W ≡ true → Converts (Err code.Fault.NotAllowed) lent due
+  turned-away e = record { outcome = sym (by_width true e); small = omega arith }
 
-  module _ (w : LegalWidth W) (looked : Passed) (lent' : List ℕ) (l : Passes W reading false source lent lent' looked) where
-    pub unchanged : lent' ≡ lent
-    unchanged = l.untouched refl
+  module _ (w : LegalWidth W) (lent' : List ℕ) where
+    -- a refusal by a field or by the fill: the pen was up
+    pub by-a-field : (f : code.Fault) → Passes W reading false source lent lent' (Err f) → Converts (Err f) lent' due
+    by-a-field f l = record {
+      outcome =
+          ap (λ (y : List ℕ). record { answer = answer_of (Err f); output = y }) (l.untouched refl)
+          ∙ sym (by-fields (legal-width w) ∙ ap (λ (x : Parsed (List Bool)). told x lent) l.came.same);
+      small = omega arith;
+    }
 
-    -- a refusal by a field or by the fill
-    pub by-a-field : (a : Answer) → 0 < looked.number → Tells a (parts looked.number 0 0 false) → Converts a lent' due
-    by-a-field a h t =
-        let f = l.refused h in
-        record {
-          outcome =
-              ap₂ (λ (x : rules.Answer) (y : List ℕ). record { answer = x; output = y })
-              (t.parts ∙ ap (λ (n : ℕ). parts n 0 0 false) f.1)
-              unchanged
-              ∙ sym (by-fields (legal-width w) ∙ ap (λ (x : Parsed (List Bool)). told x lent) f.2);
-          case = t.case;
-          small = omega (arith, ap (λ (x : rules.Answer). x.size) t.parts);
-        }
+    module _ (n : ℕ) (l : Passes W reading false source lent lent' (Ok n)) (after : List ℕ) where
+      from-there : (r : Result ℕ code.Fault) → Passes W reading true source lent' after r → Passes W reading true source lent after r
+      from-there r p = subst (λ (s : List ℕ). Passes W reading true source s after r) (l.untouched refl) p
 
-    -- acceptance: what was looked at is written
-    pub accepting : (a : Answer) (wrote : Passed) (after : List ℕ) → looked.number ≤ 0 → Passes W reading true source lent' after wrote
-        → Tells a (parts 0 ((looked.bits + 7) / 8) 0 false) → Converts a after due
-    accepting a wrote after h p t =
-        let k = l.accepted h in
-        let xs = k.0 in
-        let e : filled (whole W reading source (length lent)) ≡ done xs k.1 = k.2 in
-        let q : Passes W reading true source lent after wrote = subst (λ (s : List ℕ). Passes W reading true source s after wrote) unchanged p in
-        let z : wrote.number ≤ 0 = elim (dec_le wrote.number 0) [
-          | yes z ↦ z
-          | no z ↦ never (ap is_done e) (ap is_done (q.refused (omega arith)).2)
-        ] in
-        let m = q.accepted z in
-        let s : m.0 ≡ xs = ap made_of (sym m.2 ∙ e) in
-        let n : length (pack xs) ≡ (looked.bits + 7) / 8 = length-pack xs ∙ ap (λ (i : ℕ). (i + 7) / 8) (sym k.3) in
-        let o : after ≡ overwrite (pack xs) lent =
-        m.4
-        ∙ ap (put lent 0) s
-        ∙ put-pack lent xs (omega (arith, k.3, k.5))
-        ∙ ap (λ (i : ℕ). pack xs ++ drop i lent) (sym (length-pack xs)) in
-        record {
-          outcome =
-              ap₂ (λ (x : rules.Answer) (y : List ℕ). record { answer = x; output = y })
-              (t.parts ∙ ap (λ (i : ℕ). parts 0 i 0 false) (sym n))
-              o
-              ∙ sym (by-fields (legal-width w) ∙ ap (λ (x : Parsed (List Bool)). told x lent) e);
-          case = t.case;
-          small = omega (arith, ap (λ (x : rules.Answer). x.size) t.parts, k.6);
-        }
+      -- what was looked at is not refused when it is written
+      pub looked-at : (f : code.Fault) → Passes W reading true source lent' after (Err f) → ⊥
+      looked-at f p = never (ap is_done l.came.same) (ap is_done (from-there (Err f) p).came.same)
+
+      -- acceptance: what was looked at is written
+      pub accepting : (i : ℕ) → Passes W reading true source lent' after (Ok i) → Converts (Ok ((i + 7) / 8)) after due
+      accepting i p =
+          let m = (from-there (Ok i) p).came in
+          let k : length (pack m.bits) ≡ (i + 7) / 8 = length-pack m.bits ∙ ap (λ (j : ℕ). (j + 7) / 8) (sym m.long) in
+          let o : after ≡ overwrite (pack m.bits) lent =
+          m.wrote
+          ∙ put-pack lent m.bits (omega (arith, m.long, m.fits))
+          ∙ ap (λ (j : ℕ). pack m.bits ++ drop j lent) (sym (length-pack m.bits)) in
+          record {
+            outcome =
+                ap₂ (λ (j : ℕ) (y : List ℕ). record { answer = answer_of (Ok j); output = y }) (sym k) o
+                ∙ sym (by-fields (legal-width w) ∙ ap (λ (x : Parsed (List Bool)). told x lent) m.same);
+            small = omega (arith, m.few);
+          }

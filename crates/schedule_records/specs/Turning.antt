@@ -1,17 +1,17 @@
 -- What the functions that turn one form of a schedule into the other owe.
-use Rattle.std.specs.Prelude.{Bool, true, false, not, cond, List, [], ◌++◌, ◌≡◌, ℕ, ◌+◌, ◌*◌, ◌-◌, ◌%◌, ◌^◌, ◌≤◌, ◌<◌, length, drop}
+use Rattle.std.specs.Prelude.{Bool, true, false, not, cond, List, [], ◌++◌, ◌≡◌, ℕ, ◌+◌, ◌*◌, ◌-◌, ◌%◌, ◌^◌, ◌≤◌, ◌<◌, length, drop, Result, Ok, Err, MatchResult}
 use Rattle.definitions.specs.Bits.{bits_of}
-use Rattle.definitions.specs.Parse.{Fault, not_allowed, Parsed, done, refused, Parser}
+use Rattle.definitions.specs.Answer as rules
+use Rattle.definitions.specs.Parse.{not_allowed, Parsed, done, refused, Parser}
 use Rattle.definitions.specs.Checks.{bad_fill}
 use Rattle.definitions.specs.ScheduleFields.{Fields, Form, packed, recorded, read_fields, write_fields, schedule_fields}
 use Rattle.definitions.specs.Conversion.{Converted, schedule_fault, turned_away, written}
 use Rattle.bits.specs.Writing.{put}
-use Rattle.answers.specs.declared.Answer.{Answer}
-use Rattle.answers.specs.Answers.{answer_of, case_of}
+use Rattle.fields.specs.declared.Fault.{Fault}
+use Rattle.fields.specs.Fields.{fault_of}
 use Rattle.schedule_fields.specs.declared.Place.{Place}
 use Rattle.schedule_fields.specs.Places.{fields_at, fields_left}
 use Rattle.schedule_values.specs.Meeting.{most_bits}
-use Rattle.schedule_records.specs.declared.Passed.{Passed}
 
 -- ---- one field
 
@@ -64,19 +64,33 @@ pub record Going (W : ℕ) (reading down : Bool) (source lent now : List ℕ) (p
   pub few_read : p + 16 * fields_left place ≤ most_bits
   pub few_written : q + 16 * fields_left place ≤ most_bits
 
--- All fields were gone through, and came to r; `bits` are those of the other form.
-pub record Passes (W : ℕ) (reading down : Bool) (source before after : List ℕ) (r : Passed) : Type 0 where
+-- All fields were gone through, and made so many bits, those of the other form.
+pub record Made (W : ℕ) (reading down : Bool) (source before after : List ℕ) (n : ℕ) : Type 0 where
+  pub bits : List Bool
+  pub rest : List Bool
+  pub same : filled (whole W reading source (length before)) ≡ done bits rest
+  pub long : n ≡ length bits
+  pub wrote : after ≡ cond down (put before 0 bits) before
+  pub fits : n ≤ 8 * length before
+  pub few : n ≤ most_bits
+
+-- Or one is refused, or what stands behind them.
+pub record Unmade (W : ℕ) (reading : Bool) (source before : List ℕ) (f : Fault) : Type 0 where
+  pub same : filled (whole W reading source (length before)) ≡ refused (fault_of f)
+
+-- With the pen up nothing was touched.
+pub record Passes (W : ℕ) (reading down : Bool) (source before after : List ℕ) (r : Result ℕ Fault) : Type 0 where
   pub untouched : down ≡ false → after ≡ before
-  pub refused : 0 < r.number → (f : Fault) × (r.number ≡ schedule_fault f) × (filled (whole W reading source (length before)) ≡ Parsed.refused f)
-  pub accepted : r.number ≤ 0
-      → (xs : List Bool) × (rest : List Bool) × (filled (whole W reading source (length before)) ≡ done xs rest)
-      × (r.bits ≡ length xs) × (after ≡ cond down (put before 0 xs) before) × (r.bits ≤ 8 * length before) × (r.bits ≤ most_bits)
+  pub came : MatchResult r (λ n. Made W reading down source before after n) (λ f. Unmade W reading source before f)
 
 -- ---- a call
 
--- What a call promises where o is due: the parts and the lent slice at exit are those of o, r is the case of its number, and the
--- size is a number of 32 bits.
-pub record Converts (r : Answer) (output : List ℕ) (o : Converted) : Type 0 where
+-- The parts of an answer: acceptance has the number 0, a refusal its number alone (FORMAT 12.4).
+abbrev pub answer_of : Result ℕ Fault → rules.Answer
+answer_of (Ok size) = record { number = 0; size = size; rows = 0; more = false }
+answer_of (Err f) = record { number = schedule_fault (fault_of f); size = 0; rows = 0; more = false }
+
+-- What a call promises where o is due: the parts and the lent slice at exit are those of o, and the size is a number of 32 bits.
+pub record Converts (r : Result ℕ Fault) (output : List ℕ) (o : Converted) : Type 0 where
   pub outcome : record { answer = answer_of r; output = output } ≡ o
-  pub case : r ≡ case_of (answer_of r)
   pub small : (answer_of r).size < 2 ^ 32

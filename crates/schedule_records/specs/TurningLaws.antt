@@ -1,5 +1,5 @@
 -- Laws of turning one form of a schedule into the other.
-use Rattle.std.specs.Prelude.{Bool, true, false, not, cond, List, [], ◌∷◌, ◌++◌, ◌≡◌, refl, ℕ, ◌+◌, ◌*◌, ◌-◌, ◌/◌, ◌^◌, ◌≤◌, ◌<◌, ltb, length, drop}
+use Rattle.std.specs.Prelude.{Bool, true, false, not, cond, List, [], ◌∷◌, ◌++◌, ◌≡◌, refl, ℕ, ◌+◌, ◌*◌, ◌-◌, ◌/◌, ◌^◌, ◌≤◌, ◌<◌, ltb, length, drop, Ok, Err}
 use Rattle.std.proofs.Common.{append_assoc, append-nil, sym, ap, ap₂, ◌∙◌, zero-add, arith, le-ltb, lt-ltb, ltb-true, ltb-false, length-append}
 use Rattle.std.proofs.Math.Nat.{sub-zero}
 use Rattle.std.proofs.Math.Pow
@@ -17,8 +17,8 @@ use Rattle.schedule_fields.specs.declared.Rule.{Rule}
 use Rattle.schedule_fields.specs.declared.Place.{Place}
 use Rattle.schedule_fields.specs.Places.{width_of, least_of, most_of, follow_of, fields_at, fields_left, RuleOf, Follows}
 use Rattle.schedule_fields.specs.PlaceLaws.{Sound, sound}
-use Rattle.schedule_values.specs.declared.Met.{Met}
-use Rattle.schedule_values.specs.Meeting.{head, Meets, most_bits}
+use Rattle.fields.specs.declared.Fault.{Fault}
+use Rattle.schedule_values.specs.Meeting.{head, Met, Missed, most_bits}
 use Rattle.schedule_records.specs.Turning.{form_of, Aligned, mapped, left, whole, filled, Going, Passes}
 
 -- ---- the fields that are left
@@ -162,8 +162,7 @@ module _ (W : ℕ) (reading down : Bool) (source lent : List ℕ) where
     pub not-touched : down ≡ false → now ≡ lent
     not-touched d = g.wrote ∙ ap (λ (b : Bool). cond b (put lent 0 g.bits) lent) d
 
-    module _ (h : 0 < rule.width) (n k : ℕ) (en : n ≡ form_of reading rule.width) (ek : k ≡ form_of (not reading) rule.width)
-        (met : Met) (m : Meets (ltb (8 * length lent) (q + k)) n rule source p met) where
+    module _ (h : 0 < rule.width) (n k : ℕ) (en : n ≡ form_of reading rule.width) (ek : k ≡ form_of (not reading) rule.width) where
       positive : 0 < k
       positive = omega (arith, in-form (not reading) rule.width (ready h).0, ek)
 
@@ -182,52 +181,45 @@ module _ (W : ℕ) (reading down : Bool) (source lent : List ℕ) where
       record-wide y = ek ∙ ap (λ (b : Bool). form_of (not b) rule.width) y
 
       -- a field that is refused
-      pub passes-refused : 0 < met.number → Passes W reading down source lent now (record { number = met.number; bits = 0 })
-      passes-refused z =
-          let r = m.refused z in
-          record {
-            untouched = not-touched;
-            refused = λ _. (
-              r.0,
-              r.1,
-              ap filled (goes ∙ ap (λ (x : Parsed ℕ). next x (λ v. left (form_of reading) (form_of (not reading)) (follow_of (fields_at W place) v) (g.bits ++ to_bits k v) (8 * length lent - q - k))) r.2),
-            );
-            accepted = λ l. absurd (omega arith);
-          }
+      pub passes-refused : (f : Fault) → Missed (ltb (8 * length lent) (q + k)) n rule source p f → Passes W reading down source lent now (Err f)
+      passes-refused f m = record {
+        untouched = not-touched;
+        came = record {
+          same = ap filled (goes ∙ ap (λ (x : Parsed ℕ). next x (λ v. left (form_of reading) (form_of (not reading)) (follow_of (fields_at W place) v) (g.bits ++ to_bits k v) (8 * length lent - q - k))) m.same);
+        };
+      }
 
       -- a field that is not
-      module _ (z : met.number ≤ 0) where
+      module _ (v : ℕ) (m : Met (ltb (8 * length lent) (q + k)) n rule source p v) where
         pub fits_in : q + k ≤ 8 * length lent
-        fits_in = ltb-false (8 * length lent) (q + k) (m.value z).3
+        fits_in = ltb-false (8 * length lent) (q + k) m.long
 
-        pub value-lt : met.value < 2 ^ k
+        pub value-lt : v < 2 ^ k
         value-lt =
             let r = ready h in
             let i : 2 ^ rule.width ≤ 2 ^ k = Pow.pow_mono {j = k} (omega (arith, in-form (not reading) rule.width r.0, ek)) in
-            omega (arith, (m.value z).1, r.3, i)
+            omega (arith, m.few, r.3, i)
 
-        pub going_on : (now' : List ℕ) (q' : ℕ) (place' : Place) → Penned down now now' q q' (to_bits k met.value) → Follows place met.value place'
+        pub going_on : (now' : List ℕ) (q' : ℕ) (place' : Place) → Penned down now now' q q' (to_bits k v) → Follows place v place'
             → Going W reading down source lent now' place' (p + n) q'
         going_on now' q' place' d f =
-            let v = m.value z in
             let r = ready h in
-            let s = sounds in
-            let l : fields_left place' < fields_left place = f.less W (omega (arith, e.width)) (omega (arith, v.1, e.most)) in
-            let t : q' ≡ q + k = d.next ∙ ap (λ (i : ℕ). q + i) (length-to_bits k met.value) in
+            let l : fields_left place' < fields_left place = f.less W (omega (arith, e.width)) (omega (arith, m.few, e.most)) in
+            let t : q' ≡ q + k = d.next ∙ ap (λ (i : ℕ). q + i) (length-to_bits k v) in
             let a = in-form reading rule.width r.0 in
             let b = in-form (not reading) rule.width r.0 in
             record {
-              bits = g.bits ++ to_bits k met.value;
+              bits = g.bits ++ to_bits k v;
               same =
                   goes
-                  ∙ ap (λ (x : Parsed ℕ). next x (λ v. left (form_of reading) (form_of (not reading)) (follow_of (fields_at W place) v) (g.bits ++ to_bits k v) (8 * length lent - q - k))) v.0
-                  ∙ ap₂ (λ (x : Fields) (i : ℕ). left (form_of reading) (form_of (not reading)) x (g.bits ++ to_bits k met.value) i (drop (p + n) (bits_of source)))
+                  ∙ ap (λ (x : Parsed ℕ). next x (λ v. left (form_of reading) (form_of (not reading)) (follow_of (fields_at W place) v) (g.bits ++ to_bits k v) (8 * length lent - q - k))) m.same
+                  ∙ ap₂ (λ (x : Fields) (i : ℕ). left (form_of reading) (form_of (not reading)) x (g.bits ++ to_bits k v) i (drop (p + n) (bits_of source)))
                   (sym (f.same W)) (omega (arith, t));
               long = t ∙ rw (length-append, length-to_bits, ← g.long) refl;
               wrote =
                   d.holds
-                  ∙ ap₂ (λ (x : List ℕ) (i : ℕ). cond down (put x i (to_bits k met.value)) x) g.wrote g.long
-                  ∙ more-put down lent g.bits (to_bits k met.value);
+                  ∙ ap₂ (λ (x : List ℕ) (i : ℕ). cond down (put x i (to_bits k v)) x) g.wrote g.long
+                  ∙ more-put down lent g.bits (to_bits k v);
               even = λ y. omega (arith, g.even y, t, record-wide y);
               fits = omega (arith, t, fits_in);
               few_read = omega (arith, g.few_read, l, a.1, en);
@@ -247,16 +239,19 @@ module _ (W : ℕ) (reading down : Bool) (source lent : List ℕ) where
       concluded t b =
           ap filled ended ∙ ap (λ (x : Bool). cond x (Parsed.refused not_allowed) (done g.bits (drop p (bits_of source)))) b
 
-      pub passes-filled : bad_fill (drop p (bits_of source)) ≡ true → Passes W reading down source lent now (record { number = 12; bits = 0 })
-      passes-filled b = record {
-        untouched = not-touched;
-        refused = λ _. (not_allowed, refl, concluded true b);
-        accepted = λ l. absurd (omega arith);
-      }
+      pub passes-filled : bad_fill (drop p (bits_of source)) ≡ true → Passes W reading down source lent now (Err Fault.NotAllowed)
+      passes-filled b = record { untouched = not-touched; came = record { same = concluded true b } }
 
-      pub passes-all : bad_fill (drop p (bits_of source)) ≡ false → Passes W reading down source lent now (record { number = 0; bits = q })
+      pub passes-all : bad_fill (drop p (bits_of source)) ≡ false → Passes W reading down source lent now (Ok q)
       passes-all b = record {
         untouched = not-touched;
-        refused = λ l. absurd (omega arith);
-        accepted = λ _. (g.bits, drop p (bits_of source), concluded false b, g.long, g.wrote, g.fits, omega (arith, g.few_written));
+        came = record {
+          bits = g.bits;
+          rest = drop p (bits_of source);
+          same = concluded false b;
+          long = g.long;
+          wrote = g.wrote;
+          fits = g.fits;
+          few = omega (arith, g.few_written);
+        };
       }

@@ -1,5 +1,6 @@
 // The two calls that turn a packed schedule into records, and records into a packed schedule (FORMAT 12). Both are one loop over
-// the fields: first it looks, and where nothing is to be refused it goes again and writes.
+// the fields: first it looks, and where nothing is to be refused it goes again and writes. Bools say which form is read and whether
+// the pen is down, so that one loop, with one proof, makes all four passes.
 #![tactic(auto)]
 
 ghost use Rattle.std.specs.Prelude.{true, not, ◌≡◌, ◌+◌, ◌*◌, ◌≤◌, ◌<◌, length};
@@ -10,19 +11,12 @@ ghost use Rattle.bits.specs.Writing.{put};
 ghost use Rattle.item_pen.specs.Pen.{Room, Penned};
 ghost use Rattle.schedule_records.specs.Turning.{form_of, Aligned, Passes, Converts};
 
-use answers::Answer;
+use fields::Fault;
 use item_pen::Field;
 use schedule_fields::Place;
 
 // The bits of a record (FORMAT 12.2).
 const RECORD: usize = 16;
-
-// What all fields come to: how many bits they have in the other form, or the number of a refusal.
-#[derive(Clone, Copy)]
-pub struct Passed {
-    pub number: usize,
-    pub bits: usize,
-}
 
 // How wide a field of n bits is in a form, packed or a record (FORMAT 12.2).
 fn in_form(packed: bool, n: usize) -> usize
@@ -79,8 +73,14 @@ fn lay(target: &mut [u8], at: usize, down: bool, packed: bool, f: Field) -> usiz
 }
 
 // All fields of a source in one form, into a target in the other: packed into records where `reading`, else records into packed.
-// With the pen up the target is not touched.
-fn pass(w: usize, source: &[u8], target: &mut [u8], reading: bool, down: bool) -> Passed
+// With the pen up the target is not touched. The answer is how many bits they have in the other form.
+fn pass(
+    w: usize,
+    source: &[u8],
+    target: &mut [u8],
+    reading: bool,
+    down: bool,
+) -> Result<usize, Fault>
     requires { LegalWidth w }
     ensures { Passes w reading down source.now target.old target.new result }
 {
@@ -93,58 +93,43 @@ fn pass(w: usize, source: &[u8], target: &mut [u8], reading: bool, down: bool) -
     while rule.width != 0 {
         let n = in_form(reading, rule.width);
         let m = in_other_form(reading, rule.width, n);
-        let met = schedule_values::meet(source, end, at, n, room < to + m, rule);
-        if met.number != 0 {
-            return Passed {
-                number: met.number,
-                bits: 0,
-            };
-        }
+        let value = schedule_values::meet(source, end, at, n, room < to + m, rule)?;
         at += n;
         let field = Field {
             width: m,
-            value: met.value as u64,
+            value: value as u64,
         };
         to = lay(target, to, down, !reading, field);
-        place = schedule_fields::next(place, met.value);
+        place = schedule_fields::next(place, value);
         rule = schedule_fields::rule_at(place, w);
     }
     if schedule_values::is_bad_fill(source, at) {
-        return Passed {
-            number: schedule_values::NOT_ALLOWED,
-            bits: 0,
-        };
+        return Err(Fault::NotAllowed);
     }
-    Passed {
-        number: 0,
-        bits: to,
-    }
+    Ok(to)
 }
 
 // W first; then all fields are looked at, and only where none is refused they are written (FORMAT 12.3, 12.4).
-fn turn(w: usize, source: &[u8], target: &mut [u8], reading: bool) -> Answer
+fn turn(w: usize, source: &[u8], target: &mut [u8], reading: bool) -> Result<usize, Fault>
     ensures { Converts result target.new (convert (form_of reading) (form_of (not reading)) w source.now target.old) }
 {
     if schedule_values::is_bad_width(w) {
-        return answers::refused(schedule_values::NOT_ALLOWED);
+        return Err(Fault::NotAllowed);
     }
-    let looked = pass(w, source, target, reading, false);
-    if looked.number != 0 {
-        return answers::refused(looked.number);
-    }
-    pass(w, source, target, reading, true);
-    answers::listed(false, (looked.bits + 7) / 8)
+    pass(w, source, target, reading, false)?;
+    let bits = pass(w, source, target, reading, true)?;
+    Ok((bits + 7) / 8)
 }
 
-// A packed schedule into records (FORMAT 12.1).
-pub fn read_schedule(w: usize, schedule: &[u8], records: &mut [u8]) -> Answer
+// A packed schedule into records (FORMAT 12.1): how many bytes they are.
+pub fn read_schedule(w: usize, schedule: &[u8], records: &mut [u8]) -> Result<usize, Fault>
     ensures { Converts result records.new (read_schedule w schedule.now records.old) }
 {
     turn(w, schedule, records, true)
 }
 
-// Records into a packed schedule (FORMAT 12.1).
-pub fn write_schedule(w: usize, records: &[u8], schedule: &mut [u8]) -> Answer
+// Records into a packed schedule (FORMAT 12.1): how many bytes it has.
+pub fn write_schedule(w: usize, records: &[u8], schedule: &mut [u8]) -> Result<usize, Fault>
     ensures { Converts result schedule.new (write_schedule w records.now schedule.old) }
 {
     turn(w, records, schedule, false)

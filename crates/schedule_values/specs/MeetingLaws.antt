@@ -6,13 +6,14 @@ use Rattle.std.proofs.Common.{sym, ◌∙◌, arith, le-leb, le-ltb, lt-ltb, ltb
 use Rattle.std.proofs.lemmas.Bool.{lt-leb}
 use Rattle.lists.specs.Tests.{by, or-false-left, or-false-right}
 use Rattle.definitions.specs.Bits.{bits_of, num}
-use Rattle.definitions.specs.Parse.{past, not_allowed, pure, refuse, choose, allowed}
+use Rattle.fields.specs.declared.Fault.{Fault}
+use Rattle.definitions.specs.Parse.{not_allowed, pure, refuse, choose, allowed}
 use Rattle.definitions.specs.LegalSchedule.{least_words, most_words, LegalWidth}
 use Rattle.definitions.specs.Conversion.{bad_width}
 use Rattle.bits.specs.NumberLaws.{length-bits_of}
 use Rattle.sheet_window.specs.WindowLaws.{field_in, field_past}
 use Rattle.schedule_fields.specs.declared.Rule.{Rule}
-use Rattle.schedule_values.specs.Meeting.{head, Meets, bits_within, most_bits}
+use Rattle.schedule_values.specs.Meeting.{head, Met, Missed, bits_within, most_bits}
 
 -- W as it may be
 pub good-width : (W : ℕ) → bad_width W ≡ false → LegalWidth W
@@ -28,15 +29,12 @@ past-within bytes p h = by (ltb (8 * bytes) p)
     (λ e. le-ltb (bits_within bytes) p (omega (arith, ltb-false (8 * bytes) p e)) ∙ sym e)
 
 module _ (short : Bool) (n : ℕ) (rule : Rule) (source : List ℕ) (p : ℕ) where
-  pub meets-short : short ≡ true → Meets short n rule source p (record { number = 11; value = 0 })
-  meets-short e = record { refused = λ _. (past, refl, rw e refl); value = λ h. absurd (omega arith) }
+  pub meets-short : short ≡ true → Missed short n rule source p Fault.Past
+  meets-short e = record { same = rw e refl }
 
-  pub meets-past : short ≡ false → 0 < n → 8 * length source < p + n → Meets short n rule source p (record { number = 11; value = 0 })
+  pub meets-past : short ≡ false → 0 < n → 8 * length source < p + n → Missed short n rule source p Fault.Past
   unfolding allowed
-  meets-past e h l = record {
-    refused = λ _. (past, refl, rw (e, field_past (bits_of source) p n h (omega (arith, length-bits_of source))) refl);
-    value = λ z. absurd (omega arith);
-  }
+  meets-past e h l = record { same = rw (e, field_past (bits_of source) p n h (omega (arith, length-bits_of source))) refl }
 
   -- a field that is there: its value is tested
   tested : (v : ℕ) → short ≡ false → 0 < n → p + n ≤ 8 * length source → v ≡ num n (drop p (bits_of source))
@@ -46,22 +44,18 @@ module _ (short : Bool) (n : ℕ) (rule : Rule) (source : List ℕ) (p : ℕ) wh
   tested v e h l q = rw (e, field_in (bits_of source) p n (p + n) h refl (omega (arith, length-bits_of source)), ← q) refl
 
   pub meets-below : (v : ℕ) → short ≡ false → 0 < n → p + n ≤ 8 * length source → v ≡ num n (drop p (bits_of source)) → v < rule.least
-      → Meets short n rule source p (record { number = 12; value = 0 })
-  meets-below v e h l q b = record {
-    refused = λ _. (not_allowed, refl, tested v e h l q ∙ rw (lt-leb rule.least v b) refl);
-    value = λ z. absurd (omega arith);
-  }
+      → Missed short n rule source p Fault.NotAllowed
+  meets-below v e h l q b = record { same = tested v e h l q ∙ rw (lt-leb rule.least v b) refl }
 
   pub meets-above : (v : ℕ) → short ≡ false → 0 < n → p + n ≤ 8 * length source → v ≡ num n (drop p (bits_of source)) → rule.most < v
-      → Meets short n rule source p (record { number = 12; value = 0 })
-  meets-above v e h l q b = record {
-    refused = λ _. (not_allowed, refl, tested v e h l q ∙ rw (lt-leb v rule.most b, and-false (leb rule.least v)) refl);
-    value = λ z. absurd (omega arith);
-  }
+      → Missed short n rule source p Fault.NotAllowed
+  meets-above v e h l q b = record { same = tested v e h l q ∙ rw (lt-leb v rule.most b, and-false (leb rule.least v)) refl }
 
   pub meets-value : (v : ℕ) → short ≡ false → 0 < n → p + n ≤ 8 * length source → v ≡ num n (drop p (bits_of source)) → rule.least ≤ v
-      → v ≤ rule.most → Meets short n rule source p (record { number = 0; value = v })
+      → v ≤ rule.most → Met short n rule source p v
   meets-value v e h l q a b = record {
-    refused = λ z. absurd (omega arith);
-    value = λ _. (tested v e h l q ∙ rw (le-leb rule.least v a, le-leb v rule.most b) refl, b, l, e);
+    same = tested v e h l q ∙ rw (le-leb rule.least v a, le-leb v rule.most b) refl;
+    few = b;
+    within = l;
+    long = e;
   }

@@ -1,14 +1,16 @@
-// A field of a schedule met in bytes: its value, or the number of its refusal, both ends before the value; and what stands behind
-// the last field (FORMAT 12.3). The calls between a schedule and its records read so, and so does a walk.
+// A field of a schedule met in bytes: its value, or its fault, both ends before the value; and what stands behind the last field
+// (FORMAT 12.3). The calls between a schedule and its records read so, and so does a walk.
 #![tactic(auto)]
 
 ghost use Rattle.std.specs.Prelude.{◌≡◌, ◌+◌, ◌≤◌, ◌<◌, length, drop};
 ghost use Rattle.definitions.specs.Bits.{bits_of, num};
 ghost use Rattle.definitions.specs.Checks.{bad_fill};
-ghost use Rattle.definitions.specs.Conversion.{bad_width};
+ghost use Rattle.definitions.specs.Conversion.{bad_width, schedule_fault};
+ghost use Rattle.fields.specs.Fields.{fault_of};
 ghost use Rattle.schedule_values.specs.Meeting.{Meets, bits_within, most_bits};
 
 use bits::Cursor;
+use fields::Fault;
 use schedule_fields::Rule;
 
 // W, the number of words of the sheet that a schedule belongs to, is 2 to 200 (FORMAT 1.2).
@@ -19,16 +21,19 @@ const MOST_WORDS: usize = 200;
 // The refusals: a field or a record passes an end; W, a value or the fill is not allowed (FORMAT 12.3).
 const PAST: usize = 11;
 
-pub const NOT_ALLOWED: usize = 12;
+const NOT_ALLOWED: usize = 12;
 
 // No schedule has so many bytes in either form.
 const MOST_BYTES: usize = 268435456;
 
-// What a field comes to: its value, or the number of a refusal.
-#[derive(Clone, Copy)]
-pub struct Met {
-    pub number: usize,
-    pub value: usize,
+// The number of a fault in a schedule (FORMAT 12.3).
+pub fn number_of(fault: Fault) -> usize
+    ensures { result ≡ schedule_fault (fault_of fault) }
+{
+    match fault {
+        Fault::Past => PAST,
+        Fault::NotAllowed => NOT_ALLOWED,
+    }
 }
 
 // Whether W is not what it may be.
@@ -42,11 +47,7 @@ pub fn is_bad_width(w: usize) -> bool
 pub fn bits_within(bytes: usize) -> usize
     ensures { result ≡ bits_within bytes }
 {
-    if bytes < MOST_BYTES {
-        bytes * 8
-    } else {
-        MOST_BYTES * 8
-    }
+    bytes.min(MOST_BYTES) * 8
 }
 
 // The n bits at a place, 0 for those past the end.
@@ -62,41 +63,31 @@ fn value_at(source: &[u8], at: usize, n: usize) -> usize
 
 // The n bits at a place as the value of a field, where the source has `end` bits, and `short` tells that the other form has no room
 // for it: both ends before the value (FORMAT 12.3).
-pub fn meet(source: &[u8], end: usize, at: usize, n: usize, short: bool, rule: Rule) -> Met
+pub fn meet(
+    source: &[u8],
+    end: usize,
+    at: usize,
+    n: usize,
+    short: bool,
+    rule: Rule,
+) -> Result<usize, Fault>
     requires { (end ≡ bits_within (length source.now)) × (0 < n) × (n ≤ 16) × (at + n ≤ most_bits) }
     ensures { Meets short n rule source.now at result }
 {
-    let least = rule.least;
-    let most = rule.most;
     let value = value_at(source, at, n);
     if short {
-        return Met {
-            number: PAST, // no room for it
-            value: 0,
-        };
+        return Err(Fault::Past); // no room for it
     }
     if end < at + n {
-        return Met {
-            number: PAST, // it is cut
-            value: 0,
-        };
+        return Err(Fault::Past); // it is cut
     }
-    if value < least {
-        return Met {
-            number: NOT_ALLOWED, // too small
-            value: 0,
-        };
+    if value < rule.least {
+        return Err(Fault::NotAllowed); // too small
     }
-    if most < value {
-        return Met {
-            number: NOT_ALLOWED, // too great
-            value: 0,
-        };
+    if rule.most < value {
+        return Err(Fault::NotAllowed); // too great
     }
-    Met {
-        number: 0,
-        value: value,
-    }
+    Ok(value)
 }
 
 // Whether a byte or a set bit stands behind the last field (FORMAT 12.3). Where no byte does, the bits can be counted.

@@ -1,5 +1,5 @@
 -- Laws of the forms of a schedule's fields: each is gone through as its parts are.
-use Rattle.std.specs.Prelude.{cond, ◌≡◌, ℕ, zero, suc, ◌+◌, ◌*◌, ◌-◌, ◌≤◌, ◌<◌, eqb, length}
+use Rattle.std.specs.Prelude.{cond, ◌≡◌, ℕ, zero, suc, ◌+◌, ◌*◌, ◌-◌, ◌≤◌, ◌<◌, eqb, length, Result, Ok, Err}
 use mathlib.Core.List.{List, [], ◌∷◌, ◌++◌, append_assoc}
 use Rattle.std.proofs.Math.Path.{refl, ap, ap₂, subst}
 use Rattle.std.proofs.Common.{sym, ◌∙◌, mul-le-mul_right}
@@ -15,84 +15,77 @@ use Rattle.definitions.specs.Values.{counted_values, name_values, parent_values,
 use Rattle.tariff_definitions.specs.DecodedLaws.{OneOrTwo}
 use Rattle.schedule_fields.specs.declared.Rule.{Rule}
 use Rattle.schedule_fields.specs.Places.{RuleOf, width_of, least_of, most_of}
-use Rattle.schedule_values.specs.declared.Met.{Met}
-use Rattle.schedule_walk.specs.declared.Step.{Step}
+use Rattle.fields.specs.declared.Fault.{Fault}
 use Rattle.schedule_walk.specs.declared.Entry.{Entry}
-use Rattle.schedule_walk.specs.Walking.{from, Runs, Stops, Reads, Goes, GoesItem, one, Anything, Many, named_values, NamedWord, listed_values, ManyParents, names_fields, name_bits, parent_bits, mark_bits, marks_bits, line_bits, made_bits, item_bits, names_bits}
+use Rattle.schedule_walk.specs.Walking.{from, Runs, Stops, Has, Lacks, Reads, Gone, Goes, GoneItem, GoesItem, one, Anything, Many, named_values, NamedWord, listed_values, ManyParents, names_fields, name_bits, parent_bits, mark_bits, marks_bits, line_bits, made_bits, item_bits, names_bits}
 use Rattle.schedule_walk.specs.WalkingLaws.{field-stops, field-runs, field-then-stops, none_runs, then_runs, first_stops, then-stops, runs_as}
 
 -- ---- parts
 
 -- a field by a rule that is known
-pub reads-rule : {r : Rule} {f : Fields} {source : List ℕ} {p : ℕ} {m : Met} → RuleOf r f → Reads r.width r.least r.most source p m
+pub has-rule : {r : Rule} {f : Fields} {source : List ℕ} {p v : ℕ} → RuleOf r f → Has r.width r.least r.most source p v
+    → Has (width_of f) (least_of f) (most_of f) source p v
+has-rule {r} {f} {source} {p} {v} e h = rw (← e.width, ← e.least, ← e.most) h
+
+pub lacks-rule : {r : Rule} {f : Fields} {source : List ℕ} {p : ℕ} {e : Fault} → RuleOf r f → Lacks r.width r.least r.most source p e
+    → Lacks (width_of f) (least_of f) (most_of f) source p e
+lacks-rule {r} {f} {source} {p} {e} i h = rw (← i.width, ← i.least, ← i.most) h
+
+pub reads-rule : {r : Rule} {f : Fields} (source : List ℕ) (p : ℕ) (m : Result ℕ Fault) → RuleOf r f → Reads r.width r.least r.most source p m
     → Reads (width_of f) (least_of f) (most_of f) source p m
-reads-rule {r} {f} {source} {p} {m} e h = rw (← e.width, ← e.least, ← e.most) h
+reads-rule source p m e h = rw (← e.width, ← e.least, ← e.most) h
 
 -- the values by another name
-pub goes-as : {A : Type 0} {F : Fields → Fields} {f g : A → List ℕ} {ok : A → Type 0} {b p : ℕ} {source : List ℕ} {r : Step}
-    → ((x : A) → f x ≡ g x) → Goes F f ok b source p r → Goes F g ok b source p r
-goes-as e h = record {
-  stops = h.stops;
-  runs = λ z. let x = h.runs z in (x.0, x.1, runs_as (e x.0) x.2, x.3);
-}
+pub gone-as : {A : Type 0} {F : Fields → Fields} {f g : A → List ℕ} {ok : A → Type 0} {b p q : ℕ} {source : List ℕ}
+    → ((x : A) → f x ≡ g x) → Gone F f ok b source p q → Gone F g ok b source p q
+gone-as e h = record { x = h.x; fine = h.fine; runs = runs_as (e h.x) h.runs; few = h.few }
 
 -- from the same bit on
-pub goes-from : {A : Type 0} {F : Fields → Fields} {f : A → List ℕ} {ok : A → Type 0} {b i j : ℕ} {source : List ℕ} {r : Step}
-    → i ≡ j → Goes F f ok b source i r → Goes F f ok b source j r
-goes-from {F = F} {f = f} {ok = ok} {b = b} {source = source} {r = r} e h = subst (λ (i : ℕ). Goes F f ok b source i r) e h
+pub gone-from : {A : Type 0} {F : Fields → Fields} {f : A → List ℕ} {ok : A → Type 0} {b i j q : ℕ} {source : List ℕ}
+    → i ≡ j → Gone F f ok b source i q → Gone F f ok b source j q
+gone-from {F = F} {f = f} {ok = ok} {b = b} {q = q} {source = source} e h = subst (λ (i : ℕ). Gone F f ok b source i q) e h
+
+pub stops-from : {F : Fields → Fields} {i j : ℕ} {source : List ℕ} {e : Fault} → i ≡ j → Stops F source i e → Stops F source j e
+stops-from {F} {source = source} {e = e} d h = subst (λ (i : ℕ). Stops F source i e) d h
 
 -- more bits
-pub goes-within : {A : Type 0} {F : Fields → Fields} {f : A → List ℕ} {ok : A → Type 0} {b c p : ℕ} {source : List ℕ} {r : Step}
-    → b ≤ c → Goes F f ok b source p r → Goes F f ok c source p r
-goes-within l h = record { stops = h.stops; runs = λ z. let x = h.runs z in (x.0, x.1, x.2, omega (arith, x.3, l)) }
-
--- a form that is refused, with what comes behind it
-pub first_goes : {A B : Type 0} {F G : Fields → Fields} {f : A → List ℕ} {ok : A → Type 0} {g : B → List ℕ} {fine : B → Type 0} {b c p : ℕ} {source : List ℕ} {r : Step}
-    → Goes F f ok b source p r → 0 < r.number → Goes (λ k. F (G k)) g fine c source p r
-first_goes h z = record { stops = λ _. first_stops (h.stops z); runs = λ l. absurd (omega arith) }
+pub gone-within : {A : Type 0} {F : Fields → Fields} {f : A → List ℕ} {ok : A → Type 0} {b c p q : ℕ} {source : List ℕ}
+    → b ≤ c → Gone F f ok b source p q → Gone F f ok c source p q
+gone-within l h = record { x = h.x; fine = h.fine; runs = h.runs; few = omega (arith, h.few, l) }
 
 -- two forms, one behind the other
-pub both-goes : {A B : Type 0} {F G : Fields → Fields} {f : A → List ℕ} {g : B → List ℕ} {ok : A → Type 0} {fine : B → Type 0} {b c p : ℕ} {source : List ℕ} {r s : Step}
-    → Goes F f ok b source p r → r.number ≤ 0 → Goes G g fine c source r.at s
-    → Goes (λ k. F (G k)) (λ (x : A × B). f x.0 ++ g x.1) (λ (x : A × B). ok x.0 × fine x.1) (b + c) source p s
-both-goes h z k =
-    let x = h.runs z in
-    record {
-      stops = λ l. then-stops x.2 (k.stops l);
-      runs = λ l. let y = k.runs l in ((x.0, y.0), (x.1, y.1), then_runs x.2 y.2, omega (arith, x.3, y.3));
-    }
+pub both-gone : {A B : Type 0} {F G : Fields → Fields} {f : A → List ℕ} {g : B → List ℕ} {ok : A → Type 0} {fine : B → Type 0} {b c p q r : ℕ} {source : List ℕ}
+    → Gone F f ok b source p q → Gone G g fine c source q r
+    → Gone (λ k. F (G k)) (λ (x : A × B). f x.0 ++ g x.1) (λ (x : A × B). ok x.0 × fine x.1) (b + c) source p r
+both-gone h k = record { x = (h.x, k.x); fine = (h.fine, k.fine); runs = then_runs h.runs k.runs; few = omega (arith, h.few, k.few) }
+
+pub both-goes : {A B : Type 0} {F : Fields → Fields} (G : Fields → Fields) {f : A → List ℕ} (g : B → List ℕ) {ok : A → Type 0} (fine : B → Type 0) {b : ℕ} (c d : ℕ) {p q : ℕ} {source : List ℕ}
+    → b + c ≤ d → Gone F f ok b source p q → (r : Result ℕ Fault) → Goes G g fine c source q r
+    → Goes (λ k. F (G k)) (λ (x : A × B). f x.0 ++ g x.1) (λ (x : A × B). ok x.0 × fine x.1) d source p r
+both-goes G g fine c d l h (Ok r) k = gone-within l (both-gone h k)
+both-goes G g fine c d l h (Err e) s = then-stops h.runs s
 
 -- ---- counted forms
 
-module _ {A : Type 0} (F : Fields → Fields) (values : A → List ℕ) (ok : A → Type 0) (n least most : ℕ) (source : List ℕ) (p : ℕ) (m : Met) (h : Reads n least most source p m) where
+module _ {A : Type 0} (F : Fields → Fields) (values : A → List ℕ) (ok : A → Type 0) (n least most : ℕ) (source : List ℕ) (p : ℕ) where
   abbrev counted_form : Fields → Fields
   counted_form k = field n least most (λ c. times c F k)
 
-  pub counted-stops : {B : Type 0} {g : B → List ℕ} {fine : B → Type 0} {bits at : ℕ} → 0 < m.number → Goes counted_form g fine bits source p (record { number = m.number; at = at })
-  counted-stops z = record { stops = λ _. field-stops h (λ k c. times c F k) z; runs = λ l. absurd (omega arith) }
-
-  pub counted-goes : (b : ℕ) (r : Step) → m.number ≤ 0 → Goes (times m.value F) (each values) (Many ok m.value) (m.value * b) source (p + n) r
-      → Goes counted_form (counted_values values) (Every ok) (n + most * b) source p r
-  counted-goes b r z g = record {
-    stops = λ l. field-then-stops h (λ c. times c F) z (g.stops l);
-    runs = λ l.
-        let x = g.runs l in
-        let e : m.value * b ≤ most * b = mul-le-mul_right b (h.value z).1 in (
-          x.0,
-          x.1.1,
-          runs_as (ap (λ (c : ℕ). c ∷ each values x.0) (sym x.1.0)) (field-runs h (λ c. times c F) z x.2),
-          omega (arith, x.3, e),
-        );
-  }
+  pub counted-gone : (v : ℕ) → Has n least most source p v → (b q : ℕ) → Gone (times v F) (each values) (Many ok v) (v * b) source (p + n) q
+      → Gone counted_form (counted_values values) (Every ok) (n + most * b) source p q
+  counted-gone v h b q g =
+      let e : v * b ≤ most * b = mul-le-mul_right b h.few in
+      record {
+        x = g.x;
+        fine = g.fine.1;
+        runs = runs_as (ap (λ (c : ℕ). c ∷ each values g.x) (sym g.fine.0)) (field-runs h (λ c. times c F) g.runs);
+        few = omega (arith, g.few, e);
+      }
 
 -- ---- words, names
 
-pub word-goes : (w : ℕ) (source : List ℕ) (p : ℕ) (m : Met) → Reads 8 0 (w - 1) source p m
-    → Goes (word_fields w) one Anything 8 source p (record { number = m.number; at = p + 8 })
-word-goes w source p m h = record {
-  stops = λ z. field-stops h (λ k v. k) z;
-  runs = λ z. (m.value, tt, field-runs h (λ v k. k) z (none_runs source (p + 8)), omega arith);
-}
+pub word-gone : (w : ℕ) (source : List ℕ) (p v : ℕ) → Has 8 0 (w - 1) source p v → Gone (word_fields w) one Anything 8 source p (p + 8)
+word-gone w source p v h = record { x = v; fine = tt; runs = field-runs h (λ v k. k) (none_runs source (p + 8)); few = omega arith }
 
 -- behind a flag
 pick-none : (F : Fields → Fields) (source : List ℕ) (p v : ℕ) → v ≡ 0 → Runs (λ k. pick v (F k) k) [] source p p
@@ -103,136 +96,116 @@ pick-runs : {F : Fields → Fields} {us source : List ℕ} {p q : ℕ} (v : ℕ)
 pick-runs zero z g = absurd (omega arith)
 pick-runs (suc v) z g = g
 
-pick-stops : {F : Fields → Fields} {source : List ℕ} {p number : ℕ} (v : ℕ) → 0 < v → Stops F source p number → Stops (λ k. pick v (F k) k) source p number
+pick-stops : {F : Fields → Fields} {source : List ℕ} {p : ℕ} {e : Fault} (v : ℕ) → 0 < v → Stops F source p e → Stops (λ k. pick v (F k) k) source p e
 pick-stops zero z g = absurd (omega arith)
 pick-stops (suc v) z g = g
 
-module _ (w : ℕ) (source : List ℕ) (p : ℕ) (first : Step) (g : Goes (word_fields w) one Anything 8 source p first) where
-  pub name-first : 0 < first.number → Goes (name_fields w) name_values OneOrTwo name_bits source p first
+module _ (w : ℕ) (source : List ℕ) (p : ℕ) where
+  pub name-first : {e : Fault} → Stops (word_fields w) source p e → Stops (name_fields w) source p e
   unfolding name_fields
-  name-first z = first_goes g z
+  name-first s = first_stops s
 
-  module _ (z : first.number ≤ 0) (m : Met) (h : Reads 1 0 1 source first.at m) where
-    -- from the flag on
-    abbrev from_flag : Fields → Fields
-    from_flag k = flag_fields (λ b. pick b (word_fields w k) k)
-
-    pub name-flag : (at : ℕ) → 0 < m.number → Goes (name_fields w) name_values OneOrTwo name_bits source p (record { number = m.number; at = at })
+  module _ (at : ℕ) (g : Gone (word_fields w) one Anything 8 source p at) where
+    pub name-flag : {e : Fault} → Lacks 1 0 1 source at e → Stops (name_fields w) source p e
     unfolding name_fields
-    name-flag at y = record {
-      stops = λ _. then-stops (g.runs z).2 (field-stops h (λ k b. pick b (word_fields w k) k) y);
-      runs = λ l. absurd (omega arith);
-    }
+    name-flag h = then-stops g.runs (field-stops h (λ k b. pick b (word_fields w k) k))
 
-    pub name-one : m.number ≤ 0 → m.value ≡ 0 → Goes (name_fields w) name_values OneOrTwo name_bits source p (record { number = 0; at = first.at + 1 })
-    unfolding name_fields name_values
-    name-one y e =
-        let x = g.runs z in
-        record {
-          stops = λ l. absurd (omega arith);
-          runs = λ _. (
-            x.0 ∷ [],
-            (omega arith, omega arith),
-            runs_as (ap (λ (v : ℕ). x.0 ∷ v ∷ []) e) (then_runs x.2 (field-runs h (λ b k. pick b (word_fields w k) k) y (pick-none (word_fields w) source (first.at + 1) m.value e))),
-            omega (arith, x.3),
-          );
-        }
+    module _ (v : ℕ) (h : Has 1 0 1 source at v) where
+      pub name-one : v ≡ 0 → Gone (name_fields w) name_values OneOrTwo name_bits source p (at + 1)
+      unfolding name_fields name_values
+      name-one e = record {
+        x = g.x ∷ [];
+        fine = (omega arith, omega arith);
+        runs = runs_as (ap (λ (v : ℕ). g.x ∷ v ∷ []) e) (then_runs g.runs (field-runs h (λ b k. pick b (word_fields w k) k) (pick-none (word_fields w) source (at + 1) v e)));
+        few = omega (arith, g.few);
+      }
 
-    pub name-two : m.number ≤ 0 → 0 < m.value → (s : Step) → Goes (word_fields w) one Anything 8 source (first.at + 1) s → Goes (name_fields w) name_values OneOrTwo name_bits source p s
-    unfolding name_fields name_values
-    name-two y v s k =
-        let x = g.runs z in
-        let e : m.value ≡ 1 = omega (arith, (h.value y).1) in
-        record {
-          stops = λ l. then-stops x.2 (field-then-stops h (λ b k. pick b (word_fields w k) k) y (pick-stops m.value v (k.stops l)));
-          runs = λ l.
-              let u = k.runs l in (
-                x.0 ∷ u.0 ∷ [],
-                (omega arith, omega arith),
-                runs_as (ap (λ (v : ℕ). x.0 ∷ v ∷ u.0 ∷ []) e) (then_runs x.2 (field-runs h (λ b k. pick b (word_fields w k) k) y (pick-runs m.value v u.2))),
-                omega (arith, x.3, u.3),
-              );
-        }
+      pub name-two : 0 < v → (r : Result ℕ Fault) → Goes (word_fields w) one Anything 8 source (at + 1) r → Goes (name_fields w) name_values OneOrTwo name_bits source p r
+      unfolding name_fields name_values
+      name-two z (Ok q) u =
+          let e : v ≡ 1 = omega (arith, h.few) in
+          record {
+            x = g.x ∷ u.x ∷ [];
+            fine = (omega arith, omega arith);
+            runs = runs_as (ap (λ (v : ℕ). g.x ∷ v ∷ u.x ∷ []) e) (then_runs g.runs (field-runs h (λ b k. pick b (word_fields w k) k) (pick-runs v z u.runs)));
+            few = omega (arith, g.few, u.few);
+          }
+      name-two z (Err f) s = then-stops g.runs (field-then-stops h (λ b k. pick b (word_fields w k) k) (pick-stops v z s))
 
 -- ---- parents and marks
 
 words-listed : (p : Name) → each one p ≡ p
 words-listed p = each-one (λ w. w) p ∙ map-self (λ w. w) p (λ w i. refl)
 
-pub parent-goes : (w : ℕ) (source : List ℕ) (p : ℕ) (m : Met) → Reads 2 1 most_parent_words source p m → (r : Step) → m.number ≤ 0
-    → Goes (times m.value (word_fields w)) (each one) (Many Anything m.value) (m.value * 8) source (p + 2) r → Goes (parent_fields w) parent_values Anything parent_bits source p r
-unfolding parent_fields parent_values
-parent-goes w source p m h r z g =
-    let c = goes-as (λ (x : Name). ap (λ (l : List ℕ). length x ∷ l) (words-listed x)) (counted-goes (word_fields w) one Anything 2 1 most_parent_words source p m h 8 r z g) in
-    record { stops = c.stops; runs = λ l. let x = c.runs l in (x.0, tt, x.2, x.3) }
+module _ (w : ℕ) (source : List ℕ) (p : ℕ) where
+  pub parent-stops : {e : Fault} → Lacks 2 1 most_parent_words source p e → Stops (parent_fields w) source p e
+  unfolding parent_fields
+  parent-stops h = field-stops h (λ k c. times c (word_fields w) k)
 
-pub parent-stops : (w : ℕ) (source : List ℕ) (p : ℕ) (m : Met) → Reads 2 1 most_parent_words source p m → (at : ℕ) → 0 < m.number
-    → Goes (parent_fields w) parent_values Anything parent_bits source p (record { number = m.number; at = at })
-unfolding parent_fields
-parent-stops w source p m h at z = counted-stops (word_fields w) one Anything 2 1 most_parent_words source p m h z
+  pub parent-goes : (v : ℕ) → Has 2 1 most_parent_words source p v → (i : ℕ) → i ≡ p + 2 → (r : Result ℕ Fault)
+      → Goes (times v (word_fields w)) (each one) (Many Anything v) (v * 8) source i r → Goes (parent_fields w) parent_values Anything parent_bits source p r
+  unfolding parent_fields parent_values
+  parent-goes v h i e (Ok q) g =
+      let c = gone-as (λ (x : Name). ap (λ (l : List ℕ). length x ∷ l) (words-listed x)) (counted-gone (word_fields w) one Anything 2 1 most_parent_words source p v h 8 q (gone-from e g)) in
+      record { x = c.x; fine = tt; runs = c.runs; few = c.few }
+  parent-goes v h i e (Err f) s = field-then-stops h (λ c. times c (word_fields w)) (stops-from e s)
 
-pub names-stops : (w : ℕ) (source : List ℕ) (m : Met) → Reads 7 0 most_names source 0 m → 0 < m.number
-    → Goes (names_fields w) (counted_values name_values) (Every OneOrTwo) names_bits source 0 (record { number = m.number; at = 0 })
-names-stops w source m h z = counted-stops (name_fields w) name_values OneOrTwo 7 0 most_names source 0 m h z
+pub names-stops : (w : ℕ) (source : List ℕ) {e : Fault} → Lacks 7 0 most_names source 0 e → Stops (names_fields w) source 0 e
+names-stops w source h = field-stops h (λ k c. times c (name_fields w) k)
 
-pub names-goes : (w : ℕ) (source : List ℕ) (m : Met) → Reads 7 0 most_names source 0 m → (r : Step) → m.number ≤ 0
-    → Goes (times m.value (name_fields w)) (each name_values) (Many OneOrTwo m.value) (m.value * name_bits) source 7 r
+pub names-goes : (w : ℕ) (source : List ℕ) (v : ℕ) → Has 7 0 most_names source 0 v → (i : ℕ) → i ≡ 7 → (r : Result ℕ Fault)
+    → Goes (times v (name_fields w)) (each name_values) (Many OneOrTwo v) (v * name_bits) source i r
     → Goes (names_fields w) (counted_values name_values) (Every OneOrTwo) names_bits source 0 r
-names-goes w source m h r z g = counted-goes (name_fields w) name_values OneOrTwo 7 0 most_names source 0 m h name_bits r z g
+names-goes w source v h i e (Ok q) g = counted-gone (name_fields w) name_values OneOrTwo 7 0 most_names source 0 v h name_bits q (gone-from e g)
+names-goes w source v h i e (Err f) s = field-then-stops h (λ c. times c (name_fields w)) (stops-from e s)
 
-module _ (source : List ℕ) (p : ℕ) (m : Met) where
-  module _ (h : Reads 1 0 1 source p m) where
-    pub mark-stops : (at : ℕ) → 0 < m.number → Goes mark_fields mark_values Anything mark_bits source p (record { number = m.number; at = at })
-    unfolding mark_fields
-    mark-stops at z = record { stops = λ _. field-stops h (λ k b. pick b (field 8 0 255 (λ t. k)) k) z; runs = λ l. absurd (omega arith) }
+module _ (source : List ℕ) (p : ℕ) where
+  pub mark-stops : {e : Fault} → Lacks 1 0 1 source p e → Stops mark_fields source p e
+  unfolding mark_fields
+  mark-stops h = field-stops h (λ k b. pick b (field 8 0 255 (λ t. k)) k)
 
-    pub mark-plain : m.number ≤ 0 → m.value ≡ 0 → Goes mark_fields mark_values Anything mark_bits source p (record { number = 0; at = p + 1 })
+  module _ (v : ℕ) (h : Has 1 0 1 source p v) where
+    pub mark-plain : v ≡ 0 → Gone mark_fields mark_values Anything mark_bits source p (p + 1)
     unfolding mark_fields mark_values
-    mark-plain z e = record {
-      stops = λ l. absurd (omega arith);
-      runs = λ _. (
-        makelist_mark,
-        tt,
-        runs_as (ap (λ (v : ℕ). v ∷ []) e) (field-runs h (λ b k. pick b (field 8 0 255 (λ t. k)) k) z (pick-none (λ k. field 8 0 255 (λ t. k)) source (p + 1) m.value e)),
-        omega arith,
-      );
+    mark-plain e = record {
+      x = makelist_mark;
+      fine = tt;
+      runs = runs_as (ap (λ (v : ℕ). v ∷ []) e) (field-runs h (λ b k. pick b (field 8 0 255 (λ t. k)) k) (pick-none (λ k. field 8 0 255 (λ t. k)) source (p + 1) v e));
+      few = omega arith;
     }
 
-    pub mark-tag : m.number ≤ 0 → 0 < m.value → (t : Met) → Reads 8 0 255 source (p + 1) t → (n : ℕ) → n ≡ 8
-        → Goes mark_fields mark_values Anything mark_bits source p (record { number = t.number; at = p + 1 + n })
+    pub tag-stops : 0 < v → {e : Fault} → Lacks 8 0 255 source (p + 1) e → Stops mark_fields source p e
+    unfolding mark_fields
+    tag-stops z k = field-then-stops h (λ b k. pick b (field 8 0 255 (λ t. k)) k) (pick-stops v z (field-stops k (λ k t. k)))
+
+    pub mark-tag : 0 < v → (t : ℕ) → Has 8 0 255 source (p + 1) t → (n : ℕ) → n ≡ 8 → Gone mark_fields mark_values Anything mark_bits source p (p + 1 + n)
     unfolding mark_fields mark_values
-    mark-tag z v t k n i =
-        let e : m.value ≡ 1 = omega (arith, (h.value z).1) in
+    mark-tag z t k n i =
+        let e : v ≡ 1 = omega (arith, h.few) in
         record {
-          stops = λ l. field-then-stops h (λ b k. pick b (field 8 0 255 (λ t. k)) k) z (pick-stops m.value v (field-stops k (λ k t. k) l));
-          runs = λ l. (
-            derive_mark t.value,
-            tt,
-            runs_as (ap (λ (v : ℕ). v ∷ t.value ∷ []) e)
-                (field-runs h (λ b k. pick b (field 8 0 255 (λ t. k)) k) z
-                (pick-runs m.value v (field-runs k (λ t k. k) l (subst (λ (j : ℕ). Runs (λ k. k) [] source (p + 1 + 8) (p + 1 + j)) (sym i) (none_runs source (p + 1 + 8)))))),
-            omega (arith, i),
-          );
+          x = derive_mark t;
+          fine = tt;
+          runs =
+              runs_as (ap (λ (v : ℕ). v ∷ t ∷ []) e)
+              (field-runs h (λ b k. pick b (field 8 0 255 (λ t. k)) k)
+              (pick-runs v z (field-runs k (λ t k. k) (subst (λ (j : ℕ). Runs (λ k. k) [] source (p + 1 + 8) (p + 1 + j)) (sym i) (none_runs source (p + 1 + 8))))));
+          few = omega (arith, i);
         }
 
-  module _ (h : Reads 9 0 most_marks source p m) where
-    pub marks-stops : (at : ℕ) → 0 < m.number → Goes marks_fields (counted_values mark_values) Anything marks_bits source p (record { number = m.number; at = at })
-    unfolding marks_fields
-    marks-stops at z = counted-stops mark_fields mark_values Anything 9 0 most_marks source p m h z
+  pub marks-stops : {e : Fault} → Lacks 9 0 most_marks source p e → Stops marks_fields source p e
+  unfolding marks_fields
+  marks-stops h = field-stops h (λ k c. times c mark_fields k)
 
-    pub marks-goes : (r : Step) → m.number ≤ 0 → Goes (times m.value mark_fields) (each mark_values) (Many Anything m.value) (m.value * mark_bits) source (p + 9) r
-        → Goes marks_fields (counted_values mark_values) Anything marks_bits source p r
-    unfolding marks_fields
-    marks-goes r z g =
-        let c = counted-goes mark_fields mark_values Anything 9 0 most_marks source p m h mark_bits r z g in
-        record { stops = c.stops; runs = λ l. let x = c.runs l in (x.0, tt, x.2, x.3) }
+  pub marks-goes : (v : ℕ) → Has 9 0 most_marks source p v → (i : ℕ) → i ≡ p + 9 → (r : Result ℕ Fault)
+      → Goes (times v mark_fields) (each mark_values) (Many Anything v) (v * mark_bits) source i r
+      → Goes marks_fields (counted_values mark_values) Anything marks_bits source p r
+  unfolding marks_fields
+  marks-goes v h i e (Ok q) g =
+      let c = counted-gone mark_fields mark_values Anything 9 0 most_marks source p v h mark_bits q (gone-from e g) in
+      record { x = c.x; fine = tt; runs = c.runs; few = c.few }
+  marks-goes v h i e (Err f) s = field-then-stops h (λ c. times c mark_fields) (stops-from e s)
 
 -- ---- items
-
--- an item that is refused
-pub item-stops : {F : Fields → Fields} {lead : List ℕ} {bits p : ℕ} {source : List ℕ} (r : Entry) → (0 < r.number → Stops F source p r.number) → 0 < r.number
-    → GoesItem F lead bits source p r
-item-stops r s z = record { stops = s; runs = λ l. absurd (omega arith); small = λ l. absurd (omega arith) }
 
 bit-flag : (v : ℕ) → v ≤ 1 → bit (eqb v 1) ≡ v
 bit-flag zero l = refl
@@ -255,47 +228,41 @@ module _ (w : ℕ) (source : List ℕ) (p : ℕ) where
   abbrev count_form : Fields → Fields
   count_form k = field 5 2 most_parents (λ n. rest_form n k)
 
-  module _ (head : Step) (g : Goes head_form named_values NamedWord (name_bits + 8) source p head) where
-    pub made-head : (r : Entry) → r.number ≡ head.number → 0 < head.number → GoesItem (made_fields w) (0 ∷ []) made_bits source p r
+  pub made-head : {e : Fault} → Stops head_form source p e → Stops (made_fields w) source p e
+  unfolding made_fields
+  made-head s = first_stops s
+
+  module _ (head : ℕ) (g : Gone head_form named_values NamedWord (name_bits + 8) source p head) where
+    pub made-flag : {e : Fault} → Lacks 1 0 1 source head e → Stops (made_fields w) source p e
     unfolding made_fields
-    made-head r e z = item-stops r (λ _. subst (λ (n : ℕ). Stops (made_fields w) source p n) (sym e) (first_stops (g.stops z))) (omega (arith, e))
+    made-flag h = then-stops g.runs (field-stops h (λ k b. count_form k))
 
-    module _ (z : head.number ≤ 0) (v : Met) (h : Reads 1 0 1 source head.at v) where
-      pub made-flag : (r : Entry) → r.number ≡ v.number → 0 < v.number → GoesItem (made_fields w) (0 ∷ []) made_bits source p r
+    module _ (v : ℕ) (h : Has 1 0 1 source head v) where
+      pub made-count : {e : Fault} → Lacks 5 2 most_parents source (head + 1) e → Stops (made_fields w) source p e
       unfolding made_fields
-      made-flag r e y =
-          item-stops r (λ _. subst (λ (n : ℕ). Stops (made_fields w) source p n) (sym e) (then-stops (g.runs z).2 (field-stops h (λ k b. count_form k) y))) (omega (arith, e))
+      made-count k = then-stops g.runs (field-then-stops h (λ b. count_form) (field-stops k (λ k n. rest_form n k)))
 
-      module _ (y : v.number ≤ 0) (c : Met) (k : Reads 5 2 most_parents source (head.at + 1) c) where
-        pub made-count : (r : Entry) → r.number ≡ c.number → 0 < c.number → GoesItem (made_fields w) (0 ∷ []) made_bits source p r
+      module _ (c : ℕ) (k : Has 5 2 most_parents source (head + 1) c) where
+        pub made-rest : {e : Fault} → Stops (rest_form c) source (head + 1 + 5) e → Stops (made_fields w) source p e
         unfolding made_fields
-        made-count r e x =
-            item-stops r
-            (λ _. subst (λ (n : ℕ). Stops (made_fields w) source p n) (sym e) (then-stops (g.runs z).2 (field-then-stops h (λ b. count_form) y (field-stops k (λ k n. rest_form n k) x))))
-            (omega (arith, e))
+        made-rest s = then-stops g.runs (field-then-stops h (λ b. count_form) (field-then-stops k rest_form s))
 
-        pub made-goes : (x : c.number ≤ 0) (s : Step)
-            → Goes (rest_form c.value) listed_values (ManyParents c.value) (most_parents * parent_bits + marks_bits) source (head.at + 1 + 5) s
-            → GoesItem (made_fields w) (0 ∷ []) made_bits source p (record { number = s.number; at = s.at; sort = v.value; parents = c.value })
+        pub made-gone : (q : ℕ) → Gone (rest_form c) listed_values (ManyParents c) (most_parents * parent_bits + marks_bits) source (head + 1 + 5) q
+            → GoneItem (made_fields w) (0 ∷ []) made_bits source p (record { at = q; sort = v; parents = c })
         unfolding made_fields item_values
-        made-goes x s f =
-            let a = g.runs z in
-            let b = (h.value y).1 in
-            record {
-              stops = λ l. then-stops a.2 (field-then-stops h (λ b. count_form) y (field-then-stops k rest_form x (f.stops l)));
-              runs = λ l.
-                  let t = f.runs l in (
-                    synthesized a.0.0 a.0.1 (eqb v.value 1) t.0.0 t.0.1,
-                    record { named = a.1.0; sorted = sort-flag v.value b; counted = t.1.0.0 },
-                    named_values a.0 ++ (v.value ∷ c.value ∷ listed_values t.0),
-                    ap (λ (l : List ℕ). 0 ∷ l)
-                        (append_assoc (name_values a.0.0) (a.0.1 ∷ []) (v.value ∷ c.value ∷ listed_values t.0)
-                        ∙ ap₂ (λ (i j : ℕ). name_values a.0.0 ++ (a.0.1 ∷ i ∷ j ∷ listed_values t.0)) (sym (bit-flag v.value b)) (sym t.1.0.0)),
-                    then_runs a.2 (field-runs h (λ b. count_form) y (field-runs k rest_form x t.2)),
-                    omega (arith, a.3, t.3),
-                  );
-              small = λ l. (omega (arith, b), omega (arith, (k.value x).1));
-            }
+        made-gone q t = record {
+          x = synthesized g.x.0 g.x.1 (eqb v 1) t.x.0 t.x.1;
+          found = record { named = g.fine.0; sorted = sort-flag v h.few; counted = t.fine.0.0 };
+          us = named_values g.x ++ (v ∷ c ∷ listed_values t.x);
+          led =
+              ap (λ (l : List ℕ). 0 ∷ l)
+              (append_assoc (name_values g.x.0) (g.x.1 ∷ []) (v ∷ c ∷ listed_values t.x)
+              ∙ ap₂ (λ (i j : ℕ). name_values g.x.0 ++ (g.x.1 ∷ i ∷ j ∷ listed_values t.x)) (sym (bit-flag v h.few)) (sym t.fine.0.0));
+          runs = then_runs g.runs (field-runs h (λ b. count_form) (field-runs k rest_form t.runs));
+          few = omega (arith, g.few, t.few);
+          sorted = omega (arith, h.few);
+          counted = omega (arith, k.few);
+        }
 
   -- from the trait of an extension line on, and from its flag
   abbrev trait_form : Fields → Fields
@@ -304,78 +271,68 @@ module _ (w : ℕ) (source : List ℕ) (p : ℕ) where
   abbrev virtual_form : Fields → Fields
   virtual_form k = flag_fields (λ v. trait_form k)
 
-  module _ (named : Step) (g : Goes (name_fields w) name_values OneOrTwo name_bits source p named) where
-    pub line-name : (r : Entry) → r.number ≡ named.number → 0 < named.number → GoesItem (line_fields w) (1 ∷ []) line_bits source p r
+  pub line-name : {e : Fault} → Stops (name_fields w) source p e → Stops (line_fields w) source p e
+  unfolding line_fields
+  line-name s = first_stops s
+
+  module _ (named : ℕ) (g : Gone (name_fields w) name_values OneOrTwo name_bits source p named) where
+    pub line-flag : {e : Fault} → Lacks 1 0 1 source named e → Stops (line_fields w) source p e
     unfolding line_fields
-    line-name r e z = item-stops r (λ _. subst (λ (n : ℕ). Stops (line_fields w) source p n) (sym e) (first_stops (g.stops z))) (omega (arith, e))
+    line-flag h = then-stops g.runs (field-stops h (λ k b. trait_form k))
 
-    module _ (z : named.number ≤ 0) (v : Met) (h : Reads 1 0 1 source named.at v) where
-      pub line-flag : (r : Entry) → r.number ≡ v.number → 0 < v.number → GoesItem (line_fields w) (1 ∷ []) line_bits source p r
+    module _ (v : ℕ) (h : Has 1 0 1 source named v) where
+      pub line-trait : {e : Fault} → Lacks 1 0 1 source (named + 1) e → Stops (line_fields w) source p e
       unfolding line_fields
-      line-flag r e y =
-          item-stops r (λ _. subst (λ (n : ℕ). Stops (line_fields w) source p n) (sym e) (then-stops (g.runs z).2 (field-stops h (λ k b. trait_form k) y))) (omega (arith, e))
+      line-trait k = then-stops g.runs (field-then-stops h (λ b. trait_form) (field-stops k (λ k n. word_fields w k)))
 
-      module _ (y : v.number ≤ 0) (t : Met) (k : Reads 1 0 1 source (named.at + 1) t) where
-        pub line-trait : (r : Entry) → r.number ≡ t.number → 0 < t.number → GoesItem (line_fields w) (1 ∷ []) line_bits source p r
+      module _ (t : ℕ) (k : Has 1 0 1 source (named + 1) t) where
+        pub line-word : {e : Fault} → Stops (word_fields w) source (named + 1 + 1) e → Stops (line_fields w) source p e
         unfolding line_fields
-        line-trait r e x =
-            item-stops r
-            (λ _. subst (λ (n : ℕ). Stops (line_fields w) source p n) (sym e) (then-stops (g.runs z).2 (field-then-stops h (λ b. trait_form) y (field-stops k (λ k n. word_fields w k) x))))
-            (omega (arith, e))
+        line-word s = then-stops g.runs (field-then-stops h (λ b. trait_form) (field-then-stops k (λ n. word_fields w) s))
 
-        pub line-goes : (x : t.number ≤ 0) (s : Step) → Goes (word_fields w) one Anything 8 source (named.at + 1 + 1) s
-            → GoesItem (line_fields w) (1 ∷ []) line_bits source p (record { number = s.number; at = s.at; sort = 2; parents = 0 })
+        pub line-gone : (q : ℕ) → Gone (word_fields w) one Anything 8 source (named + 1 + 1) q
+            → GoneItem (line_fields w) (1 ∷ []) line_bits source p (record { at = q; sort = 2; parents = 0 })
         unfolding line_fields item_values
-        line-goes x s f =
-            let a = g.runs z in
-            record {
-              stops = λ l. then-stops a.2 (field-then-stops h (λ b. trait_form) y (field-then-stops k (λ n. word_fields w) x (f.stops l)));
-              runs = λ l.
-                  let u = f.runs l in (
-                    extension a.0 (eqb v.value 1) (eqb t.value 1) u.0,
-                    record { named = a.1; sorted = refl; counted = refl },
-                    name_values a.0 ++ (v.value ∷ t.value ∷ u.0 ∷ []),
-                    ap₂ (λ (i j : ℕ). 1 ∷ name_values a.0 ++ (i ∷ j ∷ u.0 ∷ [])) (sym (bit-flag v.value (h.value y).1)) (sym (bit-flag t.value (k.value x).1)),
-                    then_runs a.2 (field-runs h (λ b. trait_form) y (field-runs k (λ n. word_fields w) x u.2)),
-                    omega (arith, a.3, u.3),
-                  );
-              small = λ l. (omega arith, omega arith);
-            }
+        line-gone q u = record {
+          x = extension g.x (eqb v 1) (eqb t 1) u.x;
+          found = record { named = g.fine; sorted = refl; counted = refl };
+          us = name_values g.x ++ (v ∷ t ∷ u.x ∷ []);
+          led = ap₂ (λ (i j : ℕ). 1 ∷ name_values g.x ++ (i ∷ j ∷ u.x ∷ [])) (sym (bit-flag v h.few)) (sym (bit-flag t k.few));
+          runs = then_runs g.runs (field-runs h (λ b. trait_form) (field-runs k (λ n. word_fields w) u.runs));
+          few = omega (arith, g.few, u.few);
+          sorted = omega arith;
+          counted = omega arith;
+        }
 
-  module _ (m : Met) (h : Reads 1 0 1 source p m) where
-    pub item-lead : (r : Entry) → r.number ≡ m.number → 0 < m.number → GoesItem (item_fields w) [] item_bits source p r
-    unfolding item_fields
-    item-lead r e z =
-        item-stops r (λ _. subst (λ (n : ℕ). Stops (item_fields w) source p n) (sym e) (field-stops h (λ k b. pick b (line_fields w k) (made_fields w k)) z)) (omega (arith, e))
+  pub item-lead : {e : Fault} → Lacks 1 0 1 source p e → Stops (item_fields w) source p e
+  unfolding item_fields
+  item-lead h = field-stops h (λ k b. pick b (line_fields w k) (made_fields w k))
 
+  module _ (v : ℕ) (h : Has 1 0 1 source p v) where
     -- the form behind the lead bit
     abbrev lead_form : ℕ → Fields → Fields
     lead_form b k = pick b (line_fields w k) (made_fields w k)
 
-    item-behind : (z : m.number ≤ 0) (G : Fields → Fields) → ((k : Fields) → lead_form m.value k ≡ G k) → (lead : List ℕ) → m.value ∷ [] ≡ lead
-        → (bits : ℕ) → bits ≤ made_bits → (r : Entry) → GoesItem G lead bits source (p + 1) r → GoesItem (item_fields w) [] item_bits source p r
+    item-behind : (G : Fields → Fields) → ((k : Fields) → lead_form v k ≡ G k) → (lead : List ℕ) → v ∷ [] ≡ lead
+        → (bits : ℕ) → bits ≤ made_bits → (r : Result Entry Fault) → GoesItem G lead bits source (p + 1) r → GoesItem (item_fields w) [] item_bits source p r
     unfolding item_fields
-    item-behind z G same lead e bits l r g = record {
-      stops = λ y.
-          let s = g.stops y in
-          field-then-stops h lead_form z (record { fault = s.fault; numbered = s.numbered; same = λ k. ap (λ (f : Fields). from f source (p + 1)) (same k) ∙ s.same k });
-      runs = λ y.
-          let x = g.runs y in (
-            x.0,
-            x.1,
-            m.value ∷ x.2,
-            ap (λ (us : List ℕ). us ++ x.2) e ∙ x.3,
-            field-runs h lead_form z (record { same = λ k. ap (λ (f : Fields). from f source (p + 1)) (same k) ∙ x.4.same k }),
-            omega (arith, x.5),
-          );
-      small = g.small;
+    item-behind G same lead e bits l (Ok q) g = record {
+      x = g.x;
+      found = g.found;
+      us = v ∷ g.us;
+      led = ap (λ (us : List ℕ). us ++ g.us) e ∙ g.led;
+      runs = field-runs h lead_form (record { same = λ k. ap (λ (f : Fields). from f source (p + 1)) (same k) ∙ g.runs.same k });
+      few = omega (arith, g.few);
+      sorted = g.sorted;
+      counted = g.counted;
     }
+    item-behind G same lead e bits l (Err f) s =
+        field-then-stops h lead_form (record { same = λ k. ap (λ (f : Fields). from f source (p + 1)) (same k) ∙ s.same k })
 
-    pub item-made : m.number ≤ 0 → m.value ≡ 0 → (r : Entry) → GoesItem (made_fields w) (0 ∷ []) made_bits source (p + 1) r → GoesItem (item_fields w) [] item_bits source p r
-    item-made z e r g =
-        item-behind z (made_fields w) (λ k. ap (λ (b : ℕ). lead_form b k) e) (0 ∷ []) (ap (λ (b : ℕ). b ∷ []) e) made_bits (omega arith) r g
+    pub item-made : v ≡ 0 → (r : Result Entry Fault) → GoesItem (made_fields w) (0 ∷ []) made_bits source (p + 1) r → GoesItem (item_fields w) [] item_bits source p r
+    item-made e r g = item-behind (made_fields w) (λ k. ap (λ (b : ℕ). lead_form b k) e) (0 ∷ []) (ap (λ (b : ℕ). b ∷ []) e) made_bits (omega arith) r g
 
-    pub item-line : m.number ≤ 0 → 0 < m.value → (r : Entry) → GoesItem (line_fields w) (1 ∷ []) line_bits source (p + 1) r → GoesItem (item_fields w) [] item_bits source p r
-    item-line z v r g =
-        let e : m.value ≡ 1 = omega (arith, (h.value z).1) in
-        item-behind z (line_fields w) (λ k. ap (λ (b : ℕ). lead_form b k) e) (1 ∷ []) (ap (λ (b : ℕ). b ∷ []) e) line_bits (omega arith) r g
+    pub item-line : 0 < v → (r : Result Entry Fault) → GoesItem (line_fields w) (1 ∷ []) line_bits source (p + 1) r → GoesItem (item_fields w) [] item_bits source p r
+    item-line z r g =
+        let e : v ≡ 1 = omega (arith, h.few) in
+        item-behind (line_fields w) (λ k. ap (λ (b : ℕ). lead_form b k) e) (1 ∷ []) (ap (λ (b : ℕ). b ∷ []) e) line_bits (omega arith) r g

@@ -1,19 +1,19 @@
 -- What the functions that go through a packed schedule owe: each goes through one form of the grammar, whatever follows it.
-use Rattle.std.specs.Prelude.{false, List, [], ◌∷◌, ◌++◌, ◌≡◌, ℕ, ◌+◌, ◌*◌, ◌≤◌, ◌<◌, length, drop}
+use Rattle.std.specs.Prelude.{false, List, [], ◌∷◌, ◌++◌, ◌≡◌, ℕ, ◌+◌, ◌*◌, ◌≤◌, ◌<◌, length, drop, Result, MatchResult}
 use Rattle.lists.specs.Lists.{each}
 use Rattle.definitions.specs.Bits.{bits_of}
-use Rattle.definitions.specs.Parse.{Fault, Parsed, done, refused}
+use Rattle.definitions.specs.Parse.{Parsed, done, refused}
 use Rattle.definitions.specs.Records.{Name, Mark, Item}
 use Rattle.definitions.specs.Legal.{Every}
 use Rattle.definitions.specs.LegalSchedule.{most_names, most_parents, most_parent_words, most_marks}
 use Rattle.definitions.specs.ScheduleFields.{Fields, field, times, packed, unwritten, read_fields, name_fields}
-use Rattle.definitions.specs.Conversion.{schedule_fault}
 use Rattle.definitions.specs.Values.{counted_values, name_values, parent_values, mark_values, item_values}
 use Rattle.tariff_definitions.specs.Tariff.{sort_of, parents_of}
 use Rattle.tariff_definitions.specs.DecodedLaws.{OneOrTwo, NamedItem}
-use Rattle.schedule_values.specs.declared.Met.{Met}
-use Rattle.schedule_values.specs.Meeting.{bits_within, most_bits, Meets}
-use Rattle.schedule_walk.specs.declared.Step.{Step}
+use Rattle.fields.specs.declared.Fault.{Fault}
+use Rattle.fields.specs.Fields.{fault_of}
+use Rattle.schedule_fields.specs.declared.Rule.{Rule}
+use Rattle.schedule_values.specs.Meeting.{bits_within, most_bits, Met, Missed, Meets}
 use Rattle.schedule_walk.specs.declared.Entry.{Entry}
 
 -- ---- fields from a bit on
@@ -32,26 +32,40 @@ pub record Runs (F : Fields → Fields) (us : List ℕ) (source : List ℕ) (p q
   pub same : (k : Fields) → from (F k) source p ≡ onto us (from k source q)
 
 -- It is refused, whatever follows.
-pub record Stops (F : Fields → Fields) (source : List ℕ) (p number : ℕ) : Type 0 where
-  pub fault : Fault
-  pub numbered : number ≡ schedule_fault fault
-  pub same : (k : Fields) → from (F k) source p ≡ refused fault
+pub record Stops (F : Fields → Fields) (source : List ℕ) (p : ℕ) (fault : Fault) : Type 0 where
+  pub same : (k : Fields) → from (F k) source p ≡ refused (fault_of fault)
 
 -- ---- what a function owes
 
--- One field of n bits, `least` to `most`, at bit p.
-abbrev pub Reads : ℕ → ℕ → ℕ → List ℕ → ℕ → Met → Type 0
-Reads n least most source p m = Meets false n (record { width = n; least = least; most = most }) source p m
+-- The rule of a field of n bits, `least` to `most`.
+abbrev pub rule_of : ℕ → ℕ → ℕ → Rule
+rule_of n least most = record { width = n; least = least; most = most }
+
+-- Such a field at bit p has the value v, or is refused.
+abbrev pub Has : ℕ → ℕ → ℕ → List ℕ → ℕ → ℕ → Type 0
+Has n least most source p v = Met false n (rule_of n least most) source p v
+
+abbrev pub Lacks : ℕ → ℕ → ℕ → List ℕ → ℕ → Fault → Type 0
+Lacks n least most source p f = Missed false n (rule_of n least most) source p f
+
+abbrev pub Reads : ℕ → ℕ → ℕ → List ℕ → ℕ → Result ℕ Fault → Type 0
+Reads n least most source p r = Meets false n (rule_of n least most) source p r
 
 -- What it is told: how many bits the source has, and that so many bits from p on can be counted.
 pub record Ready (source : List ℕ) (end p bits : ℕ) : Type 0 where
   pub all : end ≡ bits_within (length source)
   pub few : p + bits ≤ most_bits
 
--- A form was gone through: some x of which `ok` holds stands there, in at most so many bits; or it is refused.
-pub record Goes {A : Type 0} (F : Fields → Fields) (values : A → List ℕ) (ok : A → Type 0) (bits : ℕ) (source : List ℕ) (p : ℕ) (r : Step) : Type 0 where
-  pub stops : 0 < r.number → Stops F source p r.number
-  pub runs : r.number ≤ 0 → (x : A) × ok x × Runs F (values x) source p r.at × (r.at ≤ p + bits)
+-- A form was gone through: some x of which `ok` holds stands there, in at most so many bits.
+pub record Gone {A : Type 0} (F : Fields → Fields) (values : A → List ℕ) (ok : A → Type 0) (bits : ℕ) (source : List ℕ) (p q : ℕ) : Type 0 where
+  pub x : A
+  pub fine : ok x
+  pub runs : Runs F (values x) source p q
+  pub few : q ≤ p + bits
+
+-- Or it is refused.
+abbrev pub Goes : {A : Type 0} → (Fields → Fields) → (A → List ℕ) → (A → Type 0) → ℕ → List ℕ → ℕ → Result ℕ Fault → Type 0
+Goes F values ok bits source p r = MatchResult r (λ q. Gone F values ok bits source p q) (λ f. Stops F source p f)
 
 -- A value by itself.
 abbrev pub one : ℕ → List ℕ
@@ -88,11 +102,19 @@ pub record Found (sort parents : ℕ) (x : Item) : Type 0 where
   pub counted : parents_of x ≡ parents
 
 -- An item behind the values `lead`, which are none or its lead bit.
-pub record GoesItem (F : Fields → Fields) (lead : List ℕ) (bits : ℕ) (source : List ℕ) (p : ℕ) (r : Entry) : Type 0 where
-  pub stops : 0 < r.number → Stops F source p r.number
-  pub runs : r.number ≤ 0
-      → (x : Item) × Found r.sort r.parents x × (us : List ℕ) × (lead ++ us ≡ item_values x) × Runs F us source p r.at × (r.at ≤ p + bits)
-  pub small : r.number ≤ 0 → (r.sort < 3) × (r.parents < 18)
+pub record GoneItem (F : Fields → Fields) (lead : List ℕ) (bits : ℕ) (source : List ℕ) (p : ℕ) (e : Entry) : Type 0 where
+  pub x : Item
+  pub found : Found e.sort e.parents x
+  pub us : List ℕ
+  pub led : lead ++ us ≡ item_values x
+  pub runs : Runs F us source p e.at
+  pub few : e.at ≤ p + bits
+  pub sorted : e.sort < 3
+  pub counted : e.parents < 18
+
+-- Or it is refused.
+abbrev pub GoesItem : (Fields → Fields) → List ℕ → ℕ → List ℕ → ℕ → Result Entry Fault → Type 0
+GoesItem F lead bits source p r = MatchResult r (λ e. GoneItem F lead bits source p e) (λ f. Stops F source p f)
 
 -- ---- the names and the number of items
 

@@ -1,8 +1,9 @@
 -- Laws of going through fields: one form after the other, and a form many times.
-use Rattle.std.specs.Prelude.{List, [], ◌∷◌, ◌++◌, ◌≡◌, refl, ℕ, ◌+◌, ◌*◌, ◌-◌, ◌≤◌, ◌<◌, drop}
+use Rattle.std.specs.Prelude.{List, [], ◌∷◌, ◌++◌, ◌≡◌, refl, ℕ, ◌+◌, ◌*◌, ◌-◌, ◌≤◌, ◌<◌, drop, Result, IsErrAnd, MatchResult}
 use Rattle.std.proofs.Common.{append_assoc, sym, ◌∙◌, ap₂, subst, arith, length-append}
 use Rattle.std.proofs.Math.Path.{ap}
 use Rattle.std.proofs.Math.Nat.{sub-zero}
+use Rattle.std.proofs.lemmas.Result.{err_from_is_err_and}
 use Rattle.lists.specs.Lists.{each}
 use Rattle.lists.specs.Appending.{each_snoc}
 use Rattle.definitions.specs.Bits.{bits_of}
@@ -10,9 +11,8 @@ use Rattle.definitions.specs.Parse.{Parsed, done, refused, next}
 use Rattle.definitions.specs.Legal.{Every}
 use Rattle.definitions.specs.ScheduleFields.{Fields, field, times, packed, unwritten, read_fields}
 use Rattle.schedule_fields.specs.PlaceLaws.{times_none, times_more}
-use Rattle.schedule_values.specs.declared.Met.{Met}
-use Rattle.schedule_walk.specs.declared.Step.{Step}
-use Rattle.schedule_walk.specs.Walking.{from, onto, Runs, Stops, Reads, Goes, Many}
+use Rattle.fields.specs.declared.Fault.{Fault}
+use Rattle.schedule_walk.specs.Walking.{from, onto, Runs, Stops, Has, Lacks, Gone, Many}
 
 onto-onto : (us vs : List ℕ) (x : Parsed (List ℕ)) → onto us (onto vs x) ≡ onto (us ++ vs) x
 onto-onto us vs (done ws rest) = ap (λ (l : List ℕ). done l rest) (sym (append_assoc us vs ws))
@@ -28,41 +28,38 @@ next-onto v (refused f) = refl
 
 -- ---- a field
 
-module _ {n least most p : ℕ} {source : List ℕ} {m : Met} (h : Reads n least most source p m) where
-  -- one that is refused
-  pub field-stops : (follow : Fields → ℕ → Fields) → 0 < m.number → Stops (λ k. field n least most (follow k)) source p m.number
-  unfolding from read_fields
-  field-stops follow z =
-      let r = h.refused z in
-      record {
-        fault = r.0;
-        numbered = r.1;
-        same = λ k. ap (λ (x : Parsed ℕ). next x (λ v. λ b. next (read_fields packed unwritten (follow k v) 0 b) (λ vs. λ q. done (v ∷ vs) q))) r.2;
-      }
+-- one that is refused
+pub field-stops : {n least most p : ℕ} {source : List ℕ} {f : Fault} → Lacks n least most source p f → (follow : Fields → ℕ → Fields)
+    → Stops (λ k. field n least most (follow k)) source p f
+unfolding from read_fields
+field-stops h follow = record {
+  same = λ k. ap (λ (x : Parsed ℕ). next x (λ v. λ b. next (read_fields packed unwritten (follow k v) 0 b) (λ vs. λ q. done (v ∷ vs) q))) h.same;
+}
 
+module _ {n least most p v : ℕ} {source : List ℕ} (h : Has n least most source p v) where
   -- one that is not, and what follows its value
-  field-goes : (follow : ℕ → Fields) → m.number ≤ 0 → from (field n least most follow) source p ≡ onto (m.value ∷ []) (from (follow m.value) source (p + n))
+  field-goes : (follow : ℕ → Fields) → from (field n least most follow) source p ≡ onto (v ∷ []) (from (follow v) source (p + n))
   unfolding from read_fields
-  field-goes follow z =
-      ap (λ (x : Parsed ℕ). next x (λ v. λ b. next (read_fields packed unwritten (follow v) 0 b) (λ vs. λ q. done (v ∷ vs) q))) (h.value z).0
-      ∙ next-onto m.value (read_fields packed unwritten (follow m.value) 0 (drop (p + n) (bits_of source)))
+  field-goes follow =
+      ap (λ (x : Parsed ℕ). next x (λ v. λ b. next (read_fields packed unwritten (follow v) 0 b) (λ vs. λ q. done (v ∷ vs) q))) h.same
+      ∙ next-onto v (read_fields packed unwritten (follow v) 0 (drop (p + n) (bits_of source)))
 
-  pub field-runs : (G : ℕ → Fields → Fields) {us : List ℕ} {q : ℕ} → m.number ≤ 0 → Runs (G m.value) us source (p + n) q
-      → Runs (λ k. field n least most (λ v. G v k)) (m.value ∷ us) source p q
-  field-runs G {us} {q} z g = record {
+  pub field-runs : (G : ℕ → Fields → Fields) {us : List ℕ} {q : ℕ} → Runs (G v) us source (p + n) q
+      → Runs (λ k. field n least most (λ v. G v k)) (v ∷ us) source p q
+  field-runs G {us} {q} g = record {
     same = λ k.
-        field-goes (λ v. G v k) z
-        ∙ ap (onto (m.value ∷ [])) (g.same k)
-        ∙ onto-onto (m.value ∷ []) us (from k source q);
+        field-goes (λ v. G v k)
+        ∙ ap (onto (v ∷ [])) (g.same k)
+        ∙ onto-onto (v ∷ []) us (from k source q);
   }
 
-  pub field-then-stops : (G : ℕ → Fields → Fields) {number : ℕ} → m.number ≤ 0 → Stops (G m.value) source (p + n) number
-      → Stops (λ k. field n least most (λ v. G v k)) source p number
-  field-then-stops G z g = record {
-    fault = g.fault;
-    numbered = g.numbered;
-    same = λ k. field-goes (λ v. G v k) z ∙ ap (onto (m.value ∷ [])) (g.same k);
-  }
+  pub field-then-stops : (G : ℕ → Fields → Fields) {f : Fault} → Stops (G v) source (p + n) f → Stops (λ k. field n least most (λ v. G v k)) source p f
+  field-then-stops G g = record { same = λ k. field-goes (λ v. G v k) ∙ ap (onto (v ∷ [])) (g.same k) }
+
+-- what a `?` hands back
+pub stopped : {T : Type 0} {F : Fields → Fields} {source : List ℕ} {p : ℕ} {f : Fault} (r : Result T Fault) (P : T → Type 0) → IsErrAnd r (λ e. e ≡ f)
+    → Stops F source p f → MatchResult r P (λ e. Stops F source p e)
+stopped r P h s = let q = err_from_is_err_and r h in rw (q.1, q.2) s
 
 -- ---- one form after the other
 
@@ -75,15 +72,11 @@ module _ {F G : Fields → Fields} {source : List ℕ} {p : ℕ} where
     same = λ k. f.same (G k) ∙ ap (onto us) (g.same k) ∙ onto-onto us vs (from k source r);
   }
 
-  pub first_stops : {number : ℕ} → Stops F source p number → Stops (λ k. F (G k)) source p number
-  first_stops f = record { fault = f.fault; numbered = f.numbered; same = λ k. f.same (G k) }
+  pub first_stops : {e : Fault} → Stops F source p e → Stops (λ k. F (G k)) source p e
+  first_stops f = record { same = λ k. f.same (G k) }
 
-  pub then-stops : {us : List ℕ} {q number : ℕ} → Runs F us source p q → Stops G source q number → Stops (λ k. F (G k)) source p number
-  then-stops {us} f g = record {
-    fault = g.fault;
-    numbered = g.numbered;
-    same = λ k. f.same (G k) ∙ ap (onto us) (g.same k);
-  }
+  pub then-stops : {us : List ℕ} {q : ℕ} {e : Fault} → Runs F us source p q → Stops G source q e → Stops (λ k. F (G k)) source p e
+  then-stops {us} f g = record { same = λ k. f.same (G k) ∙ ap (onto us) (g.same k) }
 
 -- values that are written otherwise
 pub runs_as : {F : Fields → Fields} {us vs source : List ℕ} {p q : ℕ} → us ≡ vs → Runs F us source p q → Runs F vs source p q
@@ -109,35 +102,24 @@ module _ {A : Type 0} (F : Fields → Fields) (values : A → List ℕ) (ok : A 
   every-snoc [] x h o = (o, tt)
   every-snoc (y ∷ l) x h o = (h.0, every-snoc l x h.1 o)
 
-  module _ (i q : ℕ) (xs : List A) (b : Been i q xs) (r : Step) (g : Goes F values ok bits source q r) where
+  module _ (i q : ℕ) (xs : List A) (b : Been i q xs) (l : i < n) where
     -- the form of the next one
-    next_one : i < n → (k : Fields) → from (times n F k) source p ≡ onto (each values xs) (from (F (times (n - i - 1) F k)) source q)
-    next_one l k = b.same k ∙ ap (λ (f : Fields). onto (each values xs) (from f source q)) (times_more (n - i) F k (omega arith))
+    next_one : (k : Fields) → from (times n F k) source p ≡ onto (each values xs) (from (F (times (n - i - 1) F k)) source q)
+    next_one k = b.same k ∙ ap (λ (f : Fields). onto (each values xs) (from f source q)) (times_more (n - i) F k (omega arith))
 
-    pub been-stops : i < n → 0 < r.number → Goes (times n F) (each values) (Many ok n) (n * bits) source p r
-    been-stops l z =
-        let s = g.stops z in
-        record {
-          stops = λ _. record {
-            fault = s.fault;
-            numbered = s.numbered;
-            same = λ k. next_one l k ∙ ap (onto (each values xs)) (s.same (times (n - i - 1) F k));
-          };
-          runs = λ y. absurd (omega arith);
-        }
+    pub been-stops : {f : Fault} → Stops F source q f → Stops (times n F) source p f
+    been-stops s = record { same = λ k. next_one k ∙ ap (onto (each values xs)) (s.same (times (n - i - 1) F k)) }
 
-    pub been-more : i < n → (z : r.number ≤ 0) → Been (i + 1) r.at (xs ++ (g.runs z).0 ∷ [])
-    been-more l z =
-        let s = g.runs z in
-        record {
-          many = (length-append xs (s.0 ∷ []) ∙ ap (λ (j : ℕ). j + 1) b.many.0, every-snoc xs s.0 b.many.1 s.1);
-          same = λ k.
-              next_one l k
-              ∙ ap (onto (each values xs)) (s.2.same (times (n - i - 1) F k))
-              ∙ onto-onto (each values xs) (values s.0) (from (times (n - i - 1) F k) source r.at)
-              ∙ ap₂ (λ (us : List ℕ) (j : ℕ). onto us (from (times j F k) source r.at)) (sym (each_snoc values xs s.0)) (omega arith);
-          few = omega (arith, s.3, b.few);
-        }
+    pub been-more : (r : ℕ) (g : Gone F values ok bits source q r) → Been (i + 1) r (xs ++ g.x ∷ [])
+    been-more r g = record {
+      many = (length-append xs (g.x ∷ []) ∙ ap (λ (j : ℕ). j + 1) b.many.0, every-snoc xs g.x b.many.1 g.fine);
+      same = λ k.
+          next_one k
+          ∙ ap (onto (each values xs)) (g.runs.same (times (n - i - 1) F k))
+          ∙ onto-onto (each values xs) (values g.x) (from (times (n - i - 1) F k) source r)
+          ∙ ap₂ (λ (us : List ℕ) (j : ℕ). onto us (from (times j F k) source r)) (sym (each_snoc values xs g.x)) (omega arith);
+      few = omega (arith, g.few, b.few);
+    }
 
   -- all stand there
   pub been-runs : (i q : ℕ) (xs : List A) → n ≤ i → i ≤ n → Been i q xs → Many ok n xs × Runs (times n F) (each values xs) source p q × (q ≤ p + n * bits)
@@ -148,7 +130,5 @@ module _ {A : Type 0} (F : Fields → Fields) (values : A → List ℕ) (ok : A 
         subst (λ (j : ℕ). q ≤ p + j * bits) e b.few,
       )
 
-  pub been-all : (i q : ℕ) (xs : List A) → n ≤ i → i ≤ n → Been i q xs → Goes (times n F) (each values) (Many ok n) (n * bits) source p (record { number = 0; at = q })
-  been-all i q xs h l b =
-      let t = been-runs i q xs h l b in
-      record { stops = λ z. absurd (omega arith); runs = λ _. (xs, t.0, t.1, t.2) }
+  pub been-all : (i q : ℕ) (xs : List A) → n ≤ i → i ≤ n → Been i q xs → Gone (times n F) (each values) (Many ok n) (n * bits) source p q
+  been-all i q xs h l b = let t = been-runs i q xs h l b in record { x = xs; fine = t.0; runs = t.1; few = t.2 }

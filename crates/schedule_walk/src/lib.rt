@@ -1,5 +1,5 @@
 // The items of a packed schedule gone through without records, by the grammar of its fields (FORMAT 6.1 to 6.3, 12.3). Each
-// function goes through one form of the grammar, and hands back the bit behind it or the number of the refusal.
+// function goes through one form of the grammar, and hands back the bit behind it, or the fault that refuses it.
 #![tactic(auto)]
 
 ghost use Rattle.std.specs.Prelude.{[], ◌∷◌, ◌≡◌, ◌+◌, ◌*◌, ◌≤◌, ◌<◌};
@@ -12,8 +12,8 @@ ghost use Rattle.definitions.specs.Values.{name_values, parent_values, mark_valu
 ghost use Rattle.tariff_definitions.specs.DecodedLaws.{OneOrTwo};
 ghost use Rattle.schedule_walk.specs.Walking.{Ready, Reads, Goes, GoesItem, one, Anything, Many, NamedWord, named_values, ManyParents, listed_values, names_fields, name_bits, parent_bits, mark_bits, marks_bits, line_bits, made_bits, item_bits, names_bits};
 
+use fields::Fault;
 use schedule_fields::{Place, Rule};
-use schedule_values::Met;
 
 // The sort of an extension line; a resource's is 1 where it is virtual, and 0 where it is not (FORMAT 13.1).
 const LINE: usize = 2;
@@ -21,17 +21,9 @@ const LINE: usize = 2;
 // The bits of the number of items (FORMAT 6.1).
 pub const COUNT_BITS: usize = 16;
 
-// The bit behind what was gone through, or the number of a refusal.
-#[derive(Clone, Copy)]
-pub struct Step {
-    pub number: usize,
-    pub at: usize,
-}
-
-// An item likewise, with its sort and its number of parents.
+// An item that was gone through: the bit behind it, its sort and its number of parents.
 #[derive(Clone, Copy)]
 pub struct Entry {
-    pub number: usize,
     pub at: usize,
     pub sort: usize,
     pub parents: usize,
@@ -40,7 +32,7 @@ pub struct Entry {
 // ---- single fields
 
 // The field with a rule.
-fn field(source: &[u8], end: usize, at: usize, rule: Rule) -> Met
+fn field(source: &[u8], end: usize, at: usize, rule: Rule) -> Result<usize, Fault>
     requires { Ready source.now end at rule.width × (0 < rule.width) × (rule.width ≤ 16) }
     ensures { Reads rule.width rule.least rule.most source.now at result }
 {
@@ -48,7 +40,7 @@ fn field(source: &[u8], end: usize, at: usize, rule: Rule) -> Met
 }
 
 // A flag, or any field of one bit (FORMAT 2.1).
-fn flag(source: &[u8], end: usize, at: usize) -> Met
+fn flag(source: &[u8], end: usize, at: usize) -> Result<usize, Fault>
     requires { Ready source.now end at 1 }
     ensures { Reads 1 0 1 source.now at result }
 {
@@ -61,85 +53,58 @@ fn flag(source: &[u8], end: usize, at: usize) -> Met
 }
 
 // A word of w (FORMAT 2.5).
-fn word(source: &[u8], end: usize, w: usize, at: usize) -> Step
+fn word(source: &[u8], end: usize, w: usize, at: usize) -> Result<usize, Fault>
     requires { Ready source.now end at 8 × (0 < w) }
     ensures { Goes (word_fields w) one Anything 8 source.now at result }
 {
-    let met = field(
+    field(
         source,
         end,
         at,
         schedule_fields::rule_at(Place::NameSecond(0), w),
-    );
-    Step {
-        number: met.number,
-        at: at + 8,
-    }
+    )?;
+    Ok(at + 8)
 }
 
 // ---- names
 
 // A name (FORMAT 2.5).
-fn name(source: &[u8], end: usize, w: usize, at: usize) -> Step
+fn name(source: &[u8], end: usize, w: usize, at: usize) -> Result<usize, Fault>
     requires { Ready source.now end at name_bits × (0 < w) }
     ensures { Goes (name_fields w) name_values OneOrTwo name_bits source.now at result }
 {
-    let first = word(source, end, w, at);
-    if first.number != 0 {
-        return first;
+    let first = word(source, end, w, at)?;
+    let second = flag(source, end, first)?;
+    if second == 0 {
+        return Ok(first + 1);
     }
-    let second = flag(source, end, first.at);
-    if second.number != 0 {
-        return Step {
-            number: second.number,
-            at: at,
-        };
-    }
-    if second.value == 0 {
-        return Step {
-            number: 0,
-            at: first.at + 1,
-        };
-    }
-    word(source, end, w, first.at + 1)
+    word(source, end, w, first + 1)
 }
 
-// So many names.
-fn each_name(source: &[u8], end: usize, w: usize, at: usize, n: usize) -> Step
+// So many names. The four loops over a form stay apart: one over a closure needs a contract that is longer than they are.
+fn each_name(source: &[u8], end: usize, w: usize, at: usize, n: usize) -> Result<usize, Fault>
     requires { Ready source.now end at (n * name_bits) × (0 < w) }
     ensures { Goes (times n (name_fields w)) (each name_values) (Many OneOrTwo n) (n * name_bits) source.now at result }
 {
     let mut q = at;
-    let mut i = 0;
-    while i < n {
-        let step = name(source, end, w, q);
-        if step.number != 0 {
-            return step;
-        }
-        q = step.at;
-        i += 1;
+    for _ in 0..n {
+        q = name(source, end, w, q)?;
     }
-    Step { number: 0, at: q }
+    Ok(q)
 }
 
 // The names of a schedule, their number first (FORMAT 6.1).
-pub fn names(source: &[u8], end: usize, w: usize) -> Step
+pub fn names(source: &[u8], end: usize, w: usize) -> Result<usize, Fault>
     requires { Ready source.now end 0 names_bits × (0 < w) }
     ensures { Goes (names_fields w) (counted_values name_values) (Every OneOrTwo) names_bits source.now 0 result }
 {
     let rule = schedule_fields::rule_at(Place::Names, w);
-    let count = field(source, end, 0, rule);
-    if count.number != 0 {
-        return Step {
-            number: count.number,
-            at: 0,
-        };
-    }
-    each_name(source, end, w, rule.width, count.value)
+    let count = field(source, end, 0, rule)?;
+    each_name(source, end, w, rule.width, count)
 }
 
 // The number of items (FORMAT 6.1).
-pub fn item_count(source: &[u8], end: usize, w: usize, at: usize) -> Met
+pub fn item_count(source: &[u8], end: usize, w: usize, at: usize) -> Result<usize, Fault>
     requires { Ready source.now end at item_count_bits × (0 < w) }
     ensures { Reads item_count_bits 0 most_items source.now at result }
 {
@@ -149,218 +114,141 @@ pub fn item_count(source: &[u8], end: usize, w: usize, at: usize) -> Met
 // ---- a synthesized resource
 
 // So many words.
-fn each_word(source: &[u8], end: usize, w: usize, at: usize, n: usize) -> Step
+fn each_word(source: &[u8], end: usize, w: usize, at: usize, n: usize) -> Result<usize, Fault>
     requires { Ready source.now end at (n * 8) × (0 < w) }
     ensures { Goes (times n (word_fields w)) (each one) (Many Anything n) (n * 8) source.now at result }
 {
     let mut q = at;
-    let mut i = 0;
-    while i < n {
-        let step = word(source, end, w, q);
-        if step.number != 0 {
-            return step;
-        }
-        q = step.at;
-        i += 1;
+    for _ in 0..n {
+        q = word(source, end, w, q)?;
     }
-    Step { number: 0, at: q }
+    Ok(q)
 }
 
 // A parent: how many words, and the words (FORMAT 6.2).
-fn parent(source: &[u8], end: usize, w: usize, at: usize) -> Step
+fn parent(source: &[u8], end: usize, w: usize, at: usize) -> Result<usize, Fault>
     requires { Ready source.now end at parent_bits × (0 < w) }
     ensures { Goes (parent_fields w) parent_values Anything parent_bits source.now at result }
 {
     let rule = schedule_fields::rule_at(Place::ParentWords(0, 0), w);
-    let count = field(source, end, at, rule);
-    if count.number != 0 {
-        return Step {
-            number: count.number,
-            at: at,
-        };
-    }
-    each_word(source, end, w, at + rule.width, count.value)
+    let count = field(source, end, at, rule)?;
+    each_word(source, end, w, at + rule.width, count)
 }
 
 // So many parents.
-fn each_parent(source: &[u8], end: usize, w: usize, at: usize, n: usize) -> Step
+fn each_parent(source: &[u8], end: usize, w: usize, at: usize, n: usize) -> Result<usize, Fault>
     requires { Ready source.now end at (n * parent_bits) × (0 < w) }
     ensures { Goes (times n (parent_fields w)) (each parent_values) (Many Anything n) (n * parent_bits) source.now at result }
 {
     let mut q = at;
-    let mut i = 0;
-    while i < n {
-        let step = parent(source, end, w, q);
-        if step.number != 0 {
-            return step;
-        }
-        q = step.at;
-        i += 1;
+    for _ in 0..n {
+        q = parent(source, end, w, q)?;
     }
-    Step { number: 0, at: q }
+    Ok(q)
 }
 
 // A mark (FORMAT 2.9).
-fn mark(source: &[u8], end: usize, at: usize) -> Step
+fn mark(source: &[u8], end: usize, at: usize) -> Result<usize, Fault>
     requires { Ready source.now end at mark_bits }
     ensures { Goes mark_fields mark_values Anything mark_bits source.now at result }
 {
-    let derive = flag(source, end, at);
-    if derive.number != 0 {
-        return Step {
-            number: derive.number,
-            at: at,
-        };
-    }
-    if derive.value == 0 {
-        return Step {
-            number: 0,
-            at: at + 1,
-        };
+    let derive = flag(source, end, at)?;
+    if derive == 0 {
+        return Ok(at + 1);
     }
     let rule = schedule_fields::rule_at(Place::Tag(0, 0), 1);
-    let tag = field(source, end, at + 1, rule);
-    Step {
-        number: tag.number,
-        at: at + 1 + rule.width,
-    }
+    field(source, end, at + 1, rule)?;
+    Ok(at + 1 + rule.width)
 }
 
 // So many marks.
-fn each_mark(source: &[u8], end: usize, at: usize, n: usize) -> Step
+fn each_mark(source: &[u8], end: usize, at: usize, n: usize) -> Result<usize, Fault>
     requires { Ready source.now end at (n * mark_bits) }
     ensures { Goes (times n mark_fields) (each mark_values) (Many Anything n) (n * mark_bits) source.now at result }
 {
     let mut q = at;
-    let mut i = 0;
-    while i < n {
-        let step = mark(source, end, q);
-        if step.number != 0 {
-            return step;
-        }
-        q = step.at;
-        i += 1;
+    for _ in 0..n {
+        q = mark(source, end, q)?;
     }
-    Step { number: 0, at: q }
+    Ok(q)
 }
 
 // The marks of a resource, their number first (FORMAT 6.2).
-fn marks(source: &[u8], end: usize, at: usize) -> Step
+fn marks(source: &[u8], end: usize, at: usize) -> Result<usize, Fault>
     requires { Ready source.now end at marks_bits }
     ensures { Goes marks_fields (counted_values mark_values) Anything marks_bits source.now at result }
 {
     let rule = schedule_fields::rule_at(Place::Marks(0), 1);
-    let count = field(source, end, at, rule);
-    if count.number != 0 {
-        return Step {
-            number: count.number,
-            at: at,
-        };
-    }
-    each_mark(source, end, at + rule.width, count.value)
+    let count = field(source, end, at, rule)?;
+    each_mark(source, end, at + rule.width, count)
 }
 
 // The name of its type, and its word.
-fn name_and_word(source: &[u8], end: usize, w: usize, at: usize) -> Step
+fn name_and_word(source: &[u8], end: usize, w: usize, at: usize) -> Result<usize, Fault>
     requires { Ready source.now end at (name_bits + 8) × (0 < w) }
     ensures { Goes (λ k. name_fields w (word_fields w k)) named_values NamedWord (name_bits + 8) source.now at result }
 {
-    let named = name(source, end, w, at);
-    if named.number != 0 {
-        return named;
-    }
-    word(source, end, w, named.at)
+    let named = name(source, end, w, at)?;
+    word(source, end, w, named)
 }
 
 // n parents, and the marks.
-fn parents_and_marks(source: &[u8], end: usize, w: usize, at: usize, n: usize) -> Step
+fn parents_and_marks(
+    source: &[u8],
+    end: usize,
+    w: usize,
+    at: usize,
+    n: usize,
+) -> Result<usize, Fault>
     requires { Ready source.now end at (most_parents * parent_bits + marks_bits) × (0 < w) × (n ≤ most_parents) }
     ensures { Goes (λ k. times n (parent_fields w) (marks_fields k)) listed_values (ManyParents n) (most_parents * parent_bits + marks_bits) source.now at result }
 {
-    let listed = each_parent(source, end, w, at, n);
-    if listed.number != 0 {
-        return listed;
-    }
-    marks(source, end, listed.at)
-}
-
-// An item that is refused.
-fn stopped(number: usize) -> Entry
-    ensures { result.number ≡ number }
-{
-    Entry {
-        number: number,
-        at: 0,
-        sort: 0,
-        parents: 0,
-    }
+    let listed = each_parent(source, end, w, at, n)?;
+    marks(source, end, listed)
 }
 
 // A synthesized resource behind its lead bit (FORMAT 6.2).
-fn made(source: &[u8], end: usize, w: usize, at: usize) -> Entry
+fn made(source: &[u8], end: usize, w: usize, at: usize) -> Result<Entry, Fault>
     requires { Ready source.now end at made_bits × (0 < w) }
     ensures { GoesItem (made_fields w) (0 ∷ []) made_bits source.now at result }
 {
-    let head = name_and_word(source, end, w, at);
-    if head.number != 0 {
-        return stopped(head.number);
-    }
-    let is_virtual = flag(source, end, head.at);
-    if is_virtual.number != 0 {
-        return stopped(is_virtual.number);
-    }
+    let head = name_and_word(source, end, w, at)?;
+    let is_virtual = flag(source, end, head)?;
     let rule = schedule_fields::rule_at(Place::Parents(0), w);
-    let count = field(source, end, head.at + 1, rule);
-    if count.number != 0 {
-        return stopped(count.number);
-    }
-    let rest = parents_and_marks(source, end, w, head.at + 1 + rule.width, count.value);
-    Entry {
-        number: rest.number,
-        at: rest.at,
-        sort: is_virtual.value,
-        parents: count.value,
-    }
+    let count = field(source, end, head + 1, rule)?;
+    let rest = parents_and_marks(source, end, w, head + 1 + rule.width, count)?;
+    Ok(Entry {
+        at: rest,
+        sort: is_virtual,
+        parents: count,
+    })
 }
 
 // ---- an extension line, and items
 
 // An extension line behind its lead bit (FORMAT 6.3).
-fn line(source: &[u8], end: usize, w: usize, at: usize) -> Entry
+fn line(source: &[u8], end: usize, w: usize, at: usize) -> Result<Entry, Fault>
     requires { Ready source.now end at line_bits × (0 < w) }
     ensures { GoesItem (line_fields w) (1 ∷ []) line_bits source.now at result }
 {
-    let named = name(source, end, w, at);
-    if named.number != 0 {
-        return stopped(named.number);
-    }
-    let is_virtual = flag(source, end, named.at);
-    if is_virtual.number != 0 {
-        return stopped(is_virtual.number);
-    }
-    let is_trait = flag(source, end, named.at + 1);
-    if is_trait.number != 0 {
-        return stopped(is_trait.number);
-    }
-    let last = word(source, end, w, named.at + 2);
-    Entry {
-        number: last.number,
-        at: last.at,
+    let named = name(source, end, w, at)?;
+    flag(source, end, named)?; // whether it is virtual
+    flag(source, end, named + 1)?; // whether it is a trait
+    let last = word(source, end, w, named + 2)?;
+    Ok(Entry {
+        at: last,
         sort: LINE,
         parents: 0,
-    }
+    })
 }
 
 // An item, by its lead bit (FORMAT 6.1).
-pub fn item(source: &[u8], end: usize, w: usize, at: usize) -> Entry
+pub fn item(source: &[u8], end: usize, w: usize, at: usize) -> Result<Entry, Fault>
     requires { Ready source.now end at item_bits × (0 < w) }
     ensures { GoesItem (item_fields w) [] item_bits source.now at result }
 {
-    let lead = flag(source, end, at);
-    if lead.number != 0 {
-        return stopped(lead.number);
-    }
-    if lead.value == 0 {
+    let lead = flag(source, end, at)?;
+    if lead == 0 {
         return made(source, end, w, at + 1);
     }
     line(source, end, w, at + 1)

@@ -1,39 +1,28 @@
-use borrow.Author.Tests.{not-true, not-false}
 use Rattle.definitions.specs.Answer.{order}
 use Rattle.access.specs.EndLaws.{unordered-so, ordered-so}
-use Rattle.access.specs.TableLaws.{drafts, sketch, none_is, found-is, placed-in, bits_are}
-use borrow.Author.Rules.{rules}
+use Rattle.access.specs.TableLaws.{drafts, sketch, found-is, placed-in, bits_are}
 use Rattle.access.proofs.end_order.Goals as goal
 
-pub no_order-requires : goal.no_order-requires
-no_order-requires c =
-    let s = c in
-    record { drafts = drafts _ _ _ _ _ s.requires.decoded.whole; most_row_bytes_in_bounds = s.requires.most_row_bytes_in_bounds }
+pub no_order-requires-clause-drafts : goal.no_order-requires-clause-drafts
+no_order-requires-clause-drafts c = drafts _ _ _ _ _ c.requires.decoded.whole
 
-pub returns-then-not-o : goal.returns-then-not-o
-returns-then-not-o c =
-    let o = c.organize-o in
+pub returns-in_default : goal.returns-in_default
+returns-in_default c =
+    let o = c.in_default.ensures in
     let n = c.no_order in
     record {
       due = λ bytes w.
-          unordered-so order _ _ _ _ _ _ (sketch _ _ _ _ _ w _ _ o.result o.ensures) _ _ _ n.result
-          (none_is _ _ _ _ _ w _ _ o.result o.ensures (not-true _ c.if-not-o.true)) n.ensures;
+          unordered-so order _ _ _ _ _ _ (sketch _ _ _ _ _ w _ _ _ _ o.1) _ _ _ n.result (found-is _ _ _ _ _ w _ _ _ _ o.1) n.ensures;
     }
 
-pub write_order-listed-requires : goal.write_order-listed-requires
-write_order-listed-requires c =
-    let w = c.requires.decoded.whole in
-    let o = c.organize-o in
-    let f = not-false _ c.if-not-o.false in
-    placed-in _ _ _ _ _ w _ _ o.result o.ensures f
+pub write_order-requires : goal.write_order-requires
+write_order-requires c = placed-in _ _ _ _ _ c.requires.decoded.whole _ _ _ c.in-Some.ensures
 
 pub returns : goal.returns
 returns c =
-    let o = c.organize-o in
-    let f = not-false _ c.if-not-o.false in
-    let l = c.write_order-listed in
+    let o = c.in-Some.ensures in
+    let l = c.write_order in
     record {
       due = λ bytes w.
-          ordered-so _ _ _ _ _ l.result c.listed.result (found-is _ _ _ _ _ w _ _ o.result o.ensures f)
-          (bits_are _ _ _ _ _ w _ _ o.result o.ensures f) l.ensures c.listed.ensures;
+          ordered-so _ _ _ _ _ l.result (found-is _ _ _ _ _ w _ _ _ _ o) (bits_are _ _ _ _ _ w _ _ _ o) l.ensures;
     }

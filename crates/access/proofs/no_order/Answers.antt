@@ -1,4 +1,4 @@
-use borrow.Author.Rules.{rules}
+use mathlib.Core.Path.{refl}
 use Rattle.access.specs.EndLaws.{diagnosed-so}
 use Rattle.access.proofs.no_order.Goals as goal
 
@@ -6,4 +6,4 @@ pub returns : goal.returns
 returns c =
     let d = c.diagnose-report in
     let f = c.fill in
-    diagnosed-so _ _ _ _ _ _ _ _ d.result.rows d.result.more c.no_order.result f.ensures d.ensures c.no_order.ensures
+    diagnosed-so _ _ _ _ _ _ _ _ d.result.rows d.result.more _ f.ensures d.ensures refl

@@ -1,4 +1,4 @@
-use mathlib.Core.Path.{◌∙◌}
+use mathlib.Core.Path.{refl, ◌∙◌}
 use Rattle.access.specs.TableLaws.{keys-fit, narrow, prepared, asked}
 use borrow.Author.Rules.{rules}
 use Rattle.access.proofs.organize.Goals as goal
@@ -11,9 +11,22 @@ pub put_parents-parents-requires : goal.put_parents-parents-requires
 put_parents-parents-requires c =
     let w = c.requires.decoded.whole in record { t_len = c.put_names-words.ensures.long ∙ w.extensions.long; prepared = prepared _ _ _ _ _ w }
 
-pub organize_type_map-found-requires : goal.organize_type_map-found-requires
-organize_type_map-found-requires c =
+pub organize_type_map-requires : goal.organize_type_map-requires
+organize_type_map-requires c =
     let s = c in
     let n = c.put_names-words in
     let p = c.put_parents-parents in
     record { order_len = s.requires.places_len; asked = asked _ _ _ _ _ s.requires.decoded.whole _ _ n.result p.result n.ensures p.ensures }
+
+pub returns-then-not-organize_type_map : goal.returns-then-not-organize_type_map
+returns-then-not-organize_type_map c = (
+  record { words = c.put_names-words.result; childed = c.put_parents-parents.result.set },
+  record {
+    named = c.put_names-words.new.t;
+    parents = c.put_parents-parents.result;
+    names = c.put_names-words.ensures;
+    put = c.put_parents-parents.ensures;
+    childed = refl;
+    organized = c.if-not-organize_type_map.ensures;
+  },
+)

@@ -1,30 +1,22 @@
 use mathlib.Core.Path.{refl}
-use borrow.Author.Tests.{not-true, not-false}
+use Rattle.std.proofs.lemmas.Result.{err_from_is_err_and}
 use Rattle.definitions.specs.Answer.{schedule}
 use Rattle.access.specs.LineLaws.{due-lists}
-use Rattle.access.specs.TestLaws.{refused-so, due-so}
-use borrow.Author.Rules.{rules}
+use Rattle.access.specs.TestLaws.{due-so}
 use Rattle.access.proofs.schedule.Goals as goal
 
-pub refused-requires : goal.refused-requires
-refused-requires c =
-    (c.take-n.ensures.refused (not-true _ c.if-not-n.true)).alone
-
-pub returns-then-not-n : goal.returns-then-not-n
-returns-then-not-n c =
-    let e = refused-so _ _ _ (c.take-n.ensures.refused (not-true _ c.if-not-n.true)) schedule _ _ c.refused.result refl c.refused.ensures in
-    record { answered = e; lines_listed = due-lists _ _ _ _ _ c.refused.result e }
+pub returns-in_err-n : goal.returns-in_err-n
+returns-in_err-n c = let e = err_from_is_err_and c.from_residual.result c.from_residual.ensures.1 in
+    let h = c.in_err-n.ensures in
+    let q = h.due schedule c.args.listing.now c.args.diagnosis.now refl in
+    rw (e.1, e.2) (record { answered = q; lines_listed = due-lists _ _ _ _ _ _ q })
 
 pub end_schedule-requires : goal.end_schedule-requires
-end_schedule-requires c =
-    let t = c.take-n in
-    let p = t.ensures.passed (not-false _ c.if-not-n.false) in
-    record { whole = p.whole; most_row_bytes_in_bounds = p.enough }
+end_schedule-requires c = let p = c.in_ok-n.ensures in record { whole = p.whole; most_row_bytes_in_bounds = p.enough }
 
 pub returns : goal.returns
 returns c =
-    let t = c.take-n in
-    let p = t.ensures.passed (not-false _ c.if-not-n.false) in
+    let p = c.in_ok-n.ensures in
     let e = c.end_schedule in
-    let q = due-so _ _ _ _ _ t.result p schedule _ _ _ _ e.result refl (e.ensures.due p.whole) in
+    let q = due-so _ _ _ _ _ _ p schedule _ _ _ _ e.result refl (e.ensures.due p.whole) in
     record { answered = q; lines_listed = due-lists _ _ _ _ _ e.result q }

@@ -1,16 +1,19 @@
-use mathlib.Core.Path.{refl, sym, subst}
-use Rattle.access.specs.Lines.{LinesListed}
+use mathlib.Core.Path.{refl, sym, ap, subst, ◌∙◌}
 use native.Mathlib.Omega.{arith}
+use Rattle.definitions.specs.Answer.{Answer}
+use Rattle.access.specs.Lines.{LinesListed}
 use Rattle.exports.specs.ExportLaws.{small-answer, told-all}
-use borrow.Author.Rules.{rules}
 use Rattle.exports.proofs.gidzelma_schedule.Goals as goal
 
-pub tell-requires : goal.tell-requires
-tell-requires c =
-    let r = c.schedule-answer in
-    record { small = small-answer _ refl r.result _ _ r.ensures.answered; in_bounds = omega arith }
+pub parts_of-requires : goal.parts_of-requires
+parts_of-requires c = let r = c.schedule-answer in small-answer _ refl r.result _ _ r.ensures.answered
 
 pub returns : goal.returns
 returns c =
     let r = c.schedule-answer in
-    let t = c.tell in record { diagnosis_after = told-all _ refl r.result _ _ r.ensures.answered _ _ _ (omega arith) t.ensures.0 t.ensures.1; lines_listed = subst (LinesListed _ _ _) (sym t.ensures.0) r.ensures.lines_listed }
+    let t = c.tell in
+    let k = c.parts_of.ensures in
+    record {
+      diagnosis_after = told-all _ refl r.result _ _ r.ensures.answered _ k _ _ _ (omega arith) t.ensures.0 t.ensures.1;
+      lines_listed = subst (LinesListed _ _ _) (sym (t.ensures.0 ∙ ap (λ (x : Answer). x.number) k.same)) r.ensures.lines_listed;
+    }

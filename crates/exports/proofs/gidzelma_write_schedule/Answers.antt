@@ -1,18 +1,15 @@
 use native.Mathlib.Omega.{arith}
 use Rattle.exports.specs.ConversionLaws.{too-few-lent, small-conversion, told-conversion}
-use borrow.Author.Rules.{rules}
 use Rattle.exports.proofs.gidzelma_write_schedule.Goals as goal
 
 pub returns-then-parts-lt3 : goal.returns-then-parts-lt3
 returns-then-parts-lt3 c = too-few-lent _ _ _ c.if-parts-lt3.true
 
-pub tell-requires : goal.tell-requires
-tell-requires c =
-    let r = c.write_schedule-answer in
-    record { small = small-conversion _ _ _ _ _ r.result _ r.ensures; in_bounds = omega arith }
+pub parts_of_conversion-requires : goal.parts_of_conversion-requires
+parts_of_conversion-requires c = let r = c.write_schedule-answer in small-conversion _ _ _ _ _ r.result _ r.ensures
 
 pub returns : goal.returns
 returns c =
     let r = c.write_schedule-answer in
     let t = c.tell in
-    told-conversion _ _ _ _ _ r.result _ r.ensures _ _ _ (omega arith) t.ensures.0 t.ensures.1
+    told-conversion _ _ _ _ _ r.result _ r.ensures _ c.parts_of_conversion.ensures _ _ _ (omega arith) t.ensures.0 t.ensures.1

@@ -1,6 +1,5 @@
 use native.Mathlib.Omega.{arith}
 use Rattle.schedule_records.specs.TurningLaws.{in-form, other-form}
-use borrow.Author.Rules.{rules}
 use Rattle.schedule_records.proofs.in_other_form.Goals as goal
 
 pub overflow_sub-result : goal.overflow_sub-result

@@ -1,7 +1,5 @@
 use native.Mathlib.Omega.{arith}
-use borrow.Author.Tests.{not-true, not-false}
 use Rattle.schedule_records.specs.TurningLaws.{laid-up, laid-packed, laid-down}
-use borrow.Author.Rules.{rules}
 use Rattle.schedule_records.proofs.lay.Goals as goal
 
 pub returns-then-not-down : goal.returns-then-not-down

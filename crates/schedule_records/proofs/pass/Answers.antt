@@ -1,16 +1,14 @@
 use mathlib.Core.Bool.{Bool, not}
-use mathlib.Core.Path.{◌≡◌, sym, ap, subst, ◌∙◌}
+use mathlib.Core.Path.{sym, ap, subst, ◌∙◌}
 use Prim.Native.Nat.{ℕ, ◌+◌, ◌≤◌, ◌<◌}
 use native.Mathlib.Omega.{arith}
 use lib.Dec.{ltb}
 use lib.ListN.{length}
 use borrow.Author.Tests.{not-false}
-use Rattle.schedule_fields.specs.Places.{fields_at, fields_left, RuleOf}
-use Rattle.schedule_values.specs.Meeting.{bits_within, most_bits, Meets}
+use Rattle.schedule_values.specs.Meeting.{most_bits, Met, Missed}
 use Rattle.schedule_values.specs.MeetingLaws.{past-within}
-use Rattle.schedule_records.specs.Turning.{Going}
 use Rattle.schedule_records.specs.TurningLaws.{in-form, going_start, kept-long, ready, record-wide, passes-refused, fits_in, value-lt, going_on, passes-filled, passes-all}
-use borrow.Author.Rules.{rules}
+use Rattle.std.proofs.lemmas.Result.{err_from_is_err_and}
 use Rattle.schedule_records.proofs.pass.Goals as goal
 
 pub rule_at-rule-requires : goal.rule_at-rule-requires
@@ -38,8 +36,8 @@ overflow_add-to c =
     let d = ready a.w a.reading a.down a.source.now a.target.now l.target l.place l.at l.to l.invariant.0 l.rule l.invariant.1 w h in
     omega (arith, d.2, in-form (not a.reading) l.rule.width d.0, m.ensures)
 
-pub meet-met-requires : goal.meet-met-requires
-meet-met-requires c =
+pub meet-requires : goal.meet-requires
+meet-requires c =
     let a = c.args in
     let w = c.requires in
     let l = c.loop-rule in
@@ -50,15 +48,15 @@ meet-met-requires c =
     let i = in-form a.reading l.rule.width d.0 in
     (l.invariant.2, omega (arith, i.0, n.ensures), omega (arith, i.1, n.ensures), omega (arith, d.1, i.1, n.ensures))
 
-pub shape_of-target-then-met-ne0 : goal.shape_of-target-then-met-ne0
-shape_of-target-then-met-ne0 c =
+pub shape_of-target-in_err-value : goal.shape_of-target-in_err-value
+shape_of-target-in_err-value c =
     let a = c.args in
     let w = c.requires in
     let l = c.loop-rule in
     omega (arith, kept-long a.w a.reading a.down a.source.now a.target.now l.target l.place l.at l.to l.invariant.0 l.rule l.invariant.1 w)
 
-pub returns-then-met-ne0 : goal.returns-then-met-ne0
-returns-then-met-ne0 c =
+pub returns-in_err-value : goal.returns-in_err-value
+returns-in_err-value c =
     let a = c.args in
     let w = c.requires in
     let l = c.loop-rule in
@@ -66,10 +64,10 @@ returns-then-met-ne0 c =
     let n = c.in_form-n in
     let m = c.in_other_form-m in
     let d = ready a.w a.reading a.down a.source.now a.target.now l.target l.place l.at l.to l.invariant.0 l.rule l.invariant.1 w h in
-    let x = c.meet-met in
     let y : l.to + m.result ≤ most_bits = omega (arith, d.2, in-form (not a.reading) l.rule.width d.0, m.ensures) in
-    let r = subst (λ (b : Bool). Meets b n.result l.rule a.source.now l.at x.result) (ap (λ (i : ℕ). ltb i (l.to + m.result)) l.invariant.3 ∙ past-within (length a.target.now) (l.to + m.result) y) x.ensures in
-    passes-refused a.w a.reading a.down a.source.now a.target.now l.target l.place l.at l.to l.invariant.0 l.rule l.invariant.1 w h n.result m.result n.ensures m.ensures x.result r (omega (arith, c.if-met-ne0.true))
+    let r = subst (λ (b : Bool). Missed b n.result l.rule a.source.now l.at c.in_err-value.field-0.0) (ap (λ (i : ℕ). ltb i (l.to + m.result)) l.invariant.3 ∙ past-within (length a.target.now) (l.to + m.result) y) c.in_err-value.ensures in
+    let e = err_from_is_err_and c.from_residual.result c.from_residual.ensures.1 in
+    rw (e.1, e.2) (passes-refused a.w a.reading a.down a.source.now a.target.now l.target l.place l.at l.to l.invariant.0 l.rule l.invariant.1 w h n.result m.result n.ensures m.ensures _ r)
 
 pub overflow_add-at : goal.overflow_add-at
 overflow_add-at c =
@@ -91,20 +89,18 @@ lay-to-requires c =
     let n = c.in_form-n in
     let m = c.in_other_form-m in
     let d = ready a.w a.reading a.down a.source.now a.target.now l.target l.place l.at l.to l.invariant.0 l.rule l.invariant.1 w h in
-    let x = c.meet-met in
     let y : l.to + m.result ≤ most_bits = omega (arith, d.2, in-form (not a.reading) l.rule.width d.0, m.ensures) in
-    let r = subst (λ (b : Bool). Meets b n.result l.rule a.source.now l.at x.result) (ap (λ (i : ℕ). ltb i (l.to + m.result)) l.invariant.3 ∙ past-within (length a.target.now) (l.to + m.result) y) x.ensures in
-    let z : x.result.number ≤ 0 = omega (arith, c.if-met-ne0.false) in
+    let r = subst (λ (b : Bool). Met b n.result l.rule a.source.now l.at c.in_ok-value.value) (ap (λ (i : ℕ). ltb i (l.to + m.result)) l.invariant.3 ∙ past-within (length a.target.now) (l.to + m.result) y) c.in_ok-value.ensures in
     let i = in-form (not a.reading) l.rule.width d.0 in record {
       room = record {
         few = omega (arith, i.1, m.ensures);
-        most = value-lt a.w a.reading a.down a.source.now a.target.now l.target l.place l.at l.to l.invariant.0 l.rule l.invariant.1 w h n.result m.result n.ensures m.ensures x.result r z;
-        fits = λ _. omega (arith, fits_in a.w a.reading a.down a.source.now a.target.now l.target l.place l.at l.to l.invariant.0 l.rule l.invariant.1 w h n.result m.result n.ensures m.ensures x.result r z, d.4);
+        most = value-lt a.w a.reading a.down a.source.now a.target.now l.target l.place l.at l.to l.invariant.0 l.rule l.invariant.1 w h n.result m.result n.ensures m.ensures _ r;
+        fits = λ _. omega (arith, fits_in a.w a.reading a.down a.source.now a.target.now l.target l.place l.at l.to l.invariant.0 l.rule l.invariant.1 w h n.result m.result n.ensures m.ensures _ r, d.4);
         small = omega (arith, y);
       };
       aligned = record {
         some = omega (arith, i.0, m.ensures, h);
-        wide = λ e. record-wide a.w a.reading a.down a.source.now a.target.now l.target l.place l.at l.to l.invariant.0 l.rule l.invariant.1 w h n.result m.result n.ensures m.ensures x.result r (not-false a.reading e);
+        wide = λ e. record-wide a.w a.reading a.down a.source.now a.target.now l.target l.place l.at l.to l.invariant.0 l.rule l.invariant.1 w h n.result m.result n.ensures m.ensures (not-false a.reading e);
         even = λ e. l.invariant.0.even (not-false a.reading e);
       };
     }
@@ -118,12 +114,10 @@ loop-rule-smaller c =
     let n = c.in_form-n in
     let m = c.in_other_form-m in
     let d = ready a.w a.reading a.down a.source.now a.target.now l.target l.place l.at l.to l.invariant.0 l.rule l.invariant.1 w h in
-    let x = c.meet-met in
     let y : l.to + m.result ≤ most_bits = omega (arith, d.2, in-form (not a.reading) l.rule.width d.0, m.ensures) in
-    let r = subst (λ (b : Bool). Meets b n.result l.rule a.source.now l.at x.result) (ap (λ (i : ℕ). ltb i (l.to + m.result)) l.invariant.3 ∙ past-within (length a.target.now) (l.to + m.result) y) x.ensures in
-    let z : x.result.number ≤ 0 = omega (arith, c.if-met-ne0.false) in
+    let r = subst (λ (b : Bool). Met b n.result l.rule a.source.now l.at c.in_ok-value.value) (ap (λ (i : ℕ). ltb i (l.to + m.result)) l.invariant.3 ∙ past-within (length a.target.now) (l.to + m.result) y) c.in_ok-value.ensures in
     let e = l.invariant.1 in
-    c.next-place.ensures.less a.w (omega (arith, e.width)) (omega (arith, (r.value z).1, e.most))
+    c.next-place.ensures.less a.w (omega (arith, e.width)) (omega (arith, r.few, e.most))
 
 pub loop-rule-preserved : goal.loop-rule-preserved
 loop-rule-preserved c =
@@ -134,11 +128,9 @@ loop-rule-preserved c =
     let n = c.in_form-n in
     let m = c.in_other_form-m in
     let d = ready a.w a.reading a.down a.source.now a.target.now l.target l.place l.at l.to l.invariant.0 l.rule l.invariant.1 w h in
-    let x = c.meet-met in
     let y : l.to + m.result ≤ most_bits = omega (arith, d.2, in-form (not a.reading) l.rule.width d.0, m.ensures) in
-    let r = subst (λ (b : Bool). Meets b n.result l.rule a.source.now l.at x.result) (ap (λ (i : ℕ). ltb i (l.to + m.result)) l.invariant.3 ∙ past-within (length a.target.now) (l.to + m.result) y) x.ensures in
-    let z : x.result.number ≤ 0 = omega (arith, c.if-met-ne0.false) in
-    (going_on a.w a.reading a.down a.source.now a.target.now l.target l.place l.at l.to l.invariant.0 l.rule l.invariant.1 w h n.result m.result n.ensures m.ensures x.result r z _ _ _ c.lay-to.ensures c.next-place.ensures, c.rule_at-rule-in-loop-rule.ensures, l.invariant.2, l.invariant.3)
+    let r = subst (λ (b : Bool). Met b n.result l.rule a.source.now l.at c.in_ok-value.value) (ap (λ (i : ℕ). ltb i (l.to + m.result)) l.invariant.3 ∙ past-within (length a.target.now) (l.to + m.result) y) c.in_ok-value.ensures in
+    (going_on a.w a.reading a.down a.source.now a.target.now l.target l.place l.at l.to l.invariant.0 l.rule l.invariant.1 w h n.result m.result n.ensures m.ensures _ r _ _ _ c.lay-to.ensures c.next-place.ensures, c.rule_at-rule-in-loop-rule.ensures, l.invariant.2, l.invariant.3)
 
 pub is_bad_fill-requires : goal.is_bad_fill-requires
 is_bad_fill-requires c = omega (arith, c.loop-rule.invariant.0.few_read)

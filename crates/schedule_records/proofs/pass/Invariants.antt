@@ -1,16 +1,8 @@
-use mathlib.Core.Bool.{Bool, not}
-use mathlib.Core.Path.{◌≡◌, sym, ap, subst, ◌∙◌}
-use Prim.Native.Nat.{ℕ, ◌+◌, ◌≤◌, ◌<◌}
-use native.Mathlib.Omega.{arith}
-use lib.Dec.{ltb}
+use mathlib.Core.Path.{◌≡◌}
 use lib.ListN.{length}
-use borrow.Author.Tests.{not-false}
 use Rattle.schedule_fields.specs.Places.{fields_at, fields_left, RuleOf}
-use Rattle.schedule_values.specs.Meeting.{bits_within, most_bits, Meets}
-use Rattle.schedule_values.specs.MeetingLaws.{past-within}
+use Rattle.schedule_values.specs.Meeting.{bits_within}
 use Rattle.schedule_records.specs.Turning.{Going}
-use Rattle.schedule_records.specs.TurningLaws.{in-form, going_start, kept-long, ready, record-wide, passes-refused, fits_in, value-lt, going_on, passes-filled, passes-all}
-use borrow.Author.Rules.{rules}
 use Rattle.schedule_records.proofs.pass.Given as goal
 
 abbrev pub invariant-loop-rule : goal.invariant-loop-rule

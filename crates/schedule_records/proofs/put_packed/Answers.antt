@@ -1,6 +1,5 @@
 use native.Mathlib.Omega.{arith}
 use Rattle.schedule_records.specs.TurningLaws.{laid-wide}
-use borrow.Author.Rules.{rules}
 use Rattle.schedule_records.proofs.put_packed.Goals as goal
 
 pub put_wide-requires : goal.put_wide-requires

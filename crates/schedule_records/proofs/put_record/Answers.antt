@@ -1,7 +1,6 @@
 use native.Mathlib.Omega.{arith}
 use lib.ListN.{length-set}
 use Rattle.item_pen.specs.WideLaws.{two-are}
-use borrow.Author.Rules.{rules}
 use Rattle.schedule_records.proofs.put_record.Goals as goal
 
 pub bounds-target-i-2 : goal.bounds-target-i-2

@@ -1,44 +1,39 @@
-use mathlib.Core.Path.{sym, ap, ◌∙◌}
+use mathlib.Core.Path.{sym, ◌∙◌}
 use native.Mathlib.Omega.{arith}
-use Rattle.definitions.specs.LegalSchedule.{LegalWidth}
-use Rattle.answers.specs.Telling.{has_parts}
+use Rattle.std.proofs.lemmas.Result.{err_from_is_err_and}
 use Rattle.schedule_values.specs.MeetingLaws.{good-width}
-use Rattle.schedule_records.specs.CallLaws.{alone, turned-away, by-a-field, accepting}
-use borrow.Author.Rules.{rules}
+use Rattle.schedule_records.specs.CallLaws.{turned-away, by-a-field, looked-at, accepting}
 use Rattle.schedule_records.proofs.turn.Goals as goal
 
 pub returns-then-is_bad_width : goal.returns-then-is_bad_width
 returns-then-is_bad_width c =
     let a = c.args in
-    turned-away a.w a.reading a.source.now a.target.now _ (sym c.is_bad_width.ensures ∙ c.if-is_bad_width.true) c.refused.ensures
-
-pub pass-looked-requires : goal.pass-looked-requires
-pass-looked-requires c = good-width _ (sym c.is_bad_width.ensures ∙ c.if-is_bad_width.false)
-
-pub refused-requires-then-looked-ne0 : goal.refused-requires-then-looked-ne0
-refused-requires-then-looked-ne0 c =
-    let f = c.pass-looked.ensures.refused (omega (arith, c.if-looked-ne0.true)) in
-    ap has_parts f.1 ∙ alone f.0
-
-pub returns-then-looked-ne0 : goal.returns-then-looked-ne0
-returns-then-looked-ne0 c =
-    let a = c.args in
-    let w : LegalWidth a.w = good-width _ (sym c.is_bad_width.ensures ∙ c.if-is_bad_width.false) in
-    let x = c.pass-looked in
-    by-a-field a.w a.reading a.source.now a.target.now w x.result _ x.ensures _ (omega (arith, c.if-looked-ne0.true)) c.refused-then-looked-ne0.ensures
+    turned-away a.w a.reading a.source.now a.target.now (sym c.is_bad_width.ensures ∙ c.if-is_bad_width.true)
 
 pub pass-requires : goal.pass-requires
 pass-requires c = good-width _ (sym c.is_bad_width.ensures ∙ c.if-is_bad_width.false)
 
-pub overflow_add-looked : goal.overflow_add-looked
-overflow_add-looked c =
-    let x = c.pass-looked in
-    omega (arith, (x.ensures.accepted (omega arith)).6)
+pub returns-in_err-pass : goal.returns-in_err-pass
+returns-in_err-pass c =
+    let a = c.args in
+    let w = good-width _ (sym c.is_bad_width.ensures ∙ c.if-is_bad_width.false) in
+    let e = err_from_is_err_and c.from_residual.result c.from_residual.ensures.1 in
+    rw (e.1, e.2) (by-a-field a.w a.reading a.source.now a.target.now w _ _ c.in_err-pass.ensures)
+
+pub pass-requires-2 : goal.pass-requires-2
+pass-requires-2 c = good-width _ (sym c.is_bad_width.ensures ∙ c.if-is_bad_width.false)
+
+pub returns-in_err-bits : goal.returns-in_err-bits
+returns-in_err-bits c =
+    let a = c.args in
+    let w = good-width _ (sym c.is_bad_width.ensures ∙ c.if-is_bad_width.false) in
+    absurd (looked-at a.w a.reading a.source.now a.target.now w _ _ c.in_ok-pass.ensures _ _ c.in_err-bits.ensures)
+
+pub overflow_add-result : goal.overflow_add-result
+overflow_add-result c = let h = c.in_ok-bits.ensures in omega (arith, h.came.few)
 
 pub returns : goal.returns
 returns c =
     let a = c.args in
-    let w : LegalWidth a.w = good-width _ (sym c.is_bad_width.ensures ∙ c.if-is_bad_width.false) in
-    let x = c.pass-looked in
-    let y = c.pass in
-    accepting a.w a.reading a.source.now a.target.now w x.result _ x.ensures _ y.result _ (omega (arith, c.if-looked-ne0.false)) y.ensures c.listed.ensures
+    let w = good-width _ (sym c.is_bad_width.ensures ∙ c.if-is_bad_width.false) in
+    accepting a.w a.reading a.source.now a.target.now w _ _ c.in_ok-pass.ensures _ _ c.in_ok-bits.ensures

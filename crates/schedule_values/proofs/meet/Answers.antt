@@ -12,20 +12,20 @@ returns-then-end-at c =
     let a = c.args in
     meets-past a.short a.n a.rule a.source.now a.at (cc) (omega arith) (omega (arith, c.requires.0, c.requires.3, c.if-end-at.true))
 
-pub returns-then-value-least : goal.returns-then-value-least
-returns-then-value-least c =
+pub returns-then-value-rule : goal.returns-then-value-rule
+returns-then-value-rule c =
     let a = c.args in
     meets-below a.short a.n a.rule a.source.now a.at _ (cc) (omega arith)
-    (omega (arith, c.requires.0, c.if-end-at.false)) c.value_at-value.ensures c.if-value-least.true
+    (omega (arith, c.requires.0, c.if-end-at.false)) c.value_at-value.ensures c.if-value-rule.true
 
-pub returns-then-most-value : goal.returns-then-most-value
-returns-then-most-value c =
+pub returns-then-rule-value : goal.returns-then-rule-value
+returns-then-rule-value c =
     let a = c.args in
     meets-above a.short a.n a.rule a.source.now a.at _ (cc) (omega arith)
-    (omega (arith, c.requires.0, c.if-end-at.false)) c.value_at-value.ensures c.if-most-value.true
+    (omega (arith, c.requires.0, c.if-end-at.false)) c.value_at-value.ensures c.if-rule-value.true
 
 pub returns : goal.returns
 returns c =
     let a = c.args in
     meets-value a.short a.n a.rule a.source.now a.at _ (cc) (omega arith)
-    (omega (arith, c.requires.0, c.if-end-at.false)) c.value_at-value.ensures c.if-value-least.false c.if-most-value.false
+    (omega (arith, c.requires.0, c.if-end-at.false)) c.value_at-value.ensures c.if-value-rule.false c.if-rule-value.false

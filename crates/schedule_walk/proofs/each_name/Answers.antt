@@ -1,31 +1,19 @@
-use mathlib.Core.List.{List, []}
-use Prim.Native.Nat.{◌-◌, ◌≤◌}
-use Rattle.definitions.specs.Records.{Name}
+use mathlib.Core.List.{[]}
 use native.Mathlib.Omega.{arith}
-use Rattle.definitions.specs.ScheduleFields.{name_fields}
-use Rattle.definitions.specs.Values.{name_values}
-use Rattle.tariff_definitions.specs.DecodedLaws.{OneOrTwo}
-use Rattle.schedule_walk.specs.Walking.{name_bits}
-use Rattle.schedule_walk.specs.WalkingLaws.{Been, been-none, been-stops, been-more, been-all}
+use Rattle.schedule_walk.specs.WalkingLaws.{stopped, been-none, been-stops, been-more, been-all}
 use Rattle.schedule_walk.proofs.each_name.Goals as goal
 
-pub loop-i-init : goal.loop-i-init
-loop-i-init c = ([], been-none _ _ _ _ _ _ _, omega arith)
+pub loop-init : goal.loop-init
+loop-init c = ([], been-none _ _ _ _ _ _ _)
 
-pub name-step-requires : goal.name-step-requires
-name-step-requires c = (record { all = c.requires.0.all; few = omega (arith, c.requires.0.few, c.loop-i.invariant.1.few) }, c.requires.1)
+pub name-requires : goal.name-requires
+name-requires c = (record { all = c.requires.0.all; few = omega (arith, c.requires.0.few, c.loop.invariant.1.few) }, c.requires.1)
 
-pub returns-then-step-ne0 : goal.returns-then-step-ne0
-returns-then-step-ne0 c = been-stops _ _ _ _ _ _ _ _ _ _ c.loop-i.invariant.1 _ c.name-step.ensures (omega arith) (omega (arith, c.if-step-ne0.true))
+pub returns-in_err-q : goal.returns-in_err-q
+returns-in_err-q c = stopped _ _ c.from_residual.ensures.1 (been-stops _ _ _ _ _ _ _ _ _ _ c.loop.invariant.1 (omega arith) c.in_err-q.ensures)
 
-pub overflow_add-i : goal.overflow_add-i
-overflow_add-i c = omega (arith, c.ranges.n)
-
-pub loop-i-smaller : goal.loop-i-smaller
-loop-i-smaller c = omega arith
-
-pub loop-i-preserved : goal.loop-i-preserved
-loop-i-preserved c = (_, been-more _ _ _ _ _ _ _ _ _ _ c.loop-i.invariant.1 _ c.name-step.ensures (omega arith) (omega (arith, c.if-step-ne0.false)), omega arith)
+pub loop-preserved : goal.loop-preserved
+loop-preserved c = (_, been-more _ _ _ _ _ _ _ _ _ _ c.loop.invariant.1 (omega arith) _ c.in_ok-q.ensures)
 
 pub returns : goal.returns
-returns c = been-all _ _ _ _ _ _ _ _ _ _ (omega arith) c.loop-i.invariant.2 c.loop-i.invariant.1
+returns c = been-all _ _ _ _ _ _ _ _ _ _ (omega arith) (omega arith) c.loop.invariant.1

@@ -1,6 +1,5 @@
 use native.Mathlib.Omega.{arith}
 use Rattle.schedule_walk.specs.FormLaws.{reads-rule}
-use borrow.Author.Rules.{rules}
 use Rattle.schedule_walk.proofs.flag.Goals as goal
 
 pub field-requires : goal.field-requires
@@ -8,4 +7,4 @@ field-requires c = let r = c.rule_at.ensures in
     (record { all = c.requires.all; few = omega (arith, c.requires.few, r.width) }, omega (arith, r.width), omega (arith, r.width))
 
 pub returns : goal.returns
-returns c = reads-rule c.rule_at.ensures c.field.ensures
+returns c = reads-rule _ _ _ c.rule_at.ensures c.field.ensures

@@ -1,13 +1,13 @@
 use native.Mathlib.Omega.{arith}
+use Rattle.schedule_walk.specs.WalkingLaws.{stopped}
 use Rattle.schedule_walk.specs.FormLaws.{item-lead, item-made, item-line}
-use borrow.Author.Rules.{rules}
 use Rattle.schedule_walk.proofs.item.Goals as goal
 
-pub returns-then-lead-ne0 : goal.returns-then-lead-ne0
-returns-then-lead-ne0 c = item-lead _ _ _ _ c.flag-lead.ensures _ c.stopped.ensures (omega (arith, c.if-lead-ne0.true))
+pub returns-in_err-lead : goal.returns-in_err-lead
+returns-in_err-lead c = stopped _ _ c.from_residual.ensures.1 (item-lead _ _ _ c.in_err-lead.ensures)
 
 pub returns-then-lead-eq0 : goal.returns-then-lead-eq0
-returns-then-lead-eq0 c = item-made _ _ _ _ c.flag-lead.ensures (omega (arith, c.if-lead-ne0.false)) c.if-lead-eq0.true _ c.made.ensures
+returns-then-lead-eq0 c = item-made _ _ _ _ c.in_ok-lead.ensures c.if-lead-eq0.true _ c.made.ensures
 
 pub returns : goal.returns
-returns c = item-line _ _ _ _ c.flag-lead.ensures (omega (arith, c.if-lead-ne0.false)) (omega (arith, c.if-lead-eq0.false)) _ c.line.ensures
+returns c = item-line _ _ _ _ c.in_ok-lead.ensures (omega (arith, c.if-lead-eq0.false)) _ c.line.ensures

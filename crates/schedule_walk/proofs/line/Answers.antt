@@ -1,44 +1,23 @@
-use Prim.Native.Nat.{◌≤◌}
 use native.Mathlib.Omega.{arith}
-use Rattle.schedule_walk.specs.FormLaws.{goes-from, line-name, line-flag, line-trait, line-goes}
-use borrow.Author.Rules.{rules}
+use Rattle.schedule_walk.specs.WalkingLaws.{stopped}
+use Rattle.schedule_walk.specs.FormLaws.{gone-from, stops-from, line-name, line-flag, line-trait, line-word, line-gone}
 use Rattle.schedule_walk.proofs.line.Goals as goal
 
-pub returns-then-named-ne0 : goal.returns-then-named-ne0
-returns-then-named-ne0 c = line-name _ _ _ _ c.name-named.ensures _ c.stopped.ensures (omega (arith, c.if-named-ne0.true))
+pub returns-in_err-named : goal.returns-in_err-named
+returns-in_err-named c = stopped _ _ c.from_residual.ensures.1 (line-name _ _ _ c.in_err-named.ensures)
 
-pub flag-is_virtual-requires : goal.flag-is_virtual-requires
-flag-is_virtual-requires c = let z : c.name-named.result.number ≤ 0 = omega (arith, c.if-named-ne0.false) in
-    let x = (c.name-named.ensures.runs z).3 in
-    record { all = c.requires.0.all; few = omega (arith, c.requires.0.few, x) }
+pub returns-in_err-flag : goal.returns-in_err-flag
+returns-in_err-flag c = stopped _ _ c.from_residual-in_err-flag.ensures.1 (line-flag _ _ _ _ c.in_ok-named.ensures c.in_err-flag.ensures)
 
-pub returns-then-is_virtual-ne0 : goal.returns-then-is_virtual-ne0
-returns-then-is_virtual-ne0 c = line-flag _ _ _ _ c.name-named.ensures (omega (arith, c.if-named-ne0.false)) _ c.flag-is_virtual.ensures _ c.stopped-then-is_virtual-ne0.ensures (omega (arith, c.if-is_virtual-ne0.true))
+pub returns-in_err-flag-2 : goal.returns-in_err-flag-2
+returns-in_err-flag-2 c =
+    stopped _ _ c.from_residual-in_err-flag-2.ensures.1 (line-trait _ _ _ _ c.in_ok-named.ensures _ c.in_ok-flag.ensures c.in_err-flag-2.ensures)
 
-pub overflow_add-named : goal.overflow_add-named
-overflow_add-named c = let z : c.name-named.result.number ≤ 0 = omega (arith, c.if-named-ne0.false) in
-    let x = (c.name-named.ensures.runs z).3 in
-    omega (arith, c.requires.0.few, x)
-
-pub flag-is_trait-requires : goal.flag-is_trait-requires
-flag-is_trait-requires c = let z : c.name-named.result.number ≤ 0 = omega (arith, c.if-named-ne0.false) in
-    let x = (c.name-named.ensures.runs z).3 in
-    record { all = c.requires.0.all; few = omega (arith, c.requires.0.few, x) }
-
-pub returns-then-is_trait-ne0 : goal.returns-then-is_trait-ne0
-returns-then-is_trait-ne0 c = line-trait _ _ _ _ c.name-named.ensures (omega (arith, c.if-named-ne0.false)) _ c.flag-is_virtual.ensures (omega (arith, c.if-is_virtual-ne0.false)) _ c.flag-is_trait.ensures _
-    c.stopped-then-is_trait-ne0.ensures (omega (arith, c.if-is_trait-ne0.true))
-
-pub overflow_add-named-2 : goal.overflow_add-named-2
-overflow_add-named-2 c = let z : c.name-named.result.number ≤ 0 = omega (arith, c.if-named-ne0.false) in
-    let x = (c.name-named.ensures.runs z).3 in
-    omega (arith, c.requires.0.few, x)
-
-pub word-last-requires : goal.word-last-requires
-word-last-requires c = let z : c.name-named.result.number ≤ 0 = omega (arith, c.if-named-ne0.false) in
-    let x = (c.name-named.ensures.runs z).3 in
-    (record { all = c.requires.0.all; few = omega (arith, c.requires.0.few, x) }, c.requires.1)
+pub returns-in_err-last : goal.returns-in_err-last
+returns-in_err-last c =
+    stopped _ _ c.from_residual-in_err-last.ensures.1
+    (line-word _ _ _ _ c.in_ok-named.ensures _ c.in_ok-flag.ensures _ c.in_ok-flag-2.ensures (stops-from (omega arith) c.in_err-last.ensures))
 
 pub returns : goal.returns
-returns c = line-goes _ _ _ _ c.name-named.ensures (omega (arith, c.if-named-ne0.false)) _ c.flag-is_virtual.ensures (omega (arith, c.if-is_virtual-ne0.false)) _ c.flag-is_trait.ensures
-    (omega (arith, c.if-is_trait-ne0.false)) _ (goes-from (omega arith) c.word-last.ensures)
+returns c =
+    line-gone _ _ _ _ c.in_ok-named.ensures _ c.in_ok-flag.ensures _ c.in_ok-flag-2.ensures _ (gone-from (omega arith) c.in_ok-last.ensures)

@@ -1,35 +1,16 @@
-use Prim.Native.Nat.{◌≤◌}
 use native.Mathlib.Omega.{arith}
+use Rattle.schedule_walk.specs.WalkingLaws.{stopped}
 use Rattle.schedule_walk.specs.FormLaws.{name-first, name-flag, name-one, name-two}
 use Rattle.schedule_walk.proofs.name.Goals as goal
 
-pub word-first-requires : goal.word-first-requires
-word-first-requires c = (record { all = c.requires.0.all; few = omega (arith, c.requires.0.few) }, c.requires.1)
+pub returns-in_err-first : goal.returns-in_err-first
+returns-in_err-first c = stopped _ _ c.from_residual.ensures.1 (name-first _ _ _ c.in_err-first.ensures)
 
-pub returns-then-first-ne0 : goal.returns-then-first-ne0
-returns-then-first-ne0 c = name-first _ _ _ _ c.word-first.ensures (omega (arith, c.if-first-ne0.true))
-
-pub flag-second-requires : goal.flag-second-requires
-flag-second-requires c = let z : c.word-first.result.number ≤ 0 = omega (arith, c.if-first-ne0.false) in
-    record { all = c.requires.0.all; few = omega (arith, c.requires.0.few, (c.word-first.ensures.runs z).3) }
-
-pub returns-then-second-ne0 : goal.returns-then-second-ne0
-returns-then-second-ne0 c = name-flag _ _ _ _ c.word-first.ensures (omega (arith, c.if-first-ne0.false)) _ c.flag-second.ensures _ (omega (arith, c.if-second-ne0.true))
-
-pub overflow_add-result : goal.overflow_add-result
-overflow_add-result c = let z : c.word-first.result.number ≤ 0 = omega (arith, c.if-first-ne0.false) in
-    omega (arith, c.requires.0.few, (c.word-first.ensures.runs z).3)
+pub returns-in_err-second : goal.returns-in_err-second
+returns-in_err-second c = stopped _ _ c.from_residual-in_err-second.ensures.1 (name-flag _ _ _ _ c.in_ok-first.ensures c.in_err-second.ensures)
 
 pub returns-then-second-eq0 : goal.returns-then-second-eq0
-returns-then-second-eq0 c = name-one _ _ _ _ c.word-first.ensures (omega (arith, c.if-first-ne0.false)) _ c.flag-second.ensures (omega (arith, c.if-second-ne0.false)) c.if-second-eq0.true
-
-pub overflow_add-first : goal.overflow_add-first
-overflow_add-first c = let z : c.word-first.result.number ≤ 0 = omega (arith, c.if-first-ne0.false) in
-    omega (arith, c.requires.0.few, (c.word-first.ensures.runs z).3)
-
-pub word-requires : goal.word-requires
-word-requires c = let z : c.word-first.result.number ≤ 0 = omega (arith, c.if-first-ne0.false) in
-    (record { all = c.requires.0.all; few = omega (arith, c.requires.0.few, (c.word-first.ensures.runs z).3) }, c.requires.1)
+returns-then-second-eq0 c = name-one _ _ _ _ c.in_ok-first.ensures _ c.in_ok-second.ensures c.if-second-eq0.true
 
 pub returns : goal.returns
-returns c = name-two _ _ _ _ c.word-first.ensures (omega (arith, c.if-first-ne0.false)) _ c.flag-second.ensures (omega (arith, c.if-second-ne0.false)) (omega (arith, c.if-second-eq0.false)) _ c.word.ensures
+returns c = name-two _ _ _ _ c.in_ok-first.ensures _ c.in_ok-second.ensures (omega (arith, c.if-second-eq0.false)) _ c.word-2.ensures

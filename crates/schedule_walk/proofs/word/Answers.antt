@@ -1,14 +1,9 @@
-use native.Mathlib.Omega.{arith}
-use Rattle.schedule_walk.specs.FormLaws.{reads-rule, word-goes}
-use borrow.Author.Rules.{rules}
+use Rattle.schedule_walk.specs.WalkingLaws.{field-stops, stopped}
+use Rattle.schedule_walk.specs.FormLaws.{has-rule, lacks-rule, word-gone}
 use Rattle.schedule_walk.proofs.word.Goals as goal
 
-pub field-met-requires : goal.field-met-requires
-field-met-requires c = let r = c.rule_at.ensures in
-    (record { all = c.requires.0.all; few = omega (arith, c.requires.0.few, r.width) }, omega (arith, r.width), omega (arith, r.width))
-
-pub overflow_add-result : goal.overflow_add-result
-overflow_add-result c = omega (arith, c.requires.0.few)
+pub returns-in_err-field : goal.returns-in_err-field
+returns-in_err-field c = stopped _ _ c.from_residual.ensures.1 (field-stops (lacks-rule c.rule_at.ensures c.in_err-field.ensures) (λ k v. k))
 
 pub returns : goal.returns
-returns c = word-goes _ _ _ _ (reads-rule c.rule_at.ensures c.field-met.ensures)
+returns c = word-gone _ _ _ _ (has-rule c.rule_at.ensures c.in_ok-field.ensures)
