@@ -4,10 +4,14 @@
 // declarations was replaced by document 01's.
 #![tactic(auto)]
 
-use console::Output;
-use std::io;
-use std::io::{Read, Write};
+use replaying::{Cases, Replayed};
+use std::io::{BufReader, BufWriter, Write};
+use std::{fmt, io};
 
+// No input has so many cases.
+const MANY: usize = 100000;
+
+// How many cases there are, how many of them agree, and how many of these are the Rust's untouched.
 #[derive(Clone, Copy)]
 struct Counts {
     cases: u64,
@@ -15,92 +19,49 @@ struct Counts {
     untouched: u64,
 }
 
-// No input has so many cases.
-const MANY: u64 = 100000;
-
-// One more if so.
-fn and_one(n: u64, more: bool) -> u64 {
-    if !more {
-        return n;
+impl Counts {
+    fn count(&mut self, replayed: &Replayed) {
+        self.cases = self.cases.saturating_add(1);
+        if replayed.agrees {
+            self.agree = self.agree.saturating_add(1);
+            if replayed.name.len() == 1 {
+                self.untouched = self.untouched.saturating_add(1);
+            }
+        }
     }
-    if n < MANY { n + 1 } else { n }
 }
 
-fn print_number<W: Write + Drop>(out: &mut Output<W>, text: &[u8], n: u64) -> io::Result<()> {
-    out.put_text(text)?;
-    out.put_decimal(n)
-}
-
-fn print_counts<W: Write + Drop>(out: &mut Output<W>, c: Counts) -> io::Result<()> {
-    print_number(out, b"answers ", c.cases)?;
-    print_number(out, b"\nagree ", c.agree)?;
-    print_number(out, b"\nof these of the Rust untouched ", c.untouched)?;
-    out.put(b'\n')?;
-    out.send()
-}
-
-fn counted<W: Write + Drop>(
-    out: &mut Output<W>,
-    c: Counts,
-    agrees: bool,
-    untouched: bool,
-) -> io::Result<Counts> {
-    if !agrees {
-        print_number(out, b"differs: ", c.cases)?;
-        out.put(b'\n')?;
-        out.send()?;
+impl fmt::Display for Counts {
+    fn fmt<W: fmt::Write>(&self, f: &mut fmt::Formatter<W>) -> fmt::Result {
+        let Counts {
+            cases,
+            agree,
+            untouched,
+        } = *self;
+        writeln!(
+            f,
+            "answers {cases}\nagree {agree}\nof these of the Rust untouched {untouched}"
+        )
     }
-    Ok(Counts {
-        cases: and_one(c.cases, true),
-        agree: and_one(c.agree, agrees),
-        untouched: and_one(c.untouched, agrees && untouched),
-    })
 }
 
-fn run_all<R: Read, W: Write + Drop>(
-    input: &mut R,
-    out: &mut Output<W>,
-    name: &mut [u8],
-    sheet: &mut [u8],
-    written: &mut [u8],
-    listing: &mut [u8],
-    records: &mut [u8],
-) -> io::Result<Counts> {
-    let mut held = 0;
+fn main(rt: HostRuntime) -> io::Result<()> {
+    let input = BufReader::new(rt.alloc(), rt.reader())?;
+    let mut out = BufWriter::new(rt.alloc(), io::writer(&rt))?;
     let mut counts = Counts {
         cases: 0,
         agree: 0,
         untouched: 0,
     };
-    let mut left = MANY;
-    while 0 < left {
-        let r = replaying::next_case(input, held, name, sheet, written, listing, records)?;
-        if !r.found {
-            break;
+    for replayed in Cases::new(rt.alloc(), input).take(MANY) {
+        let replayed = replayed?;
+        if !replayed.agrees {
+            let place = counts.cases;
+            writeln!(out, "differs: {place}")?;
+            out.flush()?;
         }
-        held = r.sheet;
-        counts = counted(out, counts, r.agrees, r.name == 1)?;
-        left -= 1;
+        counts.count(&replayed);
     }
-    Ok(counts)
-}
-
-fn main(rt: HostRuntime) -> io::Result<()> {
-    let mut input = rt.reader();
-    let mut out = Output::new(io::writer(&rt));
-    let mut name = console::buffer();
-    let mut sheet = console::large_buffer();
-    let mut written = console::large_buffer();
-    let mut listing = console::large_buffer();
-    let mut records = buffers::for_records();
-    let counts = run_all(
-        &mut input,
-        &mut out,
-        &mut name,
-        &mut sheet,
-        &mut written,
-        &mut listing,
-        &mut records,
-    )?;
-    print_counts(&mut out, counts)
+    write!(out, "{counts}")?;
+    out.flush()
 }

@@ -2,14 +2,11 @@
 // is none.
 #![tactic(auto)]
 
-use console::Output;
 use std::io;
+use std::io::BufWriter;
 
-// The buffer is longer than the longest sheet, so that one past 40,960 bytes is seen.
 fn main(rt: HostRuntime) -> io::Result<()> {
-    let mut input = rt.reader();
-    let mut out = Output::new(io::writer(&rt));
-    let mut space = console::large_buffer();
-    let n = console::read_full(&mut input, &mut space)?;
-    printing::print_order(&mut out, &space[..n])
+    let sheet = console::read_up_to(rt.alloc(), &mut rt.reader(), console::SHEET)?;
+    let mut out = BufWriter::new(rt.alloc(), io::writer(&rt))?;
+    printing::print_order(rt.alloc(), &mut out, sheet.as_slice())
 }

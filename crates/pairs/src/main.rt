@@ -7,27 +7,14 @@
 ghost use Rattle.std.specs.Prelude.{◌<◌, ◌≤◌, IfOk};
 ghost use Rattle.annotations.specs.Reading.{Held};
 
-use annotations::{AnnotationInfo, Part};
-use console::Output;
+use annotations::AnnotationInfo;
 use rows::Row;
 use std::io;
-use std::io::{Read, Write};
-
-fn at_most(n: u8, most: u8) -> u8
-    ensures { result ≤ most }
-{
-    if n < most { n } else { most }
-}
-
-fn wide(b: u8) -> u64
-    ensures { result < 256 }
-{
-    b as u64
-}
+use std::io::{BufReader, BufWriter, Read, Write};
 
 fn row_of(high: u8, low: u8) -> Row {
     Row {
-        a: wide(high) * 256 + wide(low),
+        a: u64::from(high) * 256 + u64::from(low),
         b: 0,
         c: 0,
         d: 0,
@@ -52,12 +39,10 @@ fn read_resources<R: Read>(
     let none = rows::empty_row();
     let mut words = [0u8; 15];
     let mut doms = [none; 15];
-    let mut i: usize = 0;
-    while i < count {
+    for i in 0..count {
         let three = read_three(input)?;
         words[i] = three[0];
         doms[i] = row_of(three[1], three[2]);
-        i += 1;
     }
     Ok(AnnotationInfo {
         kind,
@@ -72,83 +57,70 @@ fn read_resources<R: Read>(
 fn read_annotation<R: Read>(input: &mut R, head: [u8; 3]) -> io::Result<AnnotationInfo>
     ensures { IfOk result (λ x. Held x) }
 {
-    let kind = at_most(head[0], 6);
-    let count = at_most(head[2], 15);
-    read_resources(input, kind, head[1], count as usize)
+    let kind = head[0].min(6);
+    let count = head[2].min(15);
+    read_resources(input, kind, head[1], usize::from(count))
 }
 
-fn print_number<W: Write + Drop>(out: &mut Output<W>, n: u64) -> io::Result<()> {
-    out.put(b' ')?;
-    out.put_decimal(n)
+fn print_number<W: Write>(out: &mut W, n: u64) -> io::Result<()> {
+    write!(out, " {n}")
 }
 
-fn print_resource<W: Write + Drop>(out: &mut Output<W>, word: u8, doms: Row) -> io::Result<()> {
-    print_number(out, word as u64)?;
+fn print_resource<W: Write>(out: &mut W, word: u8, doms: Row) -> io::Result<()> {
+    print_number(out, u64::from(word))?;
     print_number(out, doms.a)
 }
 
-fn print_annotation<W: Write + Drop>(out: &mut Output<W>, x: AnnotationInfo) -> io::Result<()> {
-    print_number(out, x.kind as u64)?;
-    print_number(out, x.tag as u64)?;
+fn print_annotation<W: Write>(out: &mut W, x: AnnotationInfo) -> io::Result<()> {
+    print_number(out, u64::from(x.kind))?;
+    print_number(out, u64::from(x.tag))?;
     print_number(out, x.count as u64)?;
     let words = x.words;
     let doms = x.doms;
-    let mut i: usize = 0;
-    while i < 15 {
-        if i < x.count {
-            print_resource(out, words[i], doms[i])?;
-        }
-        i += 1;
+    for (w, d) in words.iter().zip(doms.iter()).take(x.count) {
+        print_resource(out, *w, *d)?;
     }
     Ok(())
 }
 
-fn print_part<W: Write + Drop>(out: &mut Output<W>, p: Part) -> io::Result<()> {
-    if p.some {
-        print_annotation(out, p.annotation)
-    } else {
-        out.put_text(b" none")
+fn print_part<W: Write>(out: &mut W, part: Option<AnnotationInfo>) -> io::Result<()> {
+    match part {
+        Some(x) => print_annotation(out, x),
+        None => write!(out, " none"),
     }
 }
 
-fn print_both<W: Write + Drop>(
-    out: &mut Output<W>,
-    x: AnnotationInfo,
-    y: AnnotationInfo,
-) -> io::Result<()>
+fn print_both<W: Write>(out: &mut W, x: AnnotationInfo, y: AnnotationInfo) -> io::Result<()>
     requires { Held x × Held y }
 {
     let shared = annotations::intersection(x, y);
     print_part(out, shared)?;
-    out.put_text(b" |")?;
+    write!(out, " |")?;
     let rest = annotations::difference(x, y);
     print_part(out, rest)?;
-    out.put(b'\n')
+    writeln!(out)
 }
 
 // The next pair, if there is one.
-fn answer<R: Read, W: Write + Drop>(input: &mut R, out: &mut Output<W>) -> io::Result<bool> {
-    let mut head = [0u8; 3];
-    if console::read_full(input, &mut head)? < 3 {
+fn answer<R: Read, W: Write>(input: &mut R, out: &mut W) -> io::Result<bool> {
+    let Some(head) = console::read_array(input)? else {
         return Ok(false);
-    }
+    };
     let x = read_annotation(input, head)?;
     let second = read_three(input)?;
     let y = read_annotation(input, second)?;
     print_both(out, x, y)?;
-    out.send()?;
+    out.flush()?;
     Ok(true)
 }
 
 fn main(rt: HostRuntime) -> io::Result<()> {
-    let mut input = rt.reader();
-    let mut out = Output::new(io::writer(&rt));
-    let mut left: u64 = 1000000000;
-    while 0 < left {
+    let mut input = BufReader::new(rt.alloc(), rt.reader())?;
+    let mut out = BufWriter::new(rt.alloc(), io::writer(&rt))?;
+    for _ in 0..1000000000u64 {
         if !answer(&mut input, &mut out)? {
             break;
         }
-        left -= 1;
     }
-    out.send()
+    out.flush()
 }

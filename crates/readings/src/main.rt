@@ -3,121 +3,101 @@
 // makes the input, and by a model of its own what must come out.
 #![tactic(auto)]
 
-ghost use Rattle.std.specs.Prelude.{◌+◌, ◌≤◌, ◌<◌, IfOk, length};
+ghost use Rattle.std.specs.Prelude.{◌<◌, length};
 
-use answers::Answer;
-use console::Output;
+use answers::Refusal;
+use std::alloc::Global;
 use std::io;
-use std::io::Write;
+use std::io::{BufReader, BufWriter, Read, Write};
 
-fn wide(b: u8) -> usize
-    ensures { result < 256 }
-{
-    b as usize
-}
+// The most bytes of standard input.
+const MOST: u64 = 65536;
+
+// What stands behind the length of a sheet: its refusal, or also those of the damaged sheet, or what the order program prints.
+const ALONE: u8 = 0;
+
+const PRINTED: u8 = 2;
 
 // A listing of one byte is too short or is filled: neither 8 nor 10 is asked for here.
 fn refusal(sheet: &[u8]) -> usize {
-    let mut listing = [0u8; 1];
     let mut diagnosis = [0u8; answers::DIAGNOSIS];
-    match access::order(sheet, &mut listing, &mut diagnosis) {
-        Answer::Accepted(_) => 0,
-        Answer::Refused(n) => n,
-        Answer::Diagnosed(_, _, _) => 0,
-        Answer::TooShort(_) => 0,
+    match access::order(sheet, &mut [0], &mut diagnosis) {
+        Ok(_) | Err(Refusal::NoOrder(_)) | Err(Refusal::ShortListing(_)) => 0,
+        Err(refusal) => refusal.number(),
     }
 }
 
-fn print<W: Write + Drop>(out: &mut Output<W>, sheet: &[u8]) -> io::Result<()> {
+fn print<W: Write>(out: &mut W, sheet: &[u8]) -> io::Result<()> {
     let n = refusal(sheet);
-    out.put_decimal(n as u64)
+    write!(out, "{n}")
 }
 
 // The sheet cut to each shorter length.
-fn print_cut<W: Write + Drop>(out: &mut Output<W>, sheet: &[u8]) -> io::Result<()> {
-    let mut n = 0;
-    while n < sheet.len() {
+fn print_cut<W: Write>(out: &mut W, sheet: &[u8]) -> io::Result<()> {
+    for n in 0..sheet.len() {
         print(out, &sheet[..n])?;
-        n += 1;
     }
     Ok(())
 }
 
 // The sheet with each bit of byte i flipped, from the most significant on.
-fn print_flipped<W: Write + Drop>(out: &mut Output<W>, sheet: &mut [u8], i: usize) -> io::Result<()>
+fn print_flipped<W: Write>(out: &mut W, sheet: &mut [u8], i: usize) -> io::Result<()>
     requires { i < length sheet.old }
 {
-    let was = sheet[i];
-    let mut bit: u8 = 128;
-    while 0 < bit {
-        sheet[i] = was ^ bit;
+    let byte = sheet[i];
+    for bit in [128, 64, 32, 16, 8, 4, 2, 1] {
+        sheet[i] = byte ^ bit;
         print(out, sheet)?;
-        bit = bit / 2;
     }
-    sheet[i] = was;
+    sheet[i] = byte;
     Ok(())
 }
 
-fn print_all_flipped<W: Write + Drop>(out: &mut Output<W>, sheet: &mut [u8]) -> io::Result<()> {
-    let mut i = 0;
-    while i < sheet.len() {
+fn print_all_flipped<W: Write>(out: &mut W, sheet: &mut [u8]) -> io::Result<()> {
+    for i in 0..sheet.len() {
         print_flipped(out, sheet, i)?;
-        i += 1;
     }
     Ok(())
 }
 
 // One record: by its mode what the order program prints, or the sheet's refusal, and where it is asked for those of the
 // damaged sheet.
-fn answer<W: Write + Drop>(out: &mut Output<W>, sheet: &mut [u8], mode: u8) -> io::Result<()> {
-    if mode == 2 {
-        return printing::print_order(out, sheet);
+fn answer<W: Write>(alloc: Global, out: &mut W, mut sheet: Vec<u8>, mode: u8) -> io::Result<()> {
+    if mode == PRINTED {
+        return printing::print_order(alloc, out, sheet.as_slice());
     }
-    print(out, sheet)?;
-    if mode == 0 {
-        return out.put(b'\n');
+    print(out, sheet.as_slice())?;
+    if mode != ALONE {
+        write!(out, " ")?;
+        print_cut(out, sheet.as_slice())?;
+        write!(out, " ")?;
+        print_all_flipped(out, sheet.as_mut_slice())?;
     }
-    out.put(b' ')?;
-    print_cut(out, sheet)?;
-    out.put(b' ')?;
-    print_all_flipped(out, sheet)?;
-    out.put(b'\n')
+    writeln!(out)
 }
 
-// The record at a place; the place behind it, which is the end where the input breaks off.
-fn record<W: Write + Drop>(out: &mut Output<W>, input: &mut [u8], at: usize) -> io::Result<usize>
-    requires { (at < length input.old) × (length input.old ≤ 65536) }
-    ensures { IfOk result (λ n. at < n) }
-{
-    let total = input.len();
-    if total < at + 3 {
-        return Ok(total);
-    }
-    let size = wide(input[at]) * 256 + wide(input[at + 1]);
-    let mode = input[at + 2];
-    let start = at + 3;
-    let end = start + size;
-    if total < end {
-        return Ok(total);
-    }
-    answer(out, &mut input[start..end], mode)?;
-    Ok(end)
-}
-
-fn answer_all<W: Write + Drop>(out: &mut Output<W>, input: &mut [u8]) -> io::Result<()>
-    requires { length input.old ≤ 65536 }
-{
-    let mut at = 0;
-    while at < input.len() {
-        at = record(out, input, at)?;
-    }
-    out.send()
+// The next record of standard input, answered: two bytes for the length of its sheet, its mode, and the sheet. Whether there was
+// one.
+fn answer_next<R: Read, W: Write>(alloc: Global, input: &mut R, out: &mut W) -> io::Result<bool> {
+    let Some(head) = console::read_array(input)? else {
+        return Ok(false);
+    };
+    let [high, low, mode]: [u8; 3] = head;
+    let size = console::two([high, low]);
+    let Some(sheet) = console::read_part(alloc, input, size, size)? else {
+        return Ok(false);
+    };
+    answer(alloc, out, sheet, mode)?;
+    Ok(true)
 }
 
 fn main(rt: HostRuntime) -> io::Result<()> {
-    let mut input = rt.reader();
-    let mut out = Output::new(io::writer(&rt));
-    let mut space = console::large_buffer();
-    let n = console::read_full(&mut input, &mut space)?;
-    answer_all(&mut out, &mut space[..n])
+    let mut input = BufReader::new(rt.alloc(), rt.reader().take(MOST))?;
+    let mut out = BufWriter::new(rt.alloc(), io::writer(&rt))?;
+    for _ in 0..u64::MAX {
+        if !answer_next(rt.alloc(), &mut input, &mut out)? {
+            break;
+        }
+    }
+    out.flush()
 }

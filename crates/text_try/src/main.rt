@@ -4,59 +4,51 @@
 // it the records or the diagnosis.
 #![tactic(auto)]
 
-ghost use Rattle.std.specs.Prelude.{◌<◌};
-
-use console::Output;
 use std::io;
-use std::io::Write;
+use std::io::{BufWriter, Write};
+use text::{Diagnosis, Refused, Schedule, Words};
 
-fn wide(b: u8) -> usize
-    ensures { result < 256 }
-{
-    b as usize
-}
-
-// Two bytes as a number.
-fn two(high: u8, low: u8) -> usize {
-    wide(high) * 256 + wide(low)
-}
-
-fn show<W: Write + Drop>(
-    out: &mut Output<W>,
-    head: [u8; 7],
-    sheet: &[u8],
-    rest: &[u8],
-) -> io::Result<()> {
-    if head[0] == 0 {
-        return text::print_numbers(out, rest);
-    }
-    if head[0] == 1 {
-        return text::print_schedule(out, sheet, rest);
-    }
-    text::print_refusal(
-        out,
-        sheet,
-        rest,
-        wide(head[1]),
-        two(head[3], head[4]),
-        head[2] == 1,
-    )
-}
-
-fn split<W: Write + Drop>(out: &mut Output<W>, head: [u8; 7], all: &[u8]) -> io::Result<()> {
-    let n = two(head[5], head[6]);
-    if n <= all.len() {
-        show(out, head, &all[..n], &all[n..])?;
-    }
-    Ok(())
-}
+// The most bytes behind the head.
+const MOST: usize = 65536;
 
 fn main(rt: HostRuntime) -> io::Result<()> {
     let mut input = rt.reader();
-    let mut out = Output::new(io::writer(&rt));
+    let mut out = BufWriter::new(rt.alloc(), io::writer(&rt))?;
     let mut head = [0u8; 7];
     console::read_full(&mut input, &mut head)?;
-    let mut rest = console::large_buffer();
-    let n = console::read_full(&mut input, &mut rest)?;
-    split(&mut out, head, &rest[..n])
+    let [
+        kind,
+        number,
+        more,
+        rows_high,
+        rows_low,
+        sheet_high,
+        sheet_low,
+    ] = head;
+    let bytes = console::read_up_to(rt.alloc(), &mut input, MOST)?;
+    let size = console::two([sheet_high, sheet_low]);
+    let Some((sheet, rest)) = bytes.as_slice().split_at_checked(size) else {
+        return Ok(());
+    };
+    let words = if kind == 0 {
+        Words::unknown(rt.alloc(), 0)
+    } else {
+        Words::of_sheet(rt.alloc(), sheet)?
+    };
+    if kind < 2 {
+        let schedule = Schedule {
+            words: &words,
+            records: rest,
+        };
+        write!(out, "{schedule}")?;
+        return out.flush();
+    }
+    let diagnosis = Diagnosis {
+        words: &words,
+        written: rest,
+        rows: console::two([rows_high, rows_low]),
+        more: more == 1,
+    };
+    write!(out, "{}{diagnosis}", Refused(number as usize))?;
+    out.flush()
 }

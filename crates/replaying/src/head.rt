@@ -1,0 +1,57 @@
+// The head of a stored case.
+use crate::expected::Expected;
+use answers::Answer;
+
+// A sheet of so many bytes stands for the one before it.
+pub(crate) const SAME_SHEET: usize = 65535;
+
+#[derive(Clone, Copy)]
+pub(crate) enum Call {
+    Order,
+    Schedule,
+}
+
+impl Call {
+    pub(crate) fn run(self, sheet: &[u8], listing: &mut [u8], diagnosis: &mut [u8]) -> Answer {
+        match self {
+            Call::Order => access::order(sheet, listing, diagnosis),
+            Call::Schedule => access::schedule(sheet, listing, diagnosis),
+        }
+    }
+}
+
+// Which call is run, with listings of which lengths, and what it must answer; the lengths of the name, the sheet, and the slices
+// that are lent.
+#[derive(Clone, Copy)]
+pub(crate) struct Head {
+    pub(crate) call: Call,
+    pub(crate) shorter_too: bool,
+    pub(crate) expected: Expected,
+    pub(crate) name: usize,
+    pub(crate) sheet: usize,
+    pub(crate) listing: usize,
+    pub(crate) diagnosis: usize,
+}
+
+impl From<[u8; 16]> for Head {
+    fn from(bytes: [u8; 16]) -> Head {
+        Head {
+            call: if bytes[0] % 2 == 0 {
+                Call::Order
+            } else {
+                Call::Schedule
+            },
+            shorter_too: 1 < bytes[0],
+            expected: Expected {
+                number: bytes[1] as usize,
+                more: bytes[2] == 1,
+                rows: console::two([bytes[4], bytes[5]]),
+                size: console::three([bytes[13], bytes[14], bytes[15]]),
+            },
+            name: bytes[3] as usize,
+            diagnosis: console::two([bytes[6], bytes[7]]),
+            sheet: console::two([bytes[8], bytes[9]]),
+            listing: console::three([bytes[10], bytes[11], bytes[12]]),
+        }
+    }
+}

@@ -1,0 +1,62 @@
+// The lines of a refusal (FORMAT 9.4).
+use crate::words::{Name, Word, Words};
+use std::fmt;
+
+// The line that a refusal begins with.
+#[derive(Clone, Copy)]
+pub struct Refused(pub usize);
+
+impl fmt::Display for Refused {
+    fn fmt<W: fmt::Write>(&self, f: &mut fmt::Formatter<W>) -> fmt::Result {
+        let number = self.0;
+        writeln!(f, "refused {number}")
+    }
+}
+
+// The bytes of a row: its kind, the two of each of its names, and a word.
+const ROW: usize = 6;
+
+// Stands in a row for a word that is absent.
+const ABSENT: u8 = 255;
+
+// A diagnosis slice in the words of its sheet: how many rows were written into it, and whether there are more.
+#[derive(Clone, Copy)]
+pub struct Diagnosis<'a> {
+    pub words: &'a Words,
+    pub written: &'a [u8],
+    pub rows: usize,
+    pub more: bool,
+}
+
+impl<'a> Diagnosis<'a> {
+    fn word(&self, n: u8) -> Option<Word<'a>> {
+        if n == ABSENT {
+            None
+        } else {
+            Some(self.words.word(n as usize))
+        }
+    }
+
+    fn name(&self, first: u8, second: u8) -> Name<'a> {
+        Name {
+            first: self.word(first),
+            second: self.word(second),
+        }
+    }
+}
+
+impl fmt::Display for Diagnosis<'_> {
+    fn fmt<W: fmt::Write>(&self, f: &mut fmt::Formatter<W>) -> fmt::Result {
+        let (rows, _) = self.written.as_chunks::<ROW>();
+        for [kind, a, b, c, d, e] in rows.iter().take(self.rows) {
+            let subject = self.name(*a, *b);
+            let other = self.name(*c, *d);
+            let word = self.name(*e, ABSENT);
+            writeln!(f, "D {kind} {subject} {other} {word}")?;
+        }
+        if self.more {
+            f.write_str("more\n")?;
+        }
+        Ok(())
+    }
+}
