@@ -9,31 +9,21 @@ use Rattle.definitions.specs.Bits.{size}
 use Rattle.definitions.specs.Records.{Row, Sheet}
 use Rattle.definitions.specs.Map.{TypeMap, type_map_of}
 use Rattle.definitions.specs.Order.{has_order, organize_type_map}
-use Rattle.definitions.specs.OrderRows.{order_rows}
 use Rattle.definitions.specs.Synthesis.{synthesis}
 use Rattle.definitions.specs.Packing.{order_bits, schedule_bits}
 use Rattle.definitions.specs.Answer.{Call, order, schedule, schedule_of}
 use Rattle.line_laws.specs.Statements.{Readable, line_map, any_refused}
 use Rattle.synthesis_laws.specs.Rows.{rows-are-tested}
-use Rattle.ordering.specs.declared.Parents.{Parents}
-use Rattle.ordering.specs.Reading.{Reads}
-use Rattle.diagnosis.specs.Reported.{Reported}
-use Rattle.order_compact.specs.Reading.{Drawn, Compacts}
+use Rattle.sheet_draft.specs.declared.Draft.{Draft}
+use Rattle.catalogue.specs.declared.Catalogue.{Catalogue}
+use Rattle.order_compact.specs.Reading.{Drawn}
 use Rattle.order_listing.specs.Listing.{Listing}
 use Rattle.synthesis.specs.Synthesized.{Written}
 use Rattle.answers.specs.Answers.{Answer, parts, answer_of, Answered}
 use Rattle.answers.specs.TellingLaws.{answered, answered-as}
-use Rattle.access.specs.Ending.{diagnosed, listed, ended, Unordered}
+use Rattle.access.specs.Ending.{listed, ended, Unordered}
 
 -- ---- the parts that both calls have
-
--- 8
-pub diagnosed-so : (t d entries : List ℕ) (n w : ℕ) (p : Parents) (b b' : List ℕ) (rows : ℕ) (more : Bool) (a : Answer) → Compacts t d entries n w p → Reported p 256 b b' rows more
-    → answer_of a ≡ parts 8 0 rows more → Unordered t d entries n w b b' a
-diagnosed-so t d entries n w p b b' rows more a c q f = record { due = λ m e l. answered a _ l b' _ f (eight m (c.reads m e) l) }
-  where
-    eight : (m : TypeMap) → Reads p m → (l : List ℕ) → record { answer = parts 8 0 rows more; listing = l; diagnosis = b' } ≡ diagnosed 8 (order_rows m) l b
-    eight m e l = rw (q.written m e, q.counted m e, q.rest m e)
 
 -- 10 and acceptance
 pub listed-so : (bits : List Bool) (l l' d : List ℕ) (a : Answer) → Listing l l' bits a → Answered a l' d (listed bits l d)
@@ -43,7 +33,7 @@ listed-so bits l l' d a q = answered a _ l' d _ q.answer due
     due = by (ltb (length l) (size (length bits))) (λ s. rw (q.listing, s)) (λ s. rw (q.listing, s))
 
 -- 8 is due to either call where there is no order
-pub unordered-so : (call : Call) (t d entries : List ℕ) (n w : ℕ) (m : TypeMap) → Drawn m t d entries n w → (l b b' : List ℕ) (a : Answer) → has_order m ≡ false
+pub unordered-so : (call : Call) (t : Catalogue) (d : Draft) (entries : List ℕ) (n w : ℕ) (m : TypeMap) → Drawn m t d entries n w → (l b b' : List ℕ) (a : Answer) → has_order m ≡ false
     → Unordered t d entries n w b b' a → Answered a l b' (ended call m l b)
 unfolding ended
 unordered-so call t d entries n w m e l b b' a f q = answered-as a l b' _ _ (q.due m e l) (sym (rw f))

@@ -8,6 +8,8 @@ use Rattle.definitions.specs.Order.{has_order}
 use Rattle.definitions.specs.OrderRows.{order_rows}
 use Rattle.definitions.specs.Packing.{row_bytes}
 use Rattle.definitions.specs.Answer.{Call, Outcome, schedule_of, bits_written, synthesis_rows, overwrite}
+use Rattle.sheet_draft.specs.declared.Draft.{Draft}
+use Rattle.catalogue.specs.declared.Catalogue.{Catalogue}
 use Rattle.order_compact.specs.Reading.{Drawn}
 use Rattle.answers.specs.Answers.{Answer, parts, Answered}
 
@@ -41,5 +43,5 @@ ended call m listing diagnosis =
 -- ---- what the parts of the code leave
 
 -- 8, for every map that the draft has
-pub record Unordered (t d entries : List ℕ) (n w : ℕ) (entry exit : List ℕ) (r : Answer) : Type 0 where
+pub record Unordered (t : Catalogue) (d : Draft) (entries : List ℕ) (n w : ℕ) (entry exit : List ℕ) (r : Answer) : Type 0 where
   pub due : (m : TypeMap) → Drawn m t d entries n w → (listing : List ℕ) → Answered r listing exit (diagnosed 8 (order_rows m) listing entry)

@@ -15,7 +15,9 @@ use Rattle.synth_places.specs.PlaceLaws.{readable, noted}
 use Rattle.sheet_extensions.specs.Records as extensions
 use Rattle.sheet_decode.specs.declared.Decoding.{Decoding}
 use Rattle.sheet_decode.specs.Decodes.{Whole}
+use Rattle.sheet_draft.specs.declared.Draft.{Draft}
 use Rattle.catalogue.specs.Catalogue.{Catalogued}
+use Rattle.catalogue.specs.declared.Catalogue.{Catalogue}
 use Rattle.order_parents.specs.MapLaws.{parent-sets, childed-are}
 use Rattle.order_compact.specs.Compact.{Drafts}
 use Rattle.order_compact.specs.Reading as compact
@@ -36,15 +38,12 @@ use Rattle.access.specs.EndLaws.{rows-so}
 
 -- ---- the rows of 9
 
-module _ (bytes d entries t : List ℕ) (n : Decoding) (s : Sheet) (f : FilledFor s bytes d entries t n) where
+module _ (bytes : List ℕ) (d : Draft) (entries : List ℕ) (t : Catalogue) (n : Decoding) (s : Sheet) (f : FilledFor s bytes d entries t n) where
   abbrev bs : List Bool
   bs = bits_of bytes
 
   pub drafts : Drafts d entries n.count
   drafts = drafts-of s bs d entries n.count f.drawn.drafted f.drawn.entered.long f.drawn.sorted f.drawn.within
-
-  pub width_fits : (0 < n.width) × (n.width < 256)
-  width_fits = (omega (arith, f.width, f.drawn.within.least), omega (arith, f.width, f.drawn.within.words))
 
   pub standing : places.Readable n.width (bits_of bytes) d entries n.count
   standing = subst (λ (W : ℕ). places.Readable W bs d entries n.count) (sym f.width) (readable s bs d entries n.count f.drawn)
@@ -66,7 +65,7 @@ module _ (bytes d entries t : List ℕ) (n : Decoding) (s : Sheet) (f : FilledFo
         known = record { readable = f.drawn.readable; within = f.drawn.within; listed = f.catalogued.listed };
       }
 
-pub rows-due : (bytes d entries t : List ℕ) (n : Decoding) (p : Parents) (notes : List ℕ) → Compacts t d entries n.count n.own p
+pub rows-due : (bytes : List ℕ) (d : Draft) (entries : List ℕ) (t : Catalogue) (n : Decoding) (p : Parents) (notes : List ℕ) → Compacts t d entries n.count n.own p
     → places.Numbered n.width (bits_of bytes) d entries n.count notes → (b b' : List ℕ) (count : ℕ) (more : Bool) (a : Answer)
     → Synthesized t (bits_of bytes) notes p b b' count more → answer_of a ≡ parts 9 0 count more → RowsDue bytes d entries t n b b' a
 rows-due bytes d entries t n p notes c k b b' count more a q u = record {
@@ -75,7 +74,7 @@ rows-due bytes d entries t n p notes c k b b' count more a q u = record {
 
 -- ---- the catalogue
 
-module _ (bytes d entries t : List ℕ) (n : Decoding) (w : Whole bytes d entries t n) (u places : List ℕ) (r : Placing) (o : Looked d entries t u n places true r) where
+module _ (bytes : List ℕ) (d : Draft) (entries : List ℕ) (t : Catalogue) (n : Decoding) (w : Whole bytes d entries t n) (u : Catalogue) (places : List ℕ) (r : Placing) (o : Looked d entries t u n places true r) where
   abbrev s : Sheet
   s = w.s
 
@@ -90,9 +89,11 @@ module _ (bytes d entries t : List ℕ) (n : Decoding) (w : Whole bytes d entrie
   records : tabulate (record_in u) n.extensions ≡ s.extensions
   unfolding extensions.records_in extensions.record_in
   records =
-      records-stand s t u n.extensions (tables.within bytes d entries t n w)
+      records-stand s t u n.extensions
       (tabulate-same (record_in t) (extensions.record_in t) n.extensions (λ e h. record-as t e) ∙ w.extensions.records)
-      (λ i a b. o.put.kept.after i (omega arith) ∙ o.names.behind i a b)
+      (ap (λ (x : Catalogue). x.extension_keys) o.put.kept ∙ ap (λ (x : Catalogue). x.extension_keys) o.names.kept)
+      (ap (λ (x : Catalogue). x.extension_counts) o.put.kept ∙ ap (λ (x : Catalogue). x.extension_counts) o.names.kept)
+      (ap (λ (x : Catalogue). x.extension_parents) o.put.kept ∙ ap (λ (x : Catalogue). x.extension_parents) o.names.kept)
 
   word-is : n.resource ≡ m.resource
   unfolding type_map_of
@@ -104,7 +105,6 @@ module _ (bytes d entries t : List ℕ) (n : Decoding) (w : Whole bytes d entrie
       let p = parent-sets m d entries n.count (n.own * 256) o.named u o.parents q o.put in
       let c = childed-are m d entries n.count (n.own * 256) o.named u o.parents q o.put in
       record {
-        long = o.put.kept.long ∙ o.names.long ∙ w.extensions.long;
         drawn = tables.drawn bytes d entries t n w;
         wide = w.width;
         word = word-is;
@@ -121,7 +121,7 @@ module _ (bytes d entries t : List ℕ) (n : Decoding) (w : Whole bytes d entrie
   pub has-order : has_order (type_map_of w.s) ≡ true
   has-order = tables.found-is bytes d entries t n w u places true r o
 
-  module _ (k : Known) (q : k ≡ known_of n r) (v : List ℕ) (lost b : Bool) (g : Fills (bits_of bytes) d entries places u k v lost) (x : Decides v lost b) where
+  module _ (k : Known) (q : k ≡ known_of n r) (v : Catalogue) (lost b : Bool) (g : Fills (bits_of bytes) d entries places u k v lost) (x : Decides v lost b) where
     filled : Fills (bits_of bytes) d entries places u (known_of n r) v lost
     filled = subst (λ (y : Known). Fills (bits_of bytes) d entries places u y v lost) q g
 

@@ -1,5 +1,5 @@
 -- What the tables say of the map, at each step of a call.
-use Rattle.std.specs.Prelude.{Bool, true, false, List, map, ◌≡◌, refl, ℕ, zero, suc, ◌*◌, ◌≤◌, ◌<◌, length}
+use Rattle.std.specs.Prelude.{Bool, true, List, map, ◌≡◌, refl, ℕ, zero, suc, ◌*◌, ◌≤◌, ◌<◌, length}
 use Rattle.std.proofs.Math.Path.{sym, ap}
 use Rattle.std.proofs.Common.{◌∙◌, arith}
 use Rattle.std.proofs.Math.ListN.{get_or}
@@ -18,12 +18,13 @@ use Rattle.ordering.specs.Lists.{tab}
 use Rattle.ordering.specs.Reading.{type_at}
 use Rattle.ordering.specs.Compact.{Within}
 use Rattle.sheet_draft.specs.Draft.{parent_at, parent_count_at}
+use Rattle.sheet_draft.specs.declared.Draft.{Draft}
 use Rattle.sheet_types.specs.Rows.{is_done}
 use Rattle.sheet_order.specs.RowLaws.{rows-by-name}
 use Rattle.sheet_decode.specs.declared.Decoding.{Decoding}
 use Rattle.sheet_decode.specs.Decodes.{Whole}
 use Rattle.catalogue.specs.Layout.{key_at}
-use Rattle.catalogue.specs.Kept.{kept-none}
+use Rattle.catalogue.specs.declared.Catalogue.{Catalogue}
 use Rattle.catalogue.specs.Catalogue.{name_of_key}
 use Rattle.item_names.specs.Names.{NamesPut}
 use Rattle.item_entries.specs.Entries.{firsts_of, seconds_of, KeysFit}
@@ -55,7 +56,7 @@ done_at : {A : Type 0} (p : Parsed A) → is_done p ≡ true → (a : A) × (res
 done_at (done a rest) e = (a, rest, refl)
 done_at (refused r) e = never e refl
 
-module _ (bytes d entries t : List ℕ) (n : Decoding) (w : Whole bytes d entries t n) where
+module _ (bytes : List ℕ) (d : Draft) (entries : List ℕ) (t : Catalogue) (n : Decoding) (w : Whole bytes d entries t n) where
   abbrev s : Sheet
   s = w.s
 
@@ -104,7 +105,7 @@ module _ (bytes d entries t : List ℕ) (n : Decoding) (w : Whole bytes d entrie
   self-is = w.self
 
   -- a table with the names
-  module _ (u : List ℕ) (r : ℕ) (ns : NamesStand (firsts_of entries) (seconds_of entries) n.count n.width u r) where
+  module _ (u : Catalogue) (r : ℕ) (ns : NamesStand (firsts_of entries) (seconds_of entries) n.count n.width u r) where
     looks : (a k : ℕ) → a < n.count → k < parent_count_at d (row_of entries a) → Looks m u (parent_at d (row_of entries a) k)
     looks a k h l =
         let small = parents-small s bs d entries n.count drawn a k h l in
@@ -123,13 +124,13 @@ module _ (bytes d entries t : List ℕ) (n : Decoding) (w : Whole bytes d entrie
     }
 
   -- the table behind the names, and behind the parents
-  module _ (named new : List ℕ) (words : ℕ) (f : Found) (p : NamesPut (firsts_of entries) (seconds_of entries) n.count n.width t named words)
+  module _ (named new : Catalogue) (words : ℕ) (f : Found) (p : NamesPut (firsts_of entries) (seconds_of entries) n.count n.width t named words)
       (q : ParentsPut d entries (n.own * 256) n.count named new f) where
     before : NamesStand (firsts_of entries) (seconds_of entries) n.count n.width named words
-    before = names_stand _ _ _ _ t named named words 256 320 w.drafted.few p (kept-none 256 320 named) (omega arith) (omega arith)
+    before = names_stand _ _ _ _ t named named words p refl
 
     pub stand : NamesStand (firsts_of entries) (seconds_of entries) n.count n.width new words
-    stand = names_stand _ _ _ _ t named new words 256 320 w.drafted.few p q.kept (omega arith) (omega arith)
+    stand = names_stand _ _ _ _ t named new words p (rw q.kept refl)
 
     pub rows_before : Rows (type_map_of w.s) d entries n.count (n.own * 256) named
     rows_before = listed-rows named words before
@@ -155,7 +156,7 @@ module _ (bytes d entries t : List ℕ) (n : Decoding) (w : Whole bytes d entrie
         ∙ rows.name-of-listed s bs d entries n.count drawn a h
 
     -- the names in the order, in a table that has the names
-    names-as : (places u : List ℕ) (b : Bool) → ((a : ℕ) → a < n.count → name_of_key (key_at u a) ≡ (type_at m a).name) → Organized new n.count f.whole places b → b ≡ true
+    names-as : (places : List ℕ) (u : Catalogue) (b : Bool) → ((a : ℕ) → a < n.count → name_of_key (key_at u a) ≡ (type_at m a).name) → Organized new n.count f.whole places b → b ≡ true
         → names_in u places n.count ≡ organize_type_map m
     unfolding names_in
     names-as places u b k o e =
@@ -165,7 +166,7 @@ module _ (bytes d entries t : List ℕ) (n : Decoding) (w : Whole bytes d entrie
         ∙ o.names m holds e
 
   -- an order that was looked for, and is there or is not
-  module _ (u places : List ℕ) (found : Bool) (r : Placing) (o : Looked d entries t u n places found r) where
+  module _ (u : Catalogue) (places : List ℕ) (found : Bool) (r : Placing) (o : Looked d entries t u n places found r) where
     pub sketch : compact.Drawn (type_map_of w.s) u d entries n.count n.own
     sketch = sketched o.named u r.words o.parents o.names o.put
 
@@ -173,11 +174,11 @@ module _ (bytes d entries t : List ℕ) (n : Decoding) (w : Whole bytes d entrie
     found-is = sym (o.organized.found m (holds o.named u r.words o.parents o.names o.put))
 
   -- one that was found
-  module _ (u places : List ℕ) (r : Placing) (o : Looked d entries t u n places true r) where
+  module _ (u : Catalogue) (places : List ℕ) (r : Placing) (o : Looked d entries t u n places true r) where
     pub placed-in : Placed places n.count
     placed-in = record { few = w.drafted.few; place = λ i h. omega (arith, o.organized.within refl i h, w.drafted.few) }
 
-    pub names_in_lem : (v : List ℕ) → ((a : ℕ) → a < n.count → name_of_key (key_at v a) ≡ (type_at (type_map_of w.s) a).name) → names_in v places n.count ≡ organize_type_map (type_map_of w.s)
+    pub names_in_lem : (v : Catalogue) → ((a : ℕ) → a < n.count → name_of_key (key_at v a) ≡ (type_at (type_map_of w.s) a).name) → names_in v places n.count ≡ organize_type_map (type_map_of w.s)
     names_in_lem v k = names-as o.named u r.words o.parents o.names o.put places v true k o.organized refl
 
     pub bits_are : order_in u places n.count ≡ order_bits (organize_type_map (type_map_of w.s))

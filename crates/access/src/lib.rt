@@ -5,7 +5,6 @@ ghost use Rattle.std.specs.Prelude.{◌≡◌, ◌≤◌, length};
 ghost use Rattle.definitions.specs.Records.{Sheet};
 ghost use Rattle.definitions.specs.Answer.{most_row_bytes, outcome};
 ghost use Rattle.order_compact.specs.Compact.{Drafts};
-ghost use Rattle.sheet_decode.specs.Lists.{Tables};
 ghost use Rattle.sheet_decode.specs.Decodes.{Whole};
 ghost use Rattle.answers.specs.Answers.{answer_of, Answered, order_input, schedule_input};
 ghost use Rattle.access.specs.Ending.{Unordered};
@@ -13,13 +12,16 @@ ghost use Rattle.access.specs.Lines.{LinesListed};
 ghost use Rattle.access.specs.Tables.{Takes, Decoded, Organizes, Ordered, known_of, FilledFor, RowsDue, Scheduled};
 
 use answers::{Answer, Refusal};
+use catalogue::Catalogue;
 use item_draft::Known;
+use ordering::Parents;
 use sheet_decode::Decoding;
+use sheet_draft::Draft;
 
 // 8: the map has no order; its rows are written (FORMAT 8.3 to 8.5).
 fn no_order(
-    t: &[u64; 1544],
-    d: &[u64; 704],
+    t: &Catalogue,
+    d: &Draft,
     entries: &[u64; 64],
     n: Decoding,
     diagnosis: &mut [u8],
@@ -28,7 +30,7 @@ fn no_order(
     requires most_row_bytes_in_bounds { most_row_bytes ≤ length diagnosis.old }
     ensures { Unordered t.now d.now entries.now n.count n.own diagnosis.old diagnosis.new result }
 {
-    let mut l = order_table::blank();
+    let mut l = Parents::blank();
     order_compact::fill(&mut l, t, d, entries, n.count, n.own);
     let report = diagnosis::diagnose(&l, diagnosis, answers::ROWS);
     Err(Refusal::NoOrder(report))
@@ -38,12 +40,10 @@ fn no_order(
 fn take(
     sheet: &[u8],
     room: usize,
-    d: &mut [u64; 704],
+    d: &mut Draft,
     entries: &mut [u64; 64],
-    t: &mut [u64; 1544],
+    t: &mut Catalogue,
 ) -> Result<Decoding, Refusal>
-    requires tables { Tables d.old t.old }
-    requires entries_len { length entries.old ≡ 64 }
     ensures { Takes sheet.now room d.new entries.new t.new result }
 {
     answers::refused_early(sheet.len(), room)?;
@@ -59,14 +59,13 @@ struct Placing {
 
 // Puts the names and the parents of the types into the catalogue, and looks for the order.
 fn organize(
-    t: &mut [u64; 1544],
-    d: &[u64; 704],
+    t: &mut Catalogue,
+    d: &Draft,
     entries: &[u64; 64],
     n: Decoding,
     places: &mut [u64; 64],
 ) -> Option<Placing>
     requires decoded { Decoded d.now entries.now t.old n }
-    requires places_len { length places.old ≡ 64 }
     ensures { Organizes d.now entries.now t.old t.new n places.new result }
 {
     let words = item_entries::put_names(t, entries, n.count, n.width);
@@ -82,8 +81,8 @@ fn organize(
 
 // Writes the order, if there is one: 8, 10 or acceptance.
 fn end_order(
-    t: &mut [u64; 1544],
-    d: &[u64; 704],
+    t: &mut Catalogue,
+    d: &Draft,
     entries: &[u64; 64],
     n: Decoding,
     listing: &mut [u8],
@@ -104,9 +103,9 @@ fn end_order(
 pub fn order(sheet: &[u8], listing: &mut [u8], diagnosis: &mut [u8]) -> Answer
     ensures { Answered result listing.new diagnosis.new (outcome (order_input sheet.now listing.old diagnosis.old)) }
 {
-    let mut d = sheet_draft::blank();
+    let mut d = Draft::blank();
     let mut entries = [0u64; 64];
-    let mut t = catalogue::blank();
+    let mut t = Catalogue::blank();
     let n = take(sheet, diagnosis.len(), &mut d, &mut entries, &mut t)?;
     end_order(&mut t, &d, &entries, n, listing, diagnosis)
 }
@@ -128,8 +127,8 @@ fn known(n: Decoding, o: Placing) -> Known
 // 9: a type is refused; the rows of the synthesis are written (FORMAT 8.6 to 8.11). The catalogue of the map is filled.
 fn type_refused(
     sheet: &[u8],
-    t: &[u64; 1544],
-    d: &[u64; 704],
+    t: &Catalogue,
+    d: &Draft,
     entries: &[u64; 64],
     n: Decoding,
     diagnosis: &mut [u8],
@@ -138,7 +137,7 @@ fn type_refused(
     requires most_row_bytes_in_bounds { most_row_bytes ≤ length diagnosis.old }
     ensures { RowsDue sheet.now d.now entries.now t.now n diagnosis.old diagnosis.new result }
 {
-    let mut l = order_table::blank();
+    let mut l = Parents::blank();
     order_compact::fill(&mut l, t, d, entries, n.count, n.own);
     let mut notes = [0u64; 64];
     synth_places::fill(&mut notes, sheet, d, entries, n.count, n.width);
@@ -150,8 +149,8 @@ fn type_refused(
 // where a class was lost while it was filled; the synthesis runs only to write the rows.
 fn end_schedule(
     sheet: &[u8],
-    t: &mut [u64; 1544],
-    d: &[u64; 704],
+    t: &mut Catalogue,
+    d: &Draft,
     entries: &[u64; 64],
     n: Decoding,
     listing: &mut [u8],
@@ -181,9 +180,9 @@ pub fn schedule(sheet: &[u8], listing: &mut [u8], diagnosis: &mut [u8]) -> Answe
     ensures answered { Answered result listing.new diagnosis.new (outcome (schedule_input sheet.now listing.old diagnosis.old)) }
     ensures lines_listed { LinesListed sheet.now listing.old listing.new (answer_of result).number }
 {
-    let mut d = sheet_draft::blank();
+    let mut d = Draft::blank();
     let mut entries = [0u64; 64];
-    let mut t = catalogue::blank();
+    let mut t = Catalogue::blank();
     let n = take(sheet, diagnosis.len(), &mut d, &mut entries, &mut t)?;
     end_schedule(sheet, &mut t, &d, &entries, n, listing, diagnosis)
 }

@@ -10,7 +10,7 @@ ghost use Rattle.annotations.specs.Reading.{Held, doms_of, resources_in, info_of
 
 use rows::Row;
 
-// An annotation by value (01: 'a kind beside flat arrays'): the kind's number, the word of an Alias or the tag of a Derive,
+// An annotation by value: the number that a sheet gives its kind (FORMAT 2.7), the word of an Alias or the tag of a Derive,
 // and the resources of an associate, words ascending, each with its dom set as a row of bits: 0 is none, d + 1 the word d.
 // The names of an Inherit stand there as well, `a.b` as the word b with the dom a.
 #[derive(Clone, Copy)]
@@ -30,7 +30,7 @@ pub enum Overlap {
     ByWord,
 }
 
-// By the two kinds alone (01: 'kind pairs is a match'), which have the numbers that a sheet gives them (FORMAT 2.7).
+// By the two kinds alone, which have the numbers that a sheet gives them (FORMAT 2.7).
 pub fn overlap_of(k: u8, j: u8) -> Overlap
     requires { (k < 7) × (j < 7) }
     ensures { as_overlap result ≡ get_or (get_or overlaps k []) j nothing }
@@ -109,7 +109,7 @@ pub fn overlap_of(k: u8, j: u8) -> Overlap
     }
 }
 
-// Whether the two have the same Alias, or neither has one.
+// Whether the two have the same Alias, or neither has one: the law's test, which is no equality of the structs.
 pub fn same_alias(x: AnnotationInfo, y: AnnotationInfo) -> bool
     requires { Held x × Held y }
     ensures { result ≡ same_alias (info_of x) (info_of y) }
@@ -182,7 +182,8 @@ pub fn shared_resources(x: AnnotationInfo, y: AnnotationInfo) -> AnnotationInfo
     }
 }
 
-// The resources of x whose words y has not (FORMAT 8.8). A resource is stored at k, and k moves on if it stays.
+// The resources of x whose words y has not (FORMAT 8.8). A resource is stored at k, and k moves on if it stays. One function
+// for both would take a flag that turns the test and says whether doms are united; the law has two, `shared` and `less`.
 pub fn less_resources(x: AnnotationInfo, y: AnnotationInfo) -> AnnotationInfo
     requires { Held x × Held y }
     ensures { With x (less (resources_in x) (resources_in y)) result }

@@ -6,16 +6,17 @@ use Rattle.definitions.specs.Records as records
 use Rattle.definitions.specs.Records.{Item, Sheet}
 use Rattle.definitions.specs.Map.{LineType, LineMap}
 use Rattle.definitions.specs.Synthesis.{Verdict, unknown_classes, ends, no_resource, duplicate, makes, judge, class_row, is_duplicate, with_making}
-use Rattle.definitions.specs.Answer.{most_rows}
 use Rattle.line_laws.specs.Statements.{line_map}
 use Rattle.law_classes.specs.Sets.{type_at}
+use Rattle.catalogue.specs.declared.Catalogue.{Catalogue}
 use Rattle.synth_classes.specs.declared.Site.{Site}
 use Rattle.synth_classes.specs.declared.Origin.{Origin}
 use Rattle.synth_classes.specs.Made.{classes_of, created}
 use Rattle.synth_classes.specs.Known.{Known}
 use Rattle.interpretation.specs.Emit.{emit}
 use Rattle.interpretation.specs.Judged.{is_unknown, is_other}
-use Rattle.duplicates.specs.Held.{Makings, makings_in, held_items}
+use Rattle.duplicates.specs.declared.Makings.{Makings}
+use Rattle.duplicates.specs.Held.{held_items}
 use Rattle.associates.specs.declared.Progress.{Progress}
 use Rattle.associates.specs.declared.Standing.{Standing}
 use Rattle.associates.specs.declared.Standing.TheVariants.{Going, Failed, Ended}
@@ -38,8 +39,8 @@ ended_in Going = false
 ended_in Failed = false
 ended_in Ended = true
 
-abbrev pub reached : Progress → List ℕ → Reached
-reached p numbers = record { failed = failed_in p.standing; ended = ended_in p.standing; rows = p.rows; made = makings_in numbers p.made }
+abbrev pub reached : Progress → Makings → Reached
+reached p made = record { failed = failed_in p.standing; ended = ended_in p.standing; rows = p.rows; made = made }
 
 -- the rows that a verdict adds
 abbrev pub rows_in : LineType → ℕ → Verdict → List records.Row
@@ -90,8 +91,8 @@ pub record SteppedBy (m : LineMap) (T r : ℕ) (doms : Row) (ps limit : ℕ) (s 
 abbrev pub SteppedIn : LineMap → ℕ → ℕ → Row → ℕ → ℕ → Reached → List ℕ → Reached → List ℕ → Type 0
 SteppedIn m T r doms ps limit s b p b' = SteppedBy m T r doms ps limit s b p b' (verdict_of m T r doms ps s.failed (items_held m T s.made))
 
--- the same for every sheet whose catalogue the table is; at most one making was added
-pub record Stepped (t : List ℕ) (site : Site) (o : Origin) (limit : ℕ) (s : Reached) (b : List ℕ) (p : Reached) (b' : List ℕ) : Type 0 where
+-- the same for every sheet whose catalogue it is; at most one making was added
+pub record Stepped (t : Catalogue) (site : Site) (o : Origin) (limit : ℕ) (s : Reached) (b : List ℕ) (p : Reached) (b' : List ℕ) : Type 0 where
   pub count : p.made.count ≤ s.made.count + 1
   pub right : (x : Sheet) → Known x t → site.place < length (line_map x).types
       → SteppedIn (line_map x) site.place site.word o.doms o.parents limit s b p b'
@@ -102,4 +103,3 @@ pub record Ready (site : Site) (limit : ℕ) (s : Reached) (b : List ℕ) : Type
   pub word : site.word < 255
   pub room : s.made.count < 380
   pub slice : 6 * limit ≤ length b
-  pub few : limit ≤ most_rows

@@ -17,6 +17,7 @@ use Rattle.definitions.specs.Synthesis.{Verdict, unknown_classes, ends, no_resou
 use Rattle.fields.specs.Fields.{two_words}
 use Rattle.line_laws.specs.Statements.{line_map}
 use Rattle.law_classes.specs.Sets.{type_at}
+use Rattle.catalogue.specs.declared.Catalogue.{Catalogue}
 use Rattle.synth_classes.specs.declared.Site.{Site}
 use Rattle.synth_classes.specs.declared.Origin.{Origin}
 use Rattle.synth_classes.specs.Classes.{unknown_at, other_at}
@@ -26,7 +27,8 @@ use Rattle.synth_classes.specs.Known.{Known, name-known}
 use Rattle.interpretation.specs.Emit.{emit_bytes, emit, name-bytes}
 use Rattle.interpretation.specs.Judged.{is_unknown, is_other, unknown_doms, name_in, unknown_row}
 use Rattle.interpretation.specs.JudgedLaws.{row-bytes, unknown-classes, other-classes, first-with, first-without}
-use Rattle.duplicates.specs.Held.{Makings, Keeps, Repeated}
+use Rattle.duplicates.specs.declared.Makings.{Makings}
+use Rattle.duplicates.specs.Held.{Keeps, Repeated}
 use Rattle.emitting.specs.Emitting.{State}
 use Rattle.emitting.specs.Emitting as emitting
 use Rattle.associates.specs.Step.{Reached, items_held, verdict_of, SteppedBy, Stepped}
@@ -97,12 +99,12 @@ by-verdict {t} {T} {r} {doms} {ps} {limit} {s} {b} {p} {b'} e x = subst (λ z. S
 -- ---- the steps
 
 -- whether there is an unknown class
-pub some-unknown : (t : List ℕ) (doms : Row) (w : ℕ) (r : Option ℕ) → r ≡ find (unknown_at t w) (below (has doms) 201) → is_some r ≡ true → null (unknown_doms t doms w) ≡ false
+pub some-unknown : (t : Catalogue) (doms : Row) (w : ℕ) (r : Option ℕ) → r ≡ find (unknown_at t w) (below (has doms) 201) → is_some r ≡ true → null (unknown_doms t doms w) ≡ false
 unfolding unknown_doms
 some-unknown t doms w (Some d) e h = ap null (found-first doms (unknown_at t w) d (sym e)).1
 some-unknown t doms w None e h = never h refl
 
-pub none-unknown : (t : List ℕ) (doms : Row) (w : ℕ) (r : Option ℕ) → r ≡ find (unknown_at t w) (below (has doms) 201) → is_some r ≡ false → null (unknown_doms t doms w) ≡ true
+pub none-unknown : (t : Catalogue) (doms : Row) (w : ℕ) (r : Option ℕ) → r ≡ find (unknown_at t w) (below (has doms) 201) → is_some r ≡ false → null (unknown_doms t doms w) ≡ true
 unfolding unknown_doms
 none-unknown t doms w (Some d) e h = never refl h
 none-unknown t doms w None e h = ap null (found-none doms (unknown_at t w) (sym e))
@@ -111,7 +113,7 @@ null-map : {A B : Type 0} (f : A → B) (l : List A) → null (map f l) ≡ null
 null-map f [] = refl
 null-map f (x ∷ l) = refl
 
-module _ (t : List ℕ) (site : Site) (o : Origin) (limit : ℕ) (s : Reached) (b : List ℕ) (hw : site.word < 255) where
+module _ (t : Catalogue) (site : Site) (o : Origin) (limit : ℕ) (s : Reached) (b : List ℕ) (hw : site.word < 255) where
   abbrev T : ℕ
   T = site.place
 
@@ -121,7 +123,7 @@ module _ (t : List ℕ) (site : Site) (o : Origin) (limit : ℕ) (s : Reached) (
   abbrev ds : List ℕ
   ds = unknown_doms t o.doms r
 
-  -- the unknown classes of every sheet whose catalogue the table is
+  -- the unknown classes of every sheet whose catalogue it is
   unknown-null : (x : Sheet) → Known x t → null (filter (is_unknown (line_map x)) (classes_of o.doms r)) ≡ null ds
   unknown-null x k = ap null (unknown-classes x t k o.doms r hw) ∙ null-map (class_name r) ds
 

@@ -6,6 +6,8 @@ ghost use Rattle.lists.specs.Lists.{null};
 ghost use Rattle.interpretation.specs.Judged.{unknown_doms};
 ghost use Rattle.associates.specs.Step.{failed_in, reached, Ready, Stepped};
 
+use catalogue::Catalogue;
+use duplicates::Makings;
 use interpretation::Reason;
 use synth_classes::{Origin, Site};
 
@@ -19,22 +21,21 @@ pub enum Standing {
     Ended,
 }
 
-// How far an annotation is: how it stands, the count of rows, and that of the makings of its type.
+// How far an annotation is: how it stands, and the count of rows.
 #[derive(Clone, Copy)]
 pub struct Progress {
     pub standing: Standing,
     pub rows: usize,
-    pub made: usize,
 }
 
 // A word whose classes are all declared: a row of kind 5 for its first class of another variant, else one of kind 6 for a
 // duplicate, else its making (FORMAT 8.10).
 fn interpret_known(
-    t: &[u64; 1544],
+    t: &Catalogue,
     site: Site,
     origin: Origin,
     s: Progress,
-    made: &mut [u64; 2280],
+    made: &mut Makings,
     buf: &mut [u8],
     limit: usize,
 ) -> Progress
@@ -50,34 +51,31 @@ fn interpret_known(
         return Progress {
             standing: Standing::Failed,
             rows,
-            made: s.made,
         };
     }
-    if duplicates::is_duplicate(t, site, origin, made, s.made) {
+    if duplicates::is_duplicate(t, site, origin, made) {
         let reason = Reason::Duplicate;
         let rows = interpretation::put_reason(buf, limit, s.rows, subject, reason, site.word);
         return Progress {
             standing: Standing::Failed,
             rows,
-            made: s.made,
         };
     }
-    duplicates::put_making(made, s.made, site.word, origin);
+    made.push(site.word, origin);
     Progress {
         standing: Standing::Going,
         rows: s.rows,
-        made: s.made + 1,
     }
 }
 
 // One word of an annotation (FORMAT 8.10). Unknown classes have their rows and end the annotation. Behind a word with a row
 // of kind 5 or 6 the annotation ends as well, at the next word, whose unknown classes still have theirs.
 pub fn interpret_word(
-    t: &[u64; 1544],
+    t: &Catalogue,
     site: Site,
     origin: Origin,
     s: Progress,
-    made: &mut [u64; 2280],
+    made: &mut Makings,
     buf: &mut [u8],
     limit: usize,
 ) -> Progress
@@ -97,7 +95,6 @@ pub fn interpret_word(
         return Progress {
             standing: Standing::Ended,
             rows,
-            made: s.made,
         };
     }
     match s.standing {
@@ -105,7 +102,6 @@ pub fn interpret_word(
         Standing::Failed | Standing::Ended => Progress {
             standing: Standing::Ended,
             rows: s.rows,
-            made: s.made,
         },
     }
 }

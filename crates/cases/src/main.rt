@@ -8,9 +8,6 @@ use replaying::{Cases, Replayed};
 use std::io::{BufReader, BufWriter, Write};
 use std::{fmt, io};
 
-// No input has so many cases.
-const MANY: usize = 100000;
-
 // How many cases there are, how many of them agree, and how many of these are the Rust's untouched.
 #[derive(Clone, Copy)]
 struct Counts {
@@ -53,7 +50,7 @@ fn main(rt: HostRuntime) -> io::Result<()> {
         agree: 0,
         untouched: 0,
     };
-    for replayed in Cases::new(rt.alloc(), input).take(MANY) {
+    for replayed in Cases::new(rt.alloc(), input).take(replaying::MANY) {
         let replayed = replayed?;
         if !replayed.agrees {
             let place = counts.cases;

@@ -14,8 +14,8 @@ use Rattle.rows.specs.Rows.{has_bit}
 use Rattle.law_classes.specs.Sets.{some, one_word, word_of, masked, own_set, above_set, passed_set, type_at, SetIs}
 use Rattle.law_classes.specs.Numbers.{Fits}
 use Rattle.catalogue.specs.Layout.{key_at, head_at, marks_at, tally_at, parents_at, own_at, above_at, passed_at, word_at, mask_at, owner_at}
-use Rattle.catalogue.specs.Layout.{extension_key_at, extension_count_at, extension_parent_at, first_at, second_at, count_in, words_in}
-use Rattle.catalogue.specs.Layout.{extensions_in, extended_in, resource_in, resources_in, childed_in, width_in}
+use Rattle.catalogue.specs.Layout.{extension_key_at, extension_count_at, extension_parent_at, first_at, second_at}
+use Rattle.catalogue.specs.declared.Catalogue.{Catalogue}
 
 -- The words of a key: the first word times 256, and one more than the second word, or 0 where there is none. Keys ascend as names do.
 unfoldable pub name_of_key : ℕ → Name
@@ -42,13 +42,13 @@ unfoldable pub trait_head : ℕ → Bool
 trait_head h = eqb (h / 16 % 2) 1
 
 -- The parents that the records with a key add.
-unfoldable pub parents_in : List ℕ → ℕ → List Name
+unfoldable pub parents_in : Catalogue → ℕ → List Name
 parents_in t e = tabulate (λ j. name_of_key (extension_parent_at t (8 * e + j))) (extension_count_at t e)
 
-unfoldable pub added_in : List ℕ → ℕ → List Name
-added_in t key = each (parents_in t) (below (λ e. eqb (extension_key_at t e) key) (extensions_in t))
+unfoldable pub added_in : Catalogue → ℕ → List Name
+added_in t key = each (parents_in t) (below (λ e. eqb (extension_key_at t e) key) (t.extension_count))
 
-module _ (s : Sheet) (t : List ℕ) where
+module _ (s : Sheet) (t : Catalogue) where
   -- One type: its name, its flags, its marks.
   pub record Entry (a : ℕ) : Type 0 where
     pub key : key_at t a < 65536
@@ -64,12 +64,12 @@ module _ (s : Sheet) (t : List ℕ) where
   -- What stands in the table of the types alone, before sets are made.
   pub record Listed : Type 0 where
     pub few : length (line_map s).types ≤ 64
-    pub count : count_in t ≡ length (line_map s).types
+    pub count : t.count ≡ length (line_map s).types
     pub entry : (a : ℕ) → a < length (line_map s).types → Entry a
-    pub width : width_in t ≡ length s.words
-    pub resource_word : resource_in t ≡ (line_map s).resource
-    pub resources : SetIs (line_map s) (resources_in t) (λ (D : LineType). is_resource_variant D.variant)
-    pub resources_fit : Fits (line_map s) (resources_in t)
+    pub width : t.width ≡ length s.words
+    pub resource_word : t.resource ≡ (line_map s).resource
+    pub resources : SetIs (line_map s) (t.resources) (λ (D : LineType). is_resource_variant D.variant)
+    pub resources_fit : Fits (line_map s) (t.resources)
     pub first : (w : ℕ) → w < length s.words → SetIs (line_map s) (first_at t w) (λ (D : LineType). first_is w D.name)
     pub first_fits : (w : ℕ) → w < length s.words → Fits (line_map s) (first_at t w)
     pub none : SetIs (line_map s) (second_at t 0) (λ (D : LineType). one_word D.name)
@@ -79,20 +79,20 @@ module _ (s : Sheet) (t : List ℕ) where
 
   -- The words that are the last of a type's name, ascending, each with its types.
   pub record Worded : Type 0 where
-    pub few : words_in t ≤ 64
-    pub words : tabulate (word_at t) (words_in t) ≡ below (λ r. some (line_map s) (masked r)) (length s.words)
-    pub mask_fits : (k : ℕ) → k < words_in t → Fits (line_map s) (mask_at t k)
-    pub mask : (k : ℕ) → k < words_in t → SetIs (line_map s) (mask_at t k) (masked (word_at t k))
+    pub few : t.word_count ≤ 64
+    pub words : tabulate (word_at t) (t.word_count) ≡ below (λ r. some (line_map s) (masked r)) (length s.words)
+    pub mask_fits : (k : ℕ) → k < t.word_count → Fits (line_map s) (mask_at t k)
+    pub mask : (k : ℕ) → k < t.word_count → SetIs (line_map s) (mask_at t k) (masked (word_at t k))
 
   -- The extension records.
   pub record Extended : Type 0 where
-    pub few : extensions_in t ≤ 32
-    pub counts : (e : ℕ) → e < extensions_in t → extension_count_at t e ≤ 8
-    pub keys : (e : ℕ) → e < extensions_in t → extension_key_at t e < 16777216
-    pub parents : (e j : ℕ) → e < extensions_in t → j < extension_count_at t e → extension_parent_at t (8 * e + j) < 65536
+    pub few : t.extension_count ≤ 32
+    pub counts : (e : ℕ) → e < t.extension_count → extension_count_at t e ≤ 8
+    pub keys : (e : ℕ) → e < t.extension_count → extension_key_at t e < 16777216
+    pub parents : (e j : ℕ) → e < t.extension_count → j < extension_count_at t e → extension_parent_at t (8 * e + j) < 65536
     pub added : (a r : ℕ) → a < length (line_map s).types → r < length s.words
         → added_in t (key_at t a * 256 + r) ≡ extension_parents (line_map s) (type_at (line_map s) a).name r
-    pub extended : (a r : ℕ) → a < length (line_map s).types → r < length s.words → has_bit (extended_in t) a ≡ false
+    pub extended : (a r : ℕ) → a < length (line_map s).types → r < length s.words → has_bit (t.extended) a ≡ false
         → extension_parents (line_map s) (type_at (line_map s) a).name r ≡ []
 
   -- The sets of one type.
@@ -105,7 +105,7 @@ module _ (s : Sheet) (t : List ℕ) where
 
   -- The types that are a parent of one; and the type `a` of a type `a.b`.
   pub record Owned : Type 0 where
-    pub childed : SetIs (line_map s) (childed_in t) (λ (P : LineType). some (line_map s) (λ (T : LineType). T.inherits P.name))
+    pub childed : SetIs (line_map s) (t.childed) (λ (P : LineType). some (line_map s) (λ (T : LineType). T.inherits P.name))
     pub owner : (d a : ℕ) → d < length (line_map s).types → a < length (line_map s).types
         → eqb (owner_at t d) a ≡ same_name (type_at (line_map s) d).name (dotted (type_at (line_map s) a).name (word_of (type_at (line_map s) d).name))
     pub no_owner : (d : ℕ) → d < length (line_map s).types → length (line_map s).types ≤ owner_at t d → 64 ≤ owner_at t d

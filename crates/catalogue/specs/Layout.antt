@@ -1,103 +1,101 @@
--- Where what stands in the catalogue of a map.
-use Rattle.std.specs.Prelude.{List, ℕ, ◌+◌, ◌/◌, ◌%◌, get_or}
+-- What stands at a place of a column of the catalogue; 0 past its end.
+use Rattle.std.specs.Prelude.{ℕ, ◌/◌, ◌%◌, get_or, replicate}
 use Rattle.std.specs.Int.Bits.{bit_and}
+use Rattle.catalogue.specs.declared.Catalogue.{Catalogue}
 
 -- The name of a type, as a key.
-abbrev pub key_at : List ℕ → ℕ → ℕ
-key_at t a = get_or t a 0
+abbrev pub key_at : Catalogue → ℕ → ℕ
+key_at t a = get_or t.keys a 0
 
 -- Variant, virtual, trait and number of parents of a type, in the 8 bits that the sheet has them in.
-abbrev pub head_at : List ℕ → ℕ → ℕ
-head_at t a = get_or t (64 + a) 0
+abbrev pub head_at : Catalogue → ℕ → ℕ
+head_at t a = get_or t.heads a 0
 
 -- The marks of a type, as the bits that a schedule has them in.
-abbrev pub marks_at : List ℕ → ℕ → ℕ
-marks_at t a = get_or t (128 + a) 0
+abbrev pub marks_at : Catalogue → ℕ → ℕ
+marks_at t a = get_or t.marks a 0
 
 -- How many bits the marks of a type have, times 8, and how many marks there are.
-abbrev pub tally_at : List ℕ → ℕ → ℕ
-tally_at t a = get_or t (192 + a) 0
+abbrev pub tally_at : Catalogue → ℕ → ℕ
+tally_at t a = get_or t.tallies a 0
 
 -- The set of a type's parents.
-abbrev pub parents_at : List ℕ → ℕ → ℕ
-parents_at t a = get_or t (256 + a) 0
+abbrev pub parents_at : Catalogue → ℕ → ℕ
+parents_at t a = get_or t.parents a 0
 
 -- The set of the classes of a type's own Associates.
-abbrev pub own_at : List ℕ → ℕ → ℕ
-own_at t a = get_or t (320 + a) 0
+abbrev pub own_at : Catalogue → ℕ → ℕ
+own_at t a = get_or t.own a 0
 
 -- The set of the classes that a type has from above.
-abbrev pub above_at : List ℕ → ℕ → ℕ
-above_at t a = get_or t (384 + a) 0
+abbrev pub above_at : Catalogue → ℕ → ℕ
+above_at t a = get_or t.above a 0
 
 -- The set of the classes that a type passes on.
-abbrev pub passed_at : List ℕ → ℕ → ℕ
-passed_at t a = get_or t (448 + a) 0
+abbrev pub passed_at : Catalogue → ℕ → ℕ
+passed_at t a = get_or t.passed a 0
 
 -- The k-th word that is the last of a type's name; they ascend.
-abbrev pub word_at : List ℕ → ℕ → ℕ
-word_at t k = get_or t (512 + k) 0
+abbrev pub word_at : Catalogue → ℕ → ℕ
+word_at t k = get_or t.words k 0
 
 -- The set of the types whose last word the k-th word is.
-abbrev pub mask_at : List ℕ → ℕ → ℕ
-mask_at t k = get_or t (576 + k) 0
+abbrev pub mask_at : Catalogue → ℕ → ℕ
+mask_at t k = get_or t.masks k 0
 
 -- The place of the type `a` where a type's name is `a.b`, or 64 where there is none.
-abbrev pub owner_at : List ℕ → ℕ → ℕ
-owner_at t a = get_or t (640 + a) 0
+abbrev pub owner_at : Catalogue → ℕ → ℕ
+owner_at t a = get_or t.owners a 0
 
 -- The key of an extension record: that of its type, times 256, and its word.
-abbrev pub extension_key_at : List ℕ → ℕ → ℕ
-extension_key_at t e = get_or t (704 + e) 0
+abbrev pub extension_key_at : Catalogue → ℕ → ℕ
+extension_key_at t e = get_or t.extension_keys e 0
 
 -- How many parents an extension record has.
-abbrev pub extension_count_at : List ℕ → ℕ → ℕ
-extension_count_at t e = get_or t (736 + e) 0
+abbrev pub extension_count_at : Catalogue → ℕ → ℕ
+extension_count_at t e = get_or t.extension_counts e 0
 
 -- The parents of the extension records, as keys: those of record e from 8 * e on.
-abbrev pub extension_parent_at : List ℕ → ℕ → ℕ
-extension_parent_at t j = get_or t (768 + j) 0
+abbrev pub extension_parent_at : Catalogue → ℕ → ℕ
+extension_parent_at t j = get_or t.extension_parents j 0
 
 -- The set of the types whose first word is w.
-abbrev pub first_at : List ℕ → ℕ → ℕ
-first_at t w = get_or t (1024 + w) 0
+abbrev pub first_at : Catalogue → ℕ → ℕ
+first_at t w = get_or t.firsts w 0
 
 -- The set of the types whose second word is one less than w; for 0 the set of those that have none.
-abbrev pub second_at : List ℕ → ℕ → ℕ
-second_at t w = get_or t (1280 + w) 0
+abbrev pub second_at : Catalogue → ℕ → ℕ
+second_at t w = get_or t.seconds w 0
 
 -- The type that has a name, as a set of one, or of none where the name is not declared: by the words of its key (FORMAT 1.5).
-unfoldable pub looked : List ℕ → ℕ → ℕ
+unfoldable pub looked : Catalogue → ℕ → ℕ
 looked t key = bit_and (first_at t (key / 256)) (second_at t (key % 256))
 
--- How many types there are.
-abbrev pub count_in : List ℕ → ℕ
-count_in t = get_or t 1536 0
-
--- How many words are the last of a type's name.
-abbrev pub words_in : List ℕ → ℕ
-words_in t = get_or t 1537 0
-
--- How many extension records there are.
-abbrev pub extensions_in : List ℕ → ℕ
-extensions_in t = get_or t 1538 0
-
--- The set of the types that have an extension record.
-abbrev pub extended_in : List ℕ → ℕ
-extended_in t = get_or t 1539 0
-
--- The number of the word `resource`.
-abbrev pub resource_in : List ℕ → ℕ
-resource_in t = get_or t 1540 0
-
--- The set of the types of the resource variant.
-abbrev pub resources_in : List ℕ → ℕ
-resources_in t = get_or t 1541 0
-
--- The set of the types that are a parent of one.
-abbrev pub childed_in : List ℕ → ℕ
-childed_in t = get_or t 1542 0
-
--- How many words the sheet has.
-abbrev pub width_in : List ℕ → ℕ
-width_in t = get_or t 1543 0
+-- Nothing stands in it.
+unfoldable pub blank : Catalogue
+blank = record {
+  keys = replicate 64 0;
+  heads = replicate 64 0;
+  marks = replicate 64 0;
+  tallies = replicate 64 0;
+  parents = replicate 64 0;
+  own = replicate 64 0;
+  above = replicate 64 0;
+  passed = replicate 64 0;
+  owners = replicate 64 0;
+  words = replicate 64 0;
+  masks = replicate 64 0;
+  extension_keys = replicate 32 0;
+  extension_counts = replicate 32 0;
+  extension_parents = replicate 256 0;
+  firsts = replicate 256 0;
+  seconds = replicate 256 0;
+  count = 0;
+  word_count = 0;
+  extension_count = 0;
+  extended = 0;
+  resource = 0;
+  resources = 0;
+  childed = 0;
+  width = 0;
+}

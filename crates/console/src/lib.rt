@@ -14,6 +14,9 @@ pub const SHEET: usize = 65536;
 // The most bytes of a schedule: the largest that was found has 239,675 (FORMAT 6.4).
 pub const SCHEDULE: usize = 262144;
 
+// At most so many records are read of an input: each loop is proved to end, and no contract says that an input does.
+pub const MANY: usize = usize::MAX;
+
 // Two bytes as a number, the high one first.
 pub fn two(bytes: [u8; 2]) -> usize
     ensures value { result ≡ from_be_bytes w16 bytes }
@@ -37,6 +40,7 @@ pub fn read_full<R: Read>(input: &mut R, buf: &mut [u8]) -> io::Result<usize>
     ensures { IfOk result (λ n. n ≤ length buf.new) }
 {
     let mut done = 0;
+    // No range: how many bytes a read brings is not known beforehand.
     while done < buf.len() {
         let n = input.read(&mut buf[done..])?;
         if n == 0 {
@@ -52,6 +56,13 @@ pub fn read_array<R: Read, const N: usize>(input: &mut R) -> io::Result<Option<[
     let mut bytes = [0; N];
     let n = read_full(input, &mut bytes)?;
     Ok(if n == N { Some(bytes) } else { None })
+}
+
+// The next N bytes, with 0 for each that the input lacks.
+pub fn read_padded<R: Read, const N: usize>(input: &mut R) -> io::Result<[u8; N]> {
+    let mut bytes = [0; N];
+    read_full(input, &mut bytes)?;
+    Ok(bytes)
 }
 
 // The next n bytes, or None where that is more than `most` or the input ends before.
@@ -99,6 +110,16 @@ mod tests {
         assert!(rt; read_part(rt.alloc(), &mut input, 2, 1)?.is_none());
         let rest = read_up_to(rt.alloc(), &mut input, 9)?;
         assert_eq!(rt; rest.as_slice(), [6, 7].as_slice());
+        Ok(())
+    }
+
+    #[test]
+    fn pads_with_zeros(rt: HostRuntime) -> Result<(), Fail> {
+        let mut input: &[u8] = &[1, 2, 3];
+        let bytes = read_padded(&mut input)?;
+        assert_eq!(rt; two(bytes), 258);
+        let bytes = read_padded(&mut input)?;
+        assert_eq!(rt; three(bytes), 196608);
         Ok(())
     }
 }

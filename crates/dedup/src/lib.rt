@@ -9,8 +9,8 @@ ghost use Rattle.dedup.specs.Reading.{no_doms, under_place, Kept, Good, Nothing,
 use annotations::Overlap;
 use rows::Row;
 
-// An inherited annotation: the number of its kind, its words as a row of bits, and the types that it is inherited from, by their
-// places in name order.
+// An inherited annotation: the number of its kind, as `annotations` has it, its words as a row of bits, and the types that it is
+// inherited from, by their places in name order.
 #[derive(Clone, Copy)]
 pub struct Entry {
     pub kind: u8,

@@ -16,7 +16,8 @@ use Rattle.ordering.specs.Rounds.{settled, is_ready, free, next, final, final-re
 use Rattle.ordering.specs.declared.Parents.{Parents}
 use Rattle.order_placed.specs.Placing.{off}
 use Rattle.order_placed.specs.PlacingLaws.{off-step}
-use Rattle.diagnosis.specs.Rows.{Row, bad, answer, rows}
+use Rattle.emitting.specs.declared.Row.{Row}
+use Rattle.diagnosis.specs.Rows.{bad, answer, rows}
 
 answered : (p : Parents) (t : ℕ) (qs : List Parent) (later : List Row) → answer p t qs later ≡ [] → (qs ≡ []) × (later ≡ [])
 answered p t [] later e = (refl, e)

@@ -12,7 +12,8 @@ use Rattle.definitions.specs.Answer.{overwrite}
 use Rattle.ordering.specs.Reading.{Reads}
 use Rattle.ordering.specs.declared.Parents.{Parents}
 use Rattle.emitting.specs.Emitting.{State, emit-all}
-use Rattle.diagnosis.specs.Rows.{bytes, order_rows}
+use Rattle.emitting.specs.Row.{bytes_of}
+use Rattle.diagnosis.specs.Rows.{order_rows}
 use Rattle.diagnosis.specs.Emit.{emit}
 use Rattle.diagnosis.specs.Same.{rows_are}
 
@@ -34,8 +35,8 @@ each_take f g (suc n) (x ∷ a) (y ∷ b) e =
     ap₂ (λ (k l : List ℕ). k ++ l) i (each_take f g n a b j)
 
 module _ (p : Parents) (limit : ℕ) (old new : List ℕ) (n : ℕ) (h : 6 * limit ≤ length old) (e : ◌≡◌ {A = State} (new, n) (emit limit (old, 0) (order_rows p))) where
-  done : ◌≡◌ {A = State} (new, n) (overwrite (each bytes (take limit (order_rows p))) old, min (limit + 1) (length (order_rows p)))
-  done = e ∙ emit-all bytes (λ r. refl) limit old (order_rows p) h
+  done : ◌≡◌ {A = State} (new, n) (overwrite (each bytes_of (take limit (order_rows p))) old, min (limit + 1) (length (order_rows p)))
+  done = e ∙ emit-all bytes_of (λ r. refl) limit old (order_rows p) h
 
   pub total : n ≡ min (limit + 1) (length (order_rows p))
   total = ap (λ (w : State). w.1) done
@@ -43,10 +44,10 @@ module _ (p : Parents) (limit : ℕ) (old new : List ℕ) (n : ℕ) (h : 6 * lim
   pub as_written : (m : TypeMap) → Reads p m → new ≡ overwrite (each row_bytes (take limit (rules.order_rows m))) old
   as_written m r =
       ap (λ (w : State). w.0) done
-      ∙ ap (λ (b : List ℕ). overwrite b old) (sym (each_take row_bytes bytes limit (rules.order_rows m) (order_rows p) (rows_are p m r)))
+      ∙ ap (λ (b : List ℕ). overwrite b old) (sym (each_take row_bytes bytes_of limit (rules.order_rows m) (order_rows p) (rows_are p m r)))
 
   pub as_many : (m : TypeMap) → Reads p m → length (rules.order_rows m) ≡ length (order_rows p)
-  as_many m r = sym (length-map (rules.order_rows m) row_bytes) ∙ ap length (rows_are p m r) ∙ length-map (order_rows p) bytes
+  as_many m r = sym (length-map (rules.order_rows m) row_bytes) ∙ ap length (rows_are p m r) ∙ length-map (order_rows p) bytes_of
 
   pub reported : Reported p limit old new (min n limit) (ltb limit n)
   reported = record {

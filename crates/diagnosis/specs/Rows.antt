@@ -1,5 +1,5 @@
--- The diagnosis of refusal 8 over places: its rows as the bytes that are written. A path is the set of the types that are on it.
-use Rattle.std.specs.Prelude.{Bool, true, false, ◌&&◌, ◌||◌, not, cond, List, [], ◌∷◌, map, ℕ, zero, suc, ltb, get_or}
+-- The rows of the diagnosis of refusal 8, over places. A path is the set of the types that are on it.
+use Rattle.std.specs.Prelude.{Bool, true, false, ◌&&◌, ◌||◌, not, cond, List, [], ◌∷◌, map, ℕ, zero, suc, ltb, get_or, Some, None}
 use Rattle.lists.specs.Lists.{null, filter, each, first_of}
 use Rattle.rows.specs.Rows.{has_bit}
 use Rattle.bitsets.specs.Bitsets.{more}
@@ -8,28 +8,25 @@ use Rattle.ordering.specs.Reading.{Parent, listed, self_in}
 use Rattle.ordering.specs.Rounds.{placed, final, lists_self}
 use Rattle.ordering.specs.Names.{unplaced}
 use Rattle.ordering.specs.declared.Parents.{Parents}
-
--- a row as its bytes (FORMAT 8.1), but for the last: these rows have no resource word
-pub record Row : Type 0 where
-  pub kind : ℕ
-  pub first : ℕ
-  pub second : ℕ
-  pub other_first : ℕ
-  pub other_second : ℕ
-
-abbrev pub bytes : Row → List ℕ
-bytes r = r.kind ∷ r.first ∷ r.second ∷ r.other_first ∷ r.other_second ∷ 255 ∷ []
+use Rattle.emitting.specs.declared.Row.{Row}
+use Rattle.emitting.specs.declared.Kind.{Kind}
+use Rattle.emitting.specs.declared.Kind.TheVariants.{ListsSelf, ClosesCycle, UndeclaredParent}
 
 -- the row of type t and one of its parents
-abbrev pub parent_row : ℕ → Parents → ℕ → Parent → Row
-parent_row kind p t q = record { kind = kind; first = get_or p.firsts t 0; second = get_or p.seconds t 0; other_first = q.first; other_second = q.second }
+abbrev pub parent_row : Kind → Parents → ℕ → Parent → Row
+parent_row kind p t q = record {
+  kind = kind;
+  subject = record { first = get_or p.firsts t 0; second = get_or p.seconds t 0 };
+  other = Some (record { first = q.first; second = q.second });
+  word = None;
+}
 
 -- a parent that is undeclared or on the path; the path has the type itself on it
 abbrev pub bad : Parents → ℕ → Parent → Bool
 bad p path q = not (ltb q.place p.count) || has_bit path q.place
 
-abbrev pub bad_kind : Parents → Parent → ℕ
-bad_kind p q = cond (ltb q.place p.count) 2 3
+abbrev pub bad_kind : Parents → Parent → Kind
+bad_kind p q = cond (ltb q.place p.count) ClosesCycle UndeclaredParent
 
 -- the first bad parent is the only answer; where there is none, those of the parents stand one behind the other
 abbrev pub answer : Parents → ℕ → List Parent → List Row → List Row
@@ -47,7 +44,7 @@ no_parent_rows p out = each (rows p.count p 0) (unplaced p out)
 
 -- a row for each listing of `self`
 abbrev pub self_rows_of : Parents → ℕ → List Parent → List Row
-self_rows_of p t qs = map (parent_row 1 p t) (filter (self_in p) qs)
+self_rows_of p t qs = map (parent_row ListsSelf p t) (filter (self_in p) qs)
 
 unfoldable pub self_rows : Parents → List Row
 self_rows p = each (λ t. self_rows_of p t (listed p t)) (below (λ t. true) p.count)

@@ -15,7 +15,9 @@ use Rattle.ordering.specs.Rounds.{round, placed, final, lists_self, rests, earli
 use Rattle.ordering.specs.declared.Parents.{Parents}
 use Rattle.order_placed.specs.Placing.{off, Plain}
 use Rattle.order_placed.specs.PlacingLaws.{off-step}
-use Rattle.diagnosis.specs.Rows.{Row, bad, bad_kind, parent_row, answer, rows, no_parent_rows, self_rows_of, self_rows}
+use Rattle.emitting.specs.declared.Row.{Row}
+use Rattle.emitting.specs.declared.Kind.TheVariants.{ListsSelf}
+use Rattle.diagnosis.specs.Rows.{bad, bad_kind, parent_row, answer, rows, no_parent_rows, self_rows_of, self_rows}
 use Rattle.diagnosis.specs.Path.{on-all, quiet}
 
 -- the set has what all rounds place, and no type in it lists `self`
@@ -147,11 +149,11 @@ unfolding self_before self_rows
 self-all p = refl
 
 -- the rows of kind 1 of one type, with one listing more
-pub self-yes : (p : Parents) (t : ℕ) (f : ℕ → Parent) (i : ℕ) → self_in p (f i) ≡ true → self_rows_of p t (tab f (i + 1)) ≡ self_rows_of p t (tab f i) ++ (parent_row 1 p t (f i) ∷ [])
-self-yes p t f i e = ap (map (parent_row 1 p t)) (filter-tab-yes f (self_in p) i e) ∙ map-append (parent_row 1 p t) (filter (self_in p) (tab f i)) (f i ∷ [])
+pub self-yes : (p : Parents) (t : ℕ) (f : ℕ → Parent) (i : ℕ) → self_in p (f i) ≡ true → self_rows_of p t (tab f (i + 1)) ≡ self_rows_of p t (tab f i) ++ (parent_row ListsSelf p t (f i) ∷ [])
+self-yes p t f i e = ap (map (parent_row ListsSelf p t)) (filter-tab-yes f (self_in p) i e) ∙ map-append (parent_row ListsSelf p t) (filter (self_in p) (tab f i)) (f i ∷ [])
 
 pub self-no : (p : Parents) (t : ℕ) (f : ℕ → Parent) (i : ℕ) → self_in p (f i) ≡ false → self_rows_of p t (tab f (i + 1)) ≡ self_rows_of p t (tab f i)
-self-no p t f i e = ap (map (parent_row 1 p t)) (filter-tab-no f (self_in p) i e)
+self-no p t f i e = ap (map (parent_row ListsSelf p t)) (filter-tab-no f (self_in p) i e)
 
 -- ---- where the cycle diagnosis is consulted
 

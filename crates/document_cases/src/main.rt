@@ -6,13 +6,10 @@ use replaying::Cases;
 use std::io;
 use std::io::{BufReader, BufWriter, Write};
 
-// No input has so many cases.
-const MANY: usize = 100000;
-
 fn main(rt: HostRuntime) -> io::Result<()> {
     let input = BufReader::new(rt.alloc(), rt.reader())?;
     let mut out = BufWriter::new(rt.alloc(), io::writer(&rt))?;
-    for replayed in Cases::new(rt.alloc(), input).take(MANY) {
+    for replayed in Cases::new(rt.alloc(), input).take(replaying::MANY) {
         let replayed = replayed?;
         out.write_all(replayed.name.as_slice())?;
         let verdict = if replayed.agrees { "ok" } else { "differs" };

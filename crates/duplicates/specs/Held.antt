@@ -1,7 +1,8 @@
 -- The makings of a type, as the code holds them, read as the definitions' items.
-use Rattle.std.specs.Prelude.{Bool, not, List, [], ◌≡◌, ℕ, zero, suc, ◌+◌, ◌*◌, ◌<◌, length, get_or}
+use Rattle.std.specs.Prelude.{Bool, not, List, [], ◌≡◌, ℕ, zero, suc, ◌+◌, ◌<◌, length, get_or}
 use Rattle.lists.specs.Lists.{any, null}
 use Rattle.rows.specs.declared.Row.{Row}
+use Rattle.rows.specs.Rows.{empty}
 use Rattle.definitions.specs.Records.{Item, Sheet}
 use Rattle.definitions.specs.Comparisons.{dotted}
 use Rattle.definitions.specs.Map.{LineMap}
@@ -9,28 +10,30 @@ use Rattle.definitions.specs.Making.{declared, same_item}
 use Rattle.definitions.specs.Synthesis.{is_duplicate, with_making}
 use Rattle.line_laws.specs.Statements.{line_map}
 use Rattle.law_classes.specs.Sets.{type_at}
+use Rattle.catalogue.specs.declared.Catalogue.{Catalogue}
 use Rattle.synth_classes.specs.declared.Site.{Site}
 use Rattle.synth_classes.specs.declared.Origin.{Origin}
 use Rattle.synth_classes.specs.Made.{created}
 use Rattle.synth_classes.specs.Known.{Known}
-use Rattle.store.specs.Store.{row_at}
+use Rattle.duplicates.specs.declared.Making.{Making}
+use Rattle.duplicates.specs.declared.Makings.{Makings}
 
--- the first `count` makings, six numbers to each: its word, the four of its doms, and the direct parents that it comes from
-pub record Makings : Type 0 where
-  pub count : ℕ
-  pub numbers : List ℕ
+-- what a read past the end gives
+abbrev pub no_making : Making
+no_making = record { word = 0; origin = record { doms = empty; parents = 0 } }
 
-abbrev pub makings_in : List ℕ → ℕ → Makings
-makings_in numbers count = record { count = count; numbers = numbers }
+-- the i-th making: its word, its doms, and the direct parents that it comes from
+abbrev pub making_at : Makings → ℕ → Making
+making_at h i = get_or h.items i no_making
 
 abbrev pub word_at : Makings → ℕ → ℕ
-word_at h i = get_or h.numbers (6 * i) 0
+word_at h i = (making_at h i).word
 
 abbrev pub doms_at : Makings → ℕ → Row
-doms_at h i = row_at h.numbers (6 * i + 1)
+doms_at h i = (making_at h i).origin.doms
 
 abbrev pub parents_at : Makings → ℕ → ℕ
-parents_at h i = get_or h.numbers (6 * i + 5) 0
+parents_at h i = (making_at h i).origin.parents
 
 -- the items of the first n makings, each with its extension line, of which there is one for each word
 unfoldable pub held_items : LineMap → ℕ → Makings → ℕ → List Item
@@ -42,18 +45,18 @@ pub record Keeps (h : Makings) (word : ℕ) (doms : Row) (ps : ℕ) (r : Makings
   pub count : r.count ≡ h.count + 1
   pub items : (m : LineMap) (T : ℕ) → held_items m T r r.count ≡ with_making (type_at m T) word (created m T word doms ps) (held_items m T h h.count)
 
--- ---- the answers, right for every sheet whose catalogue the table is
+-- ---- the answers, right for every sheet whose catalogue it is
 
 -- T.r is declared
-pub record Declared (t : List ℕ) (T word : ℕ) (r : Bool) : Type 0 where
+pub record Declared (t : Catalogue) (T word : ℕ) (r : Bool) : Type 0 where
   pub right : (s : Sheet) → Known s t → T < length (line_map s).types → r ≡ not (null (declared (line_map s) (dotted (type_at (line_map s) T).name word)))
 
 -- one of the first n makings is identical
-pub record Made (t : List ℕ) (site : Site) (o : Origin) (h : Makings) (n : ℕ) (r : Bool) : Type 0 where
+pub record Made (t : Catalogue) (site : Site) (o : Origin) (h : Makings) (n : ℕ) (r : Bool) : Type 0 where
   pub right : (s : Sheet) → Known s t → site.place < length (line_map s).types
       → r ≡ any (same_item (created (line_map s) site.place site.word o.doms o.parents)) (held_items (line_map s) site.place h n)
 
 -- the making is a duplicate
-pub record Repeated (t : List ℕ) (site : Site) (o : Origin) (h : Makings) (n : ℕ) (r : Bool) : Type 0 where
+pub record Repeated (t : Catalogue) (site : Site) (o : Origin) (h : Makings) (n : ℕ) (r : Bool) : Type 0 where
   pub right : (s : Sheet) → Known s t → site.place < length (line_map s).types
       → r ≡ is_duplicate (line_map s) (type_at (line_map s) site.place) site.word (created (line_map s) site.place site.word o.doms o.parents) (held_items (line_map s) site.place h n)

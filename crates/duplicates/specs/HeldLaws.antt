@@ -1,8 +1,8 @@
 -- Laws of held makings.
 use mathlib.Core.Bool.{Bool, true, false, ◌||◌, not, or-false, and-false}
-use Rattle.std.specs.Prelude.{List, Option, is_some, [], ◌∷◌, ◌≡◌, ℕ, zero, suc, ◌+◌, ◌*◌, ◌-◌, ◌/◌, ◌%◌, ◌≤◌, ◌<◌, eqb, ltb, length, get_or, set}
+use Rattle.std.specs.Prelude.{List, Option, is_some, [], ◌∷◌, ◌≡◌, ℕ, zero, suc, ◌+◌, ◌*◌, ◌-◌, ◌/◌, ◌%◌, ◌<◌, eqb, ltb, length, set}
 use Rattle.std.proofs.Math.Path.{refl, ap, ap₂}
-use Rattle.std.proofs.Common.{sym, ◌∙◌, add-one, length-set}
+use Rattle.std.proofs.Common.{sym, ◌∙◌, add-one}
 use native.Mathlib.Omega.{arith}
 use borrow.Author.Tests.{eq-eqb, ne_eqb, eqb-true, eqb-false}
 use Rattle.std.proofs.Math.Seq
@@ -20,16 +20,18 @@ use Rattle.line_laws.specs.Statements.{line_map}
 use Rattle.law_classes.specs.Sets.{no_type, type_at}
 use Rattle.law_classes.specs.Numbers.{place-of}
 use Rattle.catalogue.specs.Layout.{key_at}
+use Rattle.catalogue.specs.declared.Catalogue.{Catalogue}
 use Rattle.sheet_keys.specs.Keys.{name_of_key}
 use Rattle.synth_classes.specs.declared.Site.{Site}
 use Rattle.synth_classes.specs.declared.Origin.{Origin}
 use Rattle.synth_classes.specs.Classes.{place_if, place_of}
+use Rattle.synth_classes.specs.ClassLaws.{place-low}
 use Rattle.synth_classes.specs.Made.{created}
 use Rattle.synth_classes.specs.Known.{Known, name-known, type-known}
 use Rattle.synth_same.specs.Same.{SameMaking}
-use Rattle.store.specs.Store.{row_at, put_row}
-use Rattle.store.specs.StoreLaws.{row-long, row_keeps, row-there, row_same}
-use Rattle.duplicates.specs.Held.{Makings, makings_in, word_at, doms_at, parents_at, held_items, Keeps, Declared, Made, Repeated}
+use Rattle.duplicates.specs.declared.Making.{Making}
+use Rattle.duplicates.specs.declared.Makings.{Makings}
+use Rattle.duplicates.specs.Held.{no_making, making_at, word_at, doms_at, parents_at, held_items, Keeps, Declared, Made, Repeated}
 
 -- ---- what stands among the items
 
@@ -107,75 +109,32 @@ module _ (t : LineMap) (T : ℕ) (h : Makings) (r : ℕ) (doms : Row) (ps : ℕ)
 
 -- ---- one more
 
-same-items : (t : LineMap) (T : ℕ) (h r : Makings) (n : ℕ) → ((i : ℕ) → i < n → word_at r i ≡ word_at h i) → ((i : ℕ) → i < n → doms_at r i ≡ doms_at h i) →
-    ((i : ℕ) → i < n → parents_at r i ≡ parents_at h i) → held_items t T r n ≡ held_items t T h n
+more-item : (t : LineMap) (T : ℕ) (x y : Making) (is js : List Item) → x ≡ y → is ≡ js →
+    with_making (type_at t T) x.word (created t T x.word x.origin.doms x.origin.parents) is
+    ≡ with_making (type_at t T) y.word (created t T y.word y.origin.doms y.origin.parents) js
+more-item t T x y is js p q =
+    ap₂ (λ (z : Making) (ks : List Item). with_making (type_at t T) z.word (created t T z.word z.origin.doms z.origin.parents) ks) p q
+
+same-items : (t : LineMap) (T : ℕ) (h r : Makings) (n : ℕ) → ((i : ℕ) → i < n → making_at r i ≡ making_at h i) → held_items t T r n ≡ held_items t T h n
 unfolding held_items
-same-items t T h r zero a b c = refl
-same-items t T h r (suc n) a b c =
-    rw (same-items t T h r n (λ i l. a i (omega arith)) (λ i l. b i (omega arith)) (λ i l. c i (omega arith)), a n (omega arith), b n (omega arith), c n (omega arith))
+same-items t T h r zero e = refl
+same-items t T h r (suc n) e = more-item t T _ _ _ _ (e n (omega arith)) (same-items t T h r n (λ i l. e i (omega arith)))
 
-held_one : (t : LineMap) (T : ℕ) (h r : Makings) (n word : ℕ) (doms : Row) (ps : ℕ) → held_items t T r n ≡ held_items t T h n → word_at r n ≡ word → doms_at r n ≡ doms →
-    parents_at r n ≡ ps → held_items t T r (n + 1) ≡ with_making (type_at t T) word (created t T word doms ps) (held_items t T h n)
-unfolding held_items
-held_one t T h r n word doms ps p a b c = ap (λ (k : ℕ). held_items t T r k) (add-one n) ∙ (λ i. with_making (type_at t T) (a i) (created t T (a i) (b i) (c i)) (p i))
+-- one making behind the others
+module _ (h : Makings) (word : ℕ) (o : Origin) (room : h.count < length h.items) where
+  abbrev pushed : Makings
+  pushed = record { count = h.count + 1; items = set h.items h.count (record { word = word; origin = o }) }
 
--- the numbers with one making more behind the first n
-unfoldable pub put_making : List ℕ → ℕ → ℕ → Row → ℕ → List ℕ
-put_making s n word doms ps = set (put_row (set s (6 * n) word) (6 * n + 1) doms) (6 * n + 5) ps
+  items_more : (t : LineMap) (T : ℕ) →
+      held_items t T pushed (h.count + 1) ≡ with_making (type_at t T) word (created t T word o.doms o.parents) (held_items t T h h.count)
+  unfolding held_items
+  items_more t T =
+      ap (λ (k : ℕ). held_items t T pushed k) (add-one h.count)
+      ∙ more-item t T _ _ _ _ (Seq.get_or-set_same h.items h.count _ no_making room)
+      (same-items t T h pushed h.count (λ i l. Seq.get_or-set_other h.items h.count i _ no_making (λ e. omega arith)))
 
-module _ (s : List ℕ) (n word : ℕ) (doms : Row) (ps : ℕ) where
-  abbrev s₁ : List ℕ
-  s₁ = set s (6 * n) word
-
-  abbrev s₂ : List ℕ
-  s₂ = put_row s₁ (6 * n + 1) doms
-
-  l₁ : length s₁ ≡ length s
-  l₁ = length-set s (6 * n) word
-
-  l₂ : length s₂ ≡ length s
-  l₂ = row-long s₁ (6 * n + 1) doms ∙ l₁
-
-  -- what stands before it is kept
-  kept : (q : ℕ) → q < 6 * n → get_or (put_making s n word doms ps) q 0 ≡ get_or s q 0
-  unfolding put_making
-  kept q h =
-      Seq.get_or-set_other s₂ (6 * n + 5) q ps 0 (λ e. omega arith)
-      ∙ row_keeps s₁ (6 * n + 1) doms q (λ j l e. absurd (omega arith))
-      ∙ Seq.get_or-set_other s (6 * n) q word 0 (λ e. omega arith)
-
-  module _ (room : 6 * n + 6 ≤ length s) where
-    word-there : get_or (put_making s n word doms ps) (6 * n) 0 ≡ word
-    unfolding put_making
-    word-there =
-        Seq.get_or-set_other s₂ (6 * n + 5) (6 * n) ps 0 (λ e. omega arith)
-        ∙ row_keeps s₁ (6 * n + 1) doms (6 * n) (λ j l e. absurd (omega arith))
-        ∙ Seq.get_or-set_same s (6 * n) word 0 (omega arith)
-
-    doms-there : row_at (put_making s n word doms ps) (6 * n + 1) ≡ doms
-    unfolding put_making
-    doms-there =
-        row_same s₂ (set s₂ (6 * n + 5) ps) (6 * n + 1) (λ j b. Seq.get_or-set_other s₂ (6 * n + 5) (6 * n + 1 + j) ps 0 (λ e. absurd (omega arith)))
-        ∙ row-there s₁ (6 * n + 1) doms (omega (arith, l₁))
-
-    parents-there : get_or (put_making s n word doms ps) (6 * n + 5) 0 ≡ ps
-    unfolding put_making
-    parents-there = Seq.get_or-set_same s₂ (6 * n + 5) ps 0 (omega (arith, l₂))
-
-    items_more : (t : LineMap) (T : ℕ) →
-        held_items t T (makings_in (put_making s n word doms ps) (n + 1)) (n + 1) ≡ with_making (type_at t T) word (created t T word doms ps) (held_items t T (makings_in s n) n)
-    items_more t T =
-        held_one t T (makings_in s n) (makings_in (put_making s n word doms ps) (n + 1)) n word doms ps
-        (same-items t T (makings_in s n) (makings_in (put_making s n word doms ps) (n + 1)) n
-        (λ i l. kept (6 * i) (omega arith))
-        (λ i l. row_same s (put_making s n word doms ps) (6 * i + 1) (λ j b. kept (6 * i + 1 + j) (omega arith)))
-        (λ i l. kept (6 * i + 5) (omega arith)))
-        word-there
-        doms-there
-        parents-there
-
-    pub keeps-more : Keeps (makings_in s n) word doms ps (makings_in (put_making s n word doms ps) (n + 1))
-    keeps-more = record { count = refl; items = items_more }
+  pub keeps_more : Keeps h word o.doms o.parents pushed
+  keeps_more = record { count = refl; items = items_more }
 
 -- ---- T.r
 
@@ -187,7 +146,7 @@ short-name key a b c l =
     (λ e. rw e (and-false (eqb (key / 256) a)))
     (λ e. rw (e, and-false (eqb (key % 256 - 1) b)) (and-false (eqb (key / 256) a)))
 
-module _ (s : Sheet) (t : List ℕ) (known : Known s t) (T word : ℕ) (h : T < length (line_map s).types) where
+module _ (s : Sheet) (t : Catalogue) (known : Known s t) (T word : ℕ) (h : T < length (line_map s).types) where
   abbrev key : ℕ
   key = key_at t T
 
@@ -224,39 +183,33 @@ module _ (s : Sheet) (t : List ℕ) (known : Known s t) (T word : ℕ) (h : T < 
       ∙ ap (λ l. not (null l)) (type-known s t known k)
       ∙ by (ltb (place_of t k) 64) (λ z. rw z) (λ z. rw z)
 
-some-low : (x : ℕ) → is_some (place_if x) ≡ ltb x 64
-some-low x = by (ltb x 64) (λ e. rw e) (λ e. rw e)
+pub declared_three : (t : Catalogue) (T word : ℕ) → (key_at t T % 256 ≡ 0 → ⊥) → Declared t T word false
+declared_three t T word e = record { right = λ s k l. sym (ap (λ x. not (null x)) (two-words s t k T word l e)) }
 
-pub declared-three : (t : List ℕ) (T word key : ℕ) → key ≡ key_at t T → (key % 256 ≡ 0 → ⊥) → Declared t T word false
-declared-three t T word key e h = record { right = λ s k l. sym (ap (λ x. not (null x)) (two-words s t k T word l (λ z. h (ap (λ (y : ℕ). y % 256) e ∙ z)))) }
-
-pub declared-two : (t : List ℕ) (T word key : ℕ) (p : Option ℕ) → key ≡ key_at t T → key % 256 ≡ 0 → word < 255 → p ≡ place_if (place_of t (key / 256 % 256 * 256 + (word + 1))) → Declared t T word (is_some p)
-declared-two t T word key p e h w q =
+pub declared_two : (t : Catalogue) (T word : ℕ) (p : Option ℕ) → key_at t T % 256 ≡ 0 → word < 255 → p ≡ place_if (place_of t (key_at t T / 256 % 256 * 256 + (word + 1))) → Declared t T word (is_some p)
+declared_two t T word p e w q =
     record {
-      right = λ s k l.
-          ap is_some q ∙ some-low (place_of t (key / 256 % 256 * 256 + (word + 1)))
-          ∙ ap (λ (x : ℕ). ltb x 64) (ap (λ (x : ℕ). place_of t (x / 256 % 256 * 256 + (word + 1))) e)
-          ∙ sym (one-word s t k T word l (ap (λ (y : ℕ). y % 256) (sym e) ∙ h) w);
+      right = λ s k l. ap is_some q ∙ place-low (place_of t (key_at t T / 256 % 256 * 256 + (word + 1))) ∙ sym (one-word s t k T word l e w);
     }
 
 -- ---- the makings one after the other
 
-module _ (t : List ℕ) (site : Site) (o : Origin) (h : Makings) where
-  pub made-start : Made t site o h 0 false
-  made-start = record { right = λ s k l. sym (new-start (line_map s) site.place h site.word o.doms o.parents) }
+module _ (t : Catalogue) (site : Site) (o : Origin) (h : Makings) where
+  pub made_start : Made t site o h 0 false
+  made_start = record { right = λ s k l. sym (new-start (line_map s) site.place h site.word o.doms o.parents) }
 
-  module _ (i : ℕ) (d : Row) (w : word_at h i ≡ site.word) (e : d ≡ doms_at h i) (r : Bool) (same : SameMaking t site o (record { doms = d; parents = parents_at h i }) r) where
+  module _ (i : ℕ) (w : word_at h i ≡ site.word) (r : Bool) (same : SameMaking t site o (making_at h i).origin r) where
     answer : (s : Sheet) → Known s t → site.place < length (line_map s).types
         → same_item (created (line_map s) site.place site.word o.doms o.parents) (created (line_map s) site.place (word_at h i) (doms_at h i) (parents_at h i)) ≡ r
     answer s k l =
-        (λ j. same_item (created (line_map s) site.place site.word o.doms o.parents) (created (line_map s) site.place (w j) (sym e j) (parents_at h i)))
+        ap (λ (x : ℕ). same_item (created (line_map s) site.place site.word o.doms o.parents) (created (line_map s) site.place x (doms_at h i) (parents_at h i))) w
         ∙ sym (same.right s k l)
 
     pub made_found : (n : ℕ) → i < n → r ≡ true → Made t site o h n true
     made_found n l q = record { right = λ s k z. sym (new-found (line_map s) site.place h site.word o.doms o.parents i n l (answer s k z ∙ q)) }
 
-    pub made-unlike : r ≡ false → Made t site o h i false → Made t site o h (i + 1) false
-    made-unlike q m =
+    pub made_unlike : r ≡ false → Made t site o h i false → Made t site o h (i + 1) false
+    made_unlike q m =
         record { right = λ s k z. sym (new-next (line_map s) site.place h site.word o.doms o.parents i (sym (m.right s k z)) (answer s k z ∙ q)) }
 
   pub made_other : (i : ℕ) → (word_at h i ≡ site.word → ⊥) → Made t site o h i false → Made t site o h (i + 1) false
@@ -267,12 +220,16 @@ module _ (t : List ℕ) (site : Site) (o : Origin) (h : Makings) where
             (new-unlike (line_map s) site.place h site.word o.doms o.parents (word_at h i) (doms_at h i) (parents_at h i) w));
       }
 
-  -- ---- a duplicate
+-- the steps of a walk over the makings
+pub ruleset made_steps = (made_start, made_found, made_unlike, made_other)
 
-  pub repeated-declared : (n : ℕ) (r : Bool) → Declared t site.place site.word r → r ≡ true → Repeated t site o h n r
-  unfolding is_duplicate
-  repeated-declared n r d q = record { right = λ s k l. q ∙ rw (← d.right s k l, q) refl }
+-- ---- a duplicate
 
-  pub repeated-made : (n : ℕ) (r x : Bool) → Declared t site.place site.word r → r ≡ false → Made t site o h n x → Repeated t site o h n x
+module _ (t : Catalogue) (site : Site) (o : Origin) (h : Makings) where
+  pub repeated_declared : (n : ℕ) (r : Bool) → Declared t site.place site.word r → r ≡ true → Repeated t site o h n r
   unfolding is_duplicate
-  repeated-made n r x d q m = record { right = λ s k l. rw (← d.right s k l, q) (m.right s k l) }
+  repeated_declared n r d q = record { right = λ s k l. q ∙ rw (← d.right s k l, q) refl }
+
+  pub repeated_made : (n : ℕ) (r x : Bool) → Declared t site.place site.word r → r ≡ false → Made t site o h n x → Repeated t site o h n x
+  unfolding is_duplicate
+  repeated_made n r x d q m = record { right = λ s k l. rw (← d.right s k l, q) (m.right s k l) }

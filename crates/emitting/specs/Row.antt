@@ -1,5 +1,7 @@
 -- A row as the code has it.
 use Rattle.std.specs.Prelude.{List, [], ◌∷◌, ℕ}
+use Rattle.std.specs.Option.{unwrap_or}
+use Rattle.fields.specs.declared.Name.{Name}
 use Rattle.emitting.specs.declared.Row.{Row}
 use Rattle.emitting.specs.declared.Kind.{Kind}
 use Rattle.emitting.specs.declared.Kind.TheVariants.{ListsSelf, ClosesCycle, UndeclaredParent, UndeclaredClass, NoResource, Duplicate}
@@ -13,6 +15,13 @@ number_of UndeclaredClass = 4
 number_of NoResource = 5
 number_of Duplicate = 6
 
+-- an absent name
+abbrev pub no_name : Name
+no_name = record { first = 255; second = 255 }
+
+abbrev pub other_of : Row → Name
+other_of r = unwrap_or r.other no_name
+
 -- the six bytes of a row, in their order (FORMAT 8.1)
 abbrev pub bytes_of : Row → List ℕ
-bytes_of r = r.kind ∷ r.first ∷ r.second ∷ r.other_first ∷ r.other_second ∷ r.word ∷ []
+bytes_of r = number_of r.kind ∷ r.subject.first ∷ r.subject.second ∷ (other_of r).first ∷ (other_of r).second ∷ unwrap_or r.word 255 ∷ []

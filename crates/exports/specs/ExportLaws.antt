@@ -1,5 +1,6 @@
 -- The parts of an answer fit; and demand 3 for the exported calls.
 use Rattle.std.specs.Prelude.{Bool, true, false, List, [], ◌∷◌, ◌≡◌, refl, ℕ, ◌≤◌, ◌<◌, eqb, ltb, length, get_or, set, take}
+use Rattle.std.specs.Int.{from_bool}
 use Rattle.std.proofs.Common.{sym, ap, ap₂, ◌∙◌, subst, arith, lt-ltb, le-ltb}
 use Rattle.std.proofs.lemmas.List.Edits.{sets-eq}
 use Rattle.lists.specs.Tests.{by, never}
@@ -31,6 +32,10 @@ small i e = record {
 pub flag_is : (b : Bool) → eqb (flag b) 1 ≡ b
 flag_is true = refl
 flag_is false = refl
+
+pub from-bool : (b : Bool) → from_bool b ≡ flag b
+from-bool true = refl
+from-bool false = refl
 
 -- ---- case by case
 

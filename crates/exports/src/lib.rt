@@ -27,12 +27,6 @@ pub struct Parts {
     pub more: u32,
 }
 
-fn flag(more: bool) -> u32
-    ensures { result ≡ Rattle.exports.specs.Exports.flag more }
-{
-    if more { 1 } else { 0 }
-}
-
 // A number and a size.
 fn sized(number: u32, size: usize) -> Parts
     requires { size < 2 ^ 32 }
@@ -55,7 +49,7 @@ fn with_rows(number: u32, report: Report) -> Parts
         number: number,
         size: 0,
         rows: report.rows as u32,
-        more: flag(report.more),
+        more: u32::from(report.more),
     }
 }
 

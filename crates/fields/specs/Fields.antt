@@ -1,12 +1,18 @@
 -- What the answers of the code mean: each as the definitions' parsers give it, for the bits bs of the sheet.
 use Rattle.std.specs.Prelude.{cond, List, [], ◌∷◌, Bool, Result, Ok, Err, ℕ, eqb, drop, get_or}
 use Rattle.lists.specs.Tabulating.{tabulate}
+use Rattle.definitions.specs.Bits.{bits_of}
 use Rattle.definitions.specs.Parse as parse
 use Rattle.definitions.specs.Parse.{Parsed, done, refused}
 use Rattle.bits.specs.declared.Cursor.{Cursor}
 use Rattle.fields.specs.declared.Fault.{Fault}
 use Rattle.fields.specs.declared.Name.{Name}
 use Rattle.fields.specs.declared.Names.{Names}
+use Rattle.fields.specs.declared.source.Sheet.{Sheet}
+
+-- the bits of a sheet
+abbrev pub bits_in : Sheet → List Bool
+bits_in s = bits_of s.bytes.now
 
 abbrev pub fault_of : Fault → parse.Fault
 fault_of Fault.Past = parse.past

@@ -7,9 +7,12 @@ ghost use Rattle.definitions.specs.Bits.{bits_of};
 ghost use Rattle.definitions.specs.Parse.{field, between, repeat, counted};
 ghost use Rattle.definitions.specs.Reading.{word_field, word_if_flag, name};
 ghost use Rattle.bits.specs.Reading.{Addressable};
-ghost use Rattle.fields.specs.Fields.{of_parsed, of_field, optional, name_of, of_names};
+ghost use Rattle.fields.specs.Fields.{of_parsed, of_field, optional, name_of, bits_in, of_names};
+
+mod source;
 
 use bits::Cursor;
+pub use source::Sheet;
 
 // What can be wrong with a field: it passes the end, or its value is not allowed (FORMAT 2.1).
 #[derive(Clone, Copy, PartialEq, Eq)]
@@ -21,15 +24,16 @@ pub enum Fault {
 // What was read and the cursor behind it, or what is wrong with a field.
 pub type Parsed<T> = Result<(T, Cursor), Fault>;
 
-// A name (FORMAT 1.3). The second word is 255 where there is none: a word is below W, at most 200. No Option: two bytes are what
-// an array of names has.
+// A name (FORMAT 1.3). The second word is 255 where there is none: a word is below W, at most 200. No Option: the law has that
+// number for an absent word, in the two bytes of a name in a row (FORMAT 8.1).
 #[derive(Clone, Copy)]
 pub struct Name {
     pub first: u8,
     pub second: u8,
 }
 
-// The first count names of the arrays: the words and doms of an annotation (01: 'a kind beside flat arrays').
+// The first count names of the arrays: the words and doms of an annotation (01: 'a kind beside flat arrays'). Arrays, as the
+// proved calls have no heap.
 #[derive(Clone, Copy)]
 pub struct Names {
     pub count: usize,
@@ -79,25 +83,23 @@ pub fn read_word_field(s: &[u8], c: Cursor, limit: usize) -> Parsed<u8>
     }
 }
 
-// A flag, and a word where it is set: the second word of a name, or a dom (FORMAT 2.5).
-pub fn read_word_if_flag(s: &[u8], c: Cursor, limit: usize) -> Parsed<u8>
-    requires { Addressable s.now × (limit ≤ 255) }
-    ensures { of_parsed optional (bits_of s.now) result ≡ word_if_flag limit (drop c.at (bits_of s.now)) }
+// A flag, and a word where it is set: the second word of a name, or a dom (FORMAT 2.5). 255 for none, as `Name` has it.
+pub fn read_word_if_flag(s: Sheet, c: Cursor) -> Parsed<u8>
+    ensures { of_parsed optional (bits_in s.entry) result ≡ word_if_flag s.entry.words (drop c.at (bits_in s.entry)) }
 {
-    let (flag, next) = read_field(s, c, 1)?;
+    let (flag, next) = read_field(s.bytes, c, 1)?;
     if flag == 1 {
-        read_word_field(s, next, limit)
+        read_word_field(s.bytes, next, s.words)
     } else {
         Ok((255, next))
     }
 }
 
-pub fn read_name(s: &[u8], c: Cursor, limit: usize) -> Parsed<Name>
-    requires { Addressable s.now × (limit ≤ 255) }
-    ensures { of_parsed name_of (bits_of s.now) result ≡ name limit (drop c.at (bits_of s.now)) }
+pub fn read_name(s: Sheet, c: Cursor) -> Parsed<Name>
+    ensures { of_parsed name_of (bits_in s.entry) result ≡ name s.entry.words (drop c.at (bits_in s.entry)) }
 {
-    let (first, next) = read_word_field(s, c, limit)?;
-    let (second, end) = read_word_if_flag(s, next, limit)?;
+    let (first, next) = read_word_field(s.bytes, c, s.words)?;
+    let (second, end) = read_word_if_flag(s, next)?;
     Ok((Name { first, second }, end))
 }
 
@@ -124,14 +126,14 @@ impl Names {
 }
 
 // n names. Each kind of list has such a loop: one for all would need a trait with its parser, and more lines than it spares.
-fn read_each_name(s: &[u8], c: Cursor, limit: usize, n: usize) -> Parsed<Names>
-    requires { Addressable s.now × (limit ≤ 255) × (n ≤ 15) }
-    ensures { of_parsed of_names (bits_of s.now) result ≡ repeat (name limit) n (drop c.at (bits_of s.now)) }
+fn read_each_name(s: Sheet, c: Cursor, n: usize) -> Parsed<Names>
+    requires { n ≤ 15 }
+    ensures { of_parsed of_names (bits_in s.entry) result ≡ repeat (name s.entry.words) n (drop c.at (bits_in s.entry)) }
 {
     let mut next = c;
     let mut names = Names::new();
     for _ in 0..n {
-        let (name, end) = read_name(s, next, limit)?;
+        let (name, end) = read_name(s, next)?;
         names.push(name);
         next = end;
     }
@@ -140,10 +142,10 @@ fn read_each_name(s: &[u8], c: Cursor, limit: usize, n: usize) -> Parsed<Names>
 
 // A count of 4 bits within its bounds, and so many names: parents, the names of an Inherit, and the resources of an
 // associate, which are read like names (FORMAT 2.3, 2.8).
-pub fn read_names(s: &[u8], c: Cursor, limit: usize, least: usize, most: usize) -> Parsed<Names>
-    requires { Addressable s.now × (limit ≤ 255) × (most ≤ 15) }
-    ensures { of_parsed of_names (bits_of s.now) result ≡ counted 4 least most (name limit) (drop c.at (bits_of s.now)) }
+pub fn read_names(s: Sheet, c: Cursor, least: usize, most: usize) -> Parsed<Names>
+    requires { most ≤ 15 }
+    ensures { of_parsed of_names (bits_in s.entry) result ≡ counted 4 least most (name s.entry.words) (drop c.at (bits_in s.entry)) }
 {
-    let (n, next) = read_between(s, c, 4, least, most)?;
-    read_each_name(s, next, limit, n)
+    let (n, next) = read_between(s.bytes, c, 4, least, most)?;
+    read_each_name(s, next, n)
 }

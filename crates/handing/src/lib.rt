@@ -6,10 +6,10 @@ ghost use Rattle.std.specs.Prelude.{◌≡◌, ◌<◌};
 ghost use Rattle.bits.specs.Reading.{Addressable};
 ghost use Rattle.definitions.specs.Bits.{bits_of};
 ghost use Rattle.dedup.specs.Reading.{Good};
-ghost use Rattle.order_table.specs.Form.{form_of};
 ghost use Rattle.handing.specs.Handing.{Fits, HandsFrom, Takes, Ready, Gathered, KeepsIt};
 
 use dedup::Inherited;
+use ordering::Parents;
 
 // One parent more: its own associates, which stand where x says, then what it inherits itself, all under its place.
 fn inherit_from(h: Inherited, s: &[u8], x: u64, store: &[u64], place: usize) -> Inherited
@@ -40,22 +40,20 @@ fn inherit_any(h: Inherited, s: &[u8], x: u64, store: &[u64], place: usize) -> I
 // of the parent failed has no flag (FORMAT 8.6).
 pub fn gather(
     s: &[u8],
-    l: &[u64; 577],
+    l: &Parents,
     notes: &[u64; 64],
     store: &[u64],
     t: usize,
     flags: u64,
 ) -> Inherited
     requires addressable { Addressable s.now }
-    requires ready { Ready (form_of l.now) (bits_of s.now) notes.now store.now t flags }
-    ensures { Gathered (form_of l.now) (bits_of s.now) notes.now store.now t flags result }
+    requires ready { Ready l.now (bits_of s.now) notes.now store.now t flags }
+    ensures { Gathered l.now (bits_of s.now) notes.now store.now t flags result }
 {
-    let count = order_table::count_at(l, t);
-    let base = 8 * t;
     let mut out = dedup::nothing();
-    for i in 0..count {
+    for i in 0..usize::from(l.counts[t]) {
         if bitsets::has(flags, i) {
-            let place = order_table::place_at(l, base + i);
+            let place = l.place(t, i);
             out = inherit_any(out, s, notes[place], store, place);
         }
     }
@@ -65,14 +63,14 @@ pub fn gather(
 // What all listed parents of type t hand on, put at its place in the store. It lists at most eight.
 pub fn keep_inherited(
     s: &[u8],
-    l: &[u64; 577],
+    l: &Parents,
     notes: &[u64; 64],
     store: &mut [u64],
     t: usize,
 ) -> Inherited
     requires addressable { Addressable s.now }
-    requires ready { Ready (form_of l.now) (bits_of s.now) notes.now store.old t 255 }
-    ensures { KeepsIt (form_of l.now) (bits_of s.now) notes.now store.old t store.new result }
+    requires ready { Ready l.now (bits_of s.now) notes.now store.old t 255 }
+    ensures { KeepsIt l.now (bits_of s.now) notes.now store.old t store.new result }
 {
     let all = gather(s, l, notes, store, t, 255);
     store::store(store, t, all);

@@ -1,29 +1,19 @@
 -- The steps of the loop.
-use Rattle.std.specs.Prelude.{Bool, true, false, ◌&&◌, ◌||◌, List, [], ◌∷◌, ◌++◌, ◌≡◌, refl, ℕ, ◌+◌, eqb}
-use Rattle.std.proofs.Math.Bool.{or-false, and-true, and-false}
+use Rattle.std.specs.Prelude.{Bool, true, false, ◌&&◌, ◌||◌, List, [], ◌∷◌, ◌++◌, ◌≡◌, refl, ℕ, ◌+◌}
+use Rattle.std.proofs.Math.Bool.{or-false, and-true}
 use Rattle.std.proofs.Common.{sym, ap, ap₂, ◌∙◌, arith, ne_eqb, eq-eqb}
 use Rattle.lists.specs.Lists.{all}
 use Rattle.lists.specs.Appending.{all_append}
 use Rattle.rows.specs.Rows.{has_bit}
 use Rattle.rows.specs.RowLaws.{bit-none}
-use Rattle.bitsets.specs.Bitsets.{more}
 use Rattle.bitsets.specs.BitLaws.{bit-more}
 use Rattle.ordering.specs.Lists.{tab, tab-step, tab-same}
 use Rattle.ordering.specs.declared.Parents.{Parents}
 use Rattle.hearing.specs.declared.Flags.{Flags}
-use Rattle.hearing.specs.Hearing.{hands_at, WithFlag, FlagsTo, WithOk}
+use Rattle.hearing.specs.Hearing.{hands_at, WithFlag, FlagsTo}
 
-pub flag-yes : (f : Flags) (i : ℕ) (b : Bool) → b ≡ true → WithFlag f i b (record { row = more f.row i; «all» = f.all })
-flag-yes f i b e = rw e (record { bits = λ k. bit-more f.row i k ∙ ap (λ (c : Bool). has_bit f.row k || c) (sym (and-true (eqb i k))); whole = sym (and-true f.all) })
-
-pub flag-no : (f : Flags) (i : ℕ) (b : Bool) → b ≡ false → WithFlag f i b (record { row = f.row; «all» = false })
-flag-no f i b e = rw e (record { bits = λ k. sym (ap (λ (c : Bool). has_bit f.row k || c) (and-false (eqb i k)) ∙ or-false (has_bit f.row k)); whole = sym (and-false f.all) })
-
-pub ok-yes : (ok t : ℕ) (a b : Bool) → a ≡ true → b ≡ true → WithOk ok t (a && b) (more ok t)
-ok-yes ok t a b e f = rw (e, f) (record { bits = λ k. bit-more ok t k ∙ ap (λ (c : Bool). has_bit ok k || c) (sym (and-true (eqb t k))) })
-
-pub ok-no : (ok t : ℕ) (w : Bool) → w ≡ false → WithOk ok t w ok
-ok-no ok t w e = rw e (record { bits = λ k. sym (ap (λ (c : Bool). has_bit ok k || c) (and-false (eqb t k)) ∙ or-false (has_bit ok k)) })
+-- what a set has with one number more
+pub ruleset one_more = (bit-more)
 
 module _ (p : Parents) (t fresh ok : ℕ) where
   pub flags-none : FlagsTo p t fresh ok 0 (record { row = 0; «all» = true })

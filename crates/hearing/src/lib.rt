@@ -5,9 +5,10 @@
 ghost use Rattle.std.specs.Prelude.{◌&&◌, ◌||◌, not, ◌≡◌, ◌<◌};
 ghost use Rattle.rows.specs.Rows.{has_bit};
 ghost use Rattle.ordering.specs.Reading.{Valid};
-ghost use Rattle.order_table.specs.Form.{form_of};
 ghost use Rattle.parent_laws.specs.Placed.{ParentsBelow};
 ghost use Rattle.hearing.specs.Hearing.{WithFlag, FlagsOf, WithOk};
+
+use ordering::Parents;
 
 // Bit i is set if listing i hands on; `all` if each does.
 #[derive(Clone, Copy)]
@@ -25,6 +26,7 @@ fn passes(fresh: u8, i: usize, ok: u64, place: usize) -> bool
 }
 
 // The flags with that of listing i.
+#[tactic(auto, using(crate::specs::HearingLaws::one_more))]
 fn with_flag(f: Flags, i: usize, handed: bool) -> Flags
     requires { i < 64 }
     ensures { WithFlag f i handed result }
@@ -40,16 +42,14 @@ fn with_flag(f: Flags, i: usize, handed: bool) -> Flags
 }
 
 // The flags of the listings of type t.
-pub fn flags_of(l: &[u64; 577], t: usize, fresh: u8, ok: u64) -> Flags
-    requires valid { Valid (form_of l.now) }
-    requires t_bound { (t < (form_of l.now).count) × ParentsBelow (form_of l.now) t }
-    ensures { FlagsOf (form_of l.now) t fresh ok result }
+pub fn flags_of(l: &Parents, t: usize, fresh: u8, ok: u64) -> Flags
+    requires valid { Valid l.now }
+    requires t_bound { (t < l.now.count) × ParentsBelow l.now t }
+    ensures { FlagsOf l.now t fresh ok result }
 {
-    let count = order_table::count_at(l, t);
-    let base = 8 * t;
     let mut flags = Flags { row: 0, all: true };
-    for i in 0..count {
-        let place = order_table::place_at(l, base + i);
+    for i in 0..usize::from(l.counts[t]) {
+        let place = l.place(t, i);
         let handed = passes(fresh, i, ok, place);
         flags = with_flag(flags, i, handed);
     }
@@ -57,6 +57,7 @@ pub fn flags_of(l: &[u64; 577], t: usize, fresh: u8, ok: u64) -> Flags
 }
 
 // The types whose call succeeded, with type t if all its listings hand on and its own interpretation added no row.
+#[tactic(auto, using(crate::specs::HearingLaws::one_more))]
 pub fn with_ok(ok: u64, t: usize, heard: bool, clean: bool) -> u64
     requires { t < 64 }
     ensures { WithOk ok t (heard && clean) result }

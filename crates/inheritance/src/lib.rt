@@ -45,7 +45,8 @@ pub fn doms_with(doms: [Row; 200], a: AnnotationInfo) -> [Row; 200]
     out
 }
 
-// The kind under which an annotation is inherited: a NestAssociate, 2, is handed on as an Associate, 1 (FORMAT 8.7).
+// The kind under which an annotation is inherited, by its number, as `annotations` has it: a NestAssociate, 2, is handed on as an
+// Associate, 1 (FORMAT 8.7).
 fn inherited_kind(kind: u8) -> u8
     ensures { result ≡ inherited_kind kind }
 {

@@ -1,4 +1,4 @@
--- What `interpret_associate` finds of a word's classes: in a map, and in the numbers of its catalogue.
+-- What `interpret_associate` finds of a word's classes: in a map, and in its catalogue.
 use Rattle.std.specs.Prelude.{Bool, not, List, [], ◌∷◌, ℕ, ◌%◌}
 use Rattle.lists.specs.Lists.{null}
 use Rattle.rows.specs.declared.Row.{Row}
@@ -8,6 +8,7 @@ use Rattle.definitions.specs.Records.{Name}
 use Rattle.definitions.specs.Map.{LineMap}
 use Rattle.definitions.specs.Making.{declared, is_resource}
 use Rattle.catalogue.specs.Layout.{key_at}
+use Rattle.catalogue.specs.declared.Catalogue.{Catalogue}
 use Rattle.sheet_keys.specs.Keys.{name_of_key}
 use Rattle.synth_classes.specs.Classes.{unknown_at}
 use Rattle.synth_classes.specs.Made.{class_name}
@@ -22,13 +23,13 @@ abbrev pub is_other : LineMap → Name → Bool
 is_other m c = not (is_resource m c)
 
 -- the doms whose classes are not declared
-unfoldable pub unknown_doms : List ℕ → Row → ℕ → List ℕ
+unfoldable pub unknown_doms : Catalogue → Row → ℕ → List ℕ
 unknown_doms t doms word = below (among doms (unknown_at t word)) 201
 
 -- the name of the type at a place
-abbrev pub name_in : List ℕ → ℕ → Name
+abbrev pub name_in : Catalogue → ℕ → Name
 name_in t place = name_of_key (key_at t place % 65536)
 
 -- the row of an unknown class, by its dom
-abbrev pub unknown_row : List ℕ → ℕ → ℕ → ℕ → records.Row
+abbrev pub unknown_row : Catalogue → ℕ → ℕ → ℕ → records.Row
 unknown_row t place word k = record { kind = 4; subject = name_in t place; other = class_name word k; word = word ∷ [] }

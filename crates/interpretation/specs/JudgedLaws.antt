@@ -1,10 +1,9 @@
 -- Laws of a word's classes.
-use Rattle.std.specs.Prelude.{Bool, true, false, not, Some, None, is_some, ◌≡◌, ℕ, ◌<◌, ltb, length}
+use Rattle.std.specs.Prelude.{Bool, true, false, not, Some, None, is_some, ◌≡◌, ℕ, ◌/◌, ◌<◌, eqb, length}
 use mathlib.Core.List.{List, [], ◌∷◌, map}
 use Rattle.std.proofs.Math.Path.{refl, sym, ap}
 use Rattle.std.proofs.Common.{◌∙◌}
 use native.Mathlib.Omega.{arith}
-use borrow.Author.Tests.{lt-ltb, le-ltb}
 use Rattle.lists.specs.Lists.{filter, first_of}
 use Rattle.lists.specs.Tests.{by}
 use Rattle.emitting.specs.Emitting as emitting
@@ -18,9 +17,10 @@ use Rattle.fields.specs.declared.Name as held
 use Rattle.fields.specs.Fields.{two_words, name_of}
 use Rattle.line_laws.specs.Statements.{line_map}
 use Rattle.catalogue.specs.Layout.{head_at}
+use Rattle.catalogue.specs.declared.Catalogue.{Catalogue}
 use Rattle.catalogue.specs.Catalogue.{is_resource_head}
 use Rattle.synth_classes.specs.Classes.{place_if, place_in, unknown_at, other_at}
-use Rattle.synth_classes.specs.ClassLaws.{place-some, place-none}
+use Rattle.synth_classes.specs.ClassLaws.{place-low, asked-some, asked-none}
 use Rattle.synth_classes.specs.Made.{class_name, classes_of}
 use Rattle.synth_classes.specs.Walks.{among, among-kept, classes-with}
 use Rattle.synth_classes.specs.Known.{Known, unknown-known, other-known}
@@ -29,17 +29,17 @@ use Rattle.interpretation.specs.Emit.{emit_bytes, emit, bytes_of, name-bytes}
 use Rattle.interpretation.specs.Judged.{is_unknown, is_other, unknown_doms, name_in, unknown_row}
 
 -- what the place of a class tells
-pub unknown-place : (t : List ℕ) (word k : ℕ) → not (is_some (place_if (place_in t word k))) ≡ unknown_at t word k
+pub unknown_place : (t : Catalogue) (word k : ℕ) → not (is_some (place_if (place_in t word k))) ≡ unknown_at t word k
 unfolding unknown_at
-unknown-place t word k = by (ltb (place_in t word k) 64) (λ e. rw e) (λ e. rw e)
+unknown_place t word k = ap not (place-low (place_in t word k))
 
-pub other-place : (t : List ℕ) (word k p : ℕ) → place_if (place_in t word k) ≡ Some p → not (is_resource_head (head_at t p)) ≡ other_at t word k
-unfolding other_at
-other-place t word k p e = let z = place-some _ p e in rw (z.0, lt-ltb p 64 z.1)
+pub other_place : (t : Catalogue) (word k p : ℕ) → place_if (place_in t word k) ≡ Some p → not (eqb (head_at t p / 64) 1) ≡ other_at t word k
+unfolding other_at is_resource_head
+other_place t word k p e = asked-some (λ q. not (eqb (head_at t q / 64) 1)) (place_in t word k) p e
 
-pub other-none : (t : List ℕ) (word k : ℕ) → place_if (place_in t word k) ≡ None → false ≡ other_at t word k
+pub other_none : (t : Catalogue) (word k : ℕ) → place_if (place_in t word k) ≡ None → false ≡ other_at t word k
 unfolding other_at
-other-none t word k e = rw (le-ltb (place_in t word k) 64 (place-none _ e))
+other_none t word k e = asked-none (λ q. not (is_resource_head (head_at t q))) (place_in t word k) e
 
 -- ---- the classes in a map
 
@@ -58,7 +58,7 @@ first-without f (x ∷ l) e =
     (λ p. let q : x ∷ filter f l ≡ [] = rw p at e in let z : ◌≡◌ {A = ℕ} 0 1 = cc in absurd (omega arith))
     (λ p. rw p (first-without f l (rw p at e)))
 
-module _ (s : Sheet) (t : List ℕ) (known : Known s t) (doms : Row) (word : ℕ) (h : word < 255) where
+module _ (s : Sheet) (t : Catalogue) (known : Known s t) (doms : Row) (word : ℕ) (h : word < 255) where
   pub unknown-classes : filter (is_unknown (line_map s)) (classes_of doms word) ≡ map (class_name word) (unknown_doms t doms word)
   unfolding unknown_doms
   unknown-classes = classes-with (is_unknown (line_map s)) (unknown_at t word) doms word (λ k. sym (unknown-known s t known word k h))
@@ -74,12 +74,12 @@ unfolding row_bytes
 row-bytes kind N w f s a b c p q = rw (p, q, name-bytes f s, name-bytes a b)
 
 -- what is written, and the doms that are left
-pub record Written (t : List ℕ) (place : ℕ) (doms : Row) (word limit : ℕ) (left : List ℕ) (buf₀ : List ℕ) (n₀ : ℕ) (buf : List ℕ) (n : ℕ) : Type 0 where
+pub record Written (t : Catalogue) (place : ℕ) (doms : Row) (word limit : ℕ) (left : List ℕ) (buf₀ : List ℕ) (n₀ : ℕ) (buf : List ℕ) (n : ℕ) : Type 0 where
   pub same : length buf ≡ length buf₀
   pub rows : emit limit (buf, n) (map (unknown_row t place word) (filter (unknown_at t word) left))
       ≡ emit limit (buf₀, n₀) (map (unknown_row t place word) (unknown_doms t doms word))
 
-module _ (t : List ℕ) (place : ℕ) (doms : Row) (word limit : ℕ) (buf₀ : List ℕ) (n₀ : ℕ) where
+module _ (t : Catalogue) (place : ℕ) (doms : Row) (word limit : ℕ) (buf₀ : List ℕ) (n₀ : ℕ) where
   abbrev f : ℕ → Bool
   f = unknown_at t word
 
@@ -91,18 +91,18 @@ module _ (t : List ℕ) (place : ℕ) (doms : Row) (word limit : ℕ) (buf₀ : 
   written_start left e =
       record { same = refl; rows = ap (λ l. emit limit (buf₀, n₀) (map R l)) (ap (filter f) e ∙ sym (among-kept doms f)) }
 
-  pub written-known : (k : ℕ) (left rest : List ℕ) (buf : List ℕ) (n : ℕ) → left ≡ k ∷ rest → f k ≡ false
+  pub written_known : (k : ℕ) (left rest : List ℕ) (buf : List ℕ) (n : ℕ) → left ≡ k ∷ rest → f k ≡ false
       → Written t place doms word limit left buf₀ n₀ buf n → Written t place doms word limit rest buf₀ n₀ buf n
-  written-known k left rest buf n e h w =
+  written_known k left rest buf n e h w =
       let q : filter f left ≡ filter f rest = rw (e, h) refl in
       record { same = w.same; rows = ap (λ l. emit limit (buf, n) (map R l)) (sym q) ∙ w.rows }
 
-  pub written-row : (k : ℕ) (left rest : List ℕ) (buf : List ℕ) (n : ℕ) → left ≡ k ∷ rest → f k ≡ true → (buf' : List ℕ) (n' : ℕ) (T c : held.Name) →
+  pub written_row : (k : ℕ) (left rest : List ℕ) (buf : List ℕ) (n : ℕ) → left ≡ k ∷ rest → f k ≡ true → (buf' : List ℕ) (n' : ℕ) (T c : held.Name) →
       length buf' ≡ length buf → name_of T ≡ name_in t place → name_of c ≡ class_name word k →
       (buf', n') ≡ emit_bytes limit (buf, n) (bytes_of T (Unknown c) word) →
       Written t place doms word limit left buf₀ n₀ buf n → Written t place doms word limit rest buf₀ n₀ buf' n'
   unfolding emitting.emit
-  written-row k left rest buf n e h buf' n' T c l p q z w =
+  written_row k left rest buf n e h buf' n' T c l p q z w =
       let more = map R (filter f rest) in
       let r : filter f left ≡ k ∷ filter f rest = rw (e, h) refl in
       record {
@@ -114,7 +114,10 @@ module _ (t : List ℕ) (place : ℕ) (doms : Row) (word limit : ℕ) (buf₀ : 
             ∙ w.rows;
       }
 
-  pub written-end : (left : List ℕ) (buf : List ℕ) (n : ℕ) → left ≡ [] → Written t place doms word limit left buf₀ n₀ buf n →
+  pub written_end : (left : List ℕ) (buf : List ℕ) (n : ℕ) → left ≡ [] → Written t place doms word limit left buf₀ n₀ buf n →
       (buf, n) ≡ emit limit (buf₀, n₀) (map R (unknown_doms t doms word))
   unfolding emitting.emit
-  written-end left buf n e w = ap (λ l. emit limit (buf, n) (map R (filter f l))) (sym e) ∙ w.rows
+  written_end left buf n e w = ap (λ l. emit limit (buf, n) (map R (filter f l))) (sym e) ∙ w.rows
+
+-- the steps of a walk over the doms
+pub ruleset written_steps = (written_start, written_known, written_row, written_end)

@@ -4,11 +4,12 @@
 ghost use Rattle.std.specs.Prelude.{find, map, ◌≡◌, ◌*◌, ◌<◌, ◌≤◌, length};
 ghost use Rattle.rows.specs.Rows.{has};
 ghost use Rattle.rows.specs.Lists.{below};
-ghost use Rattle.definitions.specs.Answer.{most_rows};
 ghost use Rattle.synth_classes.specs.Classes.{unknown_at, other_at};
 ghost use Rattle.interpretation.specs.Emit.{emit_bytes, emit, bytes_of};
 ghost use Rattle.interpretation.specs.Judged.{unknown_doms, unknown_row};
 
+use catalogue::Catalogue;
+use emitting::Kind;
 use fields::Name;
 use rows::Row;
 use synth_classes::Doms;
@@ -24,7 +25,7 @@ pub enum Reason {
     Duplicate,
 }
 
-// Writes the row of a type and a word at place n, as far as the limit goes. An absent name is 255 twice (FORMAT 8.1).
+// Writes the row of a type and a word at place n, as far as the limit goes (FORMAT 8.1).
 pub fn put_reason(
     buf: &mut [u8],
     limit: usize,
@@ -33,27 +34,25 @@ pub fn put_reason(
     reason: Reason,
     word: u8,
 ) -> usize
-    requires { (6 * limit ≤ length buf.old) × (limit ≤ most_rows) }
+    requires { 6 * limit ≤ length buf.old }
     ensures { (buf.new, result) ≡ emit_bytes limit (buf.old, n) (bytes_of subject reason word) }
 {
-    let (kind, other_first, other_second) = match reason {
-        Reason::Unknown(class) => (4, class.first, class.second),
-        Reason::NoResource(class) => (5, class.first, class.second),
-        Reason::Duplicate => (6, 255, 255),
+    let (kind, other) = match reason {
+        Reason::Unknown(class) => (Kind::UndeclaredClass, Some(class)),
+        Reason::NoResource(class) => (Kind::NoResource, Some(class)),
+        Reason::Duplicate => (Kind::Duplicate, None),
     };
     let row = emitting::Row {
         kind,
-        first: subject.first,
-        second: subject.second,
-        other_first,
-        other_second,
-        word,
+        subject,
+        other,
+        word: Some(word),
     };
     emitting::put_row(buf, limit, n, row)
 }
 
 // Whether the class of a word and a dom is not declared.
-pub fn is_unknown(t: &[u64; 1544], word: u8, dom: u8) -> bool
+pub fn is_unknown(t: &Catalogue, word: u8, dom: u8) -> bool
     requires { word < 255 }
     ensures { result ≡ unknown_at t.now word dom }
 {
@@ -61,7 +60,7 @@ pub fn is_unknown(t: &[u64; 1544], word: u8, dom: u8) -> bool
 }
 
 // The first dom whose class is not declared (FORMAT 8.10).
-pub fn first_unknown(t: &[u64; 1544], doms: Row, word: u8) -> Option<u8>
+pub fn first_unknown(t: &Catalogue, doms: Row, word: u8) -> Option<u8>
     requires { word < 255 }
     ensures { result ≡ find (unknown_at t.now word) (below (has doms) 201) }
 {
@@ -69,18 +68,16 @@ pub fn first_unknown(t: &[u64; 1544], doms: Row, word: u8) -> Option<u8>
 }
 
 // Whether the class of a word and a dom is declared with another variant than a resource's.
-fn is_other(t: &[u64; 1544], word: u8, dom: u8) -> bool
+#[tactic(auto, using(crate::specs::JudgedLaws::other_place, crate::specs::JudgedLaws::other_none))]
+fn is_other(t: &Catalogue, word: u8, dom: u8) -> bool
     requires { word < 255 }
     ensures { result ≡ other_at t.now word dom }
 {
-    match synth_classes::class_place(t, dom as usize, word) {
-        Some(place) => catalogue::head_at(t, place) / 64 != 1,
-        None => false,
-    }
+    synth_classes::class_place(t, dom as usize, word).is_some_and(|place| t.heads[place] / 64 != 1)
 }
 
 // The first dom whose class has another variant than a resource's (FORMAT 8.10).
-pub fn first_other(t: &[u64; 1544], doms: Row, word: u8) -> Option<u8>
+pub fn first_other(t: &Catalogue, doms: Row, word: u8) -> Option<u8>
     requires { word < 255 }
     ensures { result ≡ find (other_at t.now word) (below (has doms) 201) }
 {
@@ -88,8 +85,9 @@ pub fn first_other(t: &[u64; 1544], doms: Row, word: u8) -> Option<u8>
 }
 
 // A row of kind 4 for each unknown class, with the class as the other name (FORMAT 8.10).
+#[tactic(auto, using(crate::specs::JudgedLaws::written_steps))]
 pub fn unknown_rows(
-    t: &[u64; 1544],
+    t: &Catalogue,
     place: usize,
     doms: Row,
     word: u8,
@@ -97,7 +95,7 @@ pub fn unknown_rows(
     limit: usize,
     n: usize,
 ) -> usize
-    requires { (word < 255) × (place < 64) × (6 * limit ≤ length buf.old) × (limit ≤ most_rows) }
+    requires { (word < 255) × (place < 64) × (6 * limit ≤ length buf.old) }
     ensures { (buf.new, result) ≡ emit limit (buf.old, n) (map (unknown_row t.now place word) (unknown_doms t.now doms word)) }
 {
     let subject = synth_classes::name_at(t, place);

@@ -8,7 +8,6 @@ use Rattle.definitions.specs.Map.{LineMap}
 use Rattle.definitions.specs.Inherited.{InheritedAnnotation}
 use Rattle.definitions.specs.Synthesis as definitions
 use Rattle.definitions.specs.Synthesis.{interpret_all}
-use Rattle.definitions.specs.Answer.{most_rows}
 use Rattle.annotations.specs.declared.AnnotationInfo.{AnnotationInfo}
 use Rattle.annotations.specs.Reading.{info_of}
 use Rattle.dedup.specs.declared.Entry.{Entry}
@@ -19,13 +18,13 @@ use Rattle.own_associates.specs.declared.OwnAssociates.{OwnAssociates}
 use Rattle.own_associates.specs.Owning.{listed}
 use Rattle.line_laws.specs.Statements.{line_map}
 use Rattle.law_classes.specs.Sets.{type_at}
+use Rattle.catalogue.specs.declared.Catalogue.{Catalogue}
 use Rattle.synth_classes.specs.Made.{type_names, names_in}
 use Rattle.synth_classes.specs.Known.{Known}
 use Rattle.interpretation.specs.Emit.{emit}
-use Rattle.duplicates.specs.Held.{Makings, makings_in}
+use Rattle.duplicates.specs.declared.Makings.{Makings}
 use Rattle.associates.specs.Step.{items_held}
 use Rattle.interpreting.specs.Entry.{size}
-use Rattle.interpreting.specs.declared.Told.{Told}
 use Rattle.interpreting.specs.declared.Interpreted.{Interpreted}
 
 -- how far a type is, with its makings
@@ -34,8 +33,8 @@ pub record TypeReached : Type 0 where
   pub rows : ℕ
   pub made : Makings
 
-abbrev pub type_reached : Told → List ℕ → TypeReached
-type_reached p numbers = record { clean = p.clean; rows = p.rows; made = makings_in numbers p.made }
+abbrev pub type_reached : Interpreted → Makings → TypeReached
+type_reached p made = record { clean = p.clean; rows = p.rows; made = made }
 
 -- an own annotation has no parents
 abbrev pub as_own : AnnotationInfo → InheritedAnnotation
@@ -61,13 +60,13 @@ pub record AddedIn (m : LineMap) (T limit : ℕ) (l : List InheritedAnnotation) 
   pub items : items_held m T r.made ≡ (interpreted_of m T l s.made).items
   pub clean : r.clean ≡ (s.clean && null (interpreted_of m T l s.made).rows)
 
--- the same for every sheet whose catalogue the table is, of annotations that name its types; at most k resources were made
-pub record Added (t : List ℕ) (T limit : ℕ) (l : List Name → List InheritedAnnotation) (k : ℕ) (s : TypeReached) (b : List ℕ) (r : TypeReached) (b' : List ℕ) : Type 0 where
+-- the same for every sheet whose catalogue it is, of annotations that name its types; at most k resources were made
+pub record Added (t : Catalogue) (T limit : ℕ) (l : List Name → List InheritedAnnotation) (k : ℕ) (s : TypeReached) (b : List ℕ) (r : TypeReached) (b' : List ℕ) : Type 0 where
   pub count : r.made.count ≤ s.made.count + k
   pub right : (x : Sheet) → Known x t → T < length (line_map x).types → AddedIn (line_map x) T limit (l (type_names (line_map x))) s b r b'
 
 -- r is s behind the entry e: behind whatever annotation has its words, dom sets and parents
-pub record WithEntry (t : List ℕ) (T : ℕ) (e : Entry) (doms : List Row) (limit : ℕ) (s : TypeReached) (b : List ℕ) (r : TypeReached) (b' : List ℕ) : Type 0 where
+pub record WithEntry (t : Catalogue) (T : ℕ) (e : Entry) (doms : List Row) (limit : ℕ) (s : TypeReached) (b : List ℕ) (r : TypeReached) (b' : List ℕ) : Type 0 where
   pub count : r.made.count ≤ s.made.count + size e
   pub added : (x : Sheet) → Known x t → T < length (line_map x).types → (a : InheritedAnnotation) → resources_of a.annotation ≡ resources_at (table_of doms) e.words →
       a.parents ≡ names_in (line_map x) e.parents → AddedIn (line_map x) T limit (a ∷ []) s b r b'
@@ -78,7 +77,6 @@ pub record WithEntry (t : List ℕ) (T : ℕ) (e : Entry) (doms : List Row) (lim
 pub record Ground (T limit : ℕ) (b : List ℕ) : Type 0 where
   pub place : T < 64
   pub slice : 6 * limit ≤ length b
-  pub few : limit ≤ most_rows
 
 pub record TypeReady (T : ℕ) (o : OwnAssociates) (h : Inherited) (limit : ℕ) (b : List ℕ) : Type 0 where
   pub on_ground : Ground T limit b
@@ -94,6 +92,6 @@ pub record TypeDoneIn (m : LineMap) (T : ℕ) (o : OwnAssociates) (h : Inherited
   pub rows : (b', r.rows) ≡ emit limit (b, n) (interpreted_at m T o h).rows
   pub clean : r.clean ≡ null (interpreted_at m T o h).rows
 
--- the same for every sheet whose catalogue the table is
-pub record TypeDone (t : List ℕ) (T : ℕ) (o : OwnAssociates) (h : Inherited) (limit n : ℕ) (b : List ℕ) (r : Interpreted) (b' : List ℕ) : Type 0 where
+-- the same for every sheet whose catalogue it is
+pub record TypeDone (t : Catalogue) (T : ℕ) (o : OwnAssociates) (h : Inherited) (limit n : ℕ) (b : List ℕ) (r : Interpreted) (b' : List ℕ) : Type 0 where
   pub right : (x : Sheet) → Known x t → T < length (line_map x).types → TypeDoneIn (line_map x) T o h limit n b r b'

@@ -18,13 +18,15 @@ use Rattle.dedup.specs.Reading.{resources_at, names_at, table_of, inherited_of}
 use Rattle.own_associates.specs.declared.OwnAssociates.{OwnAssociates}
 use Rattle.line_laws.specs.Statements.{line_map}
 use Rattle.law_classes.specs.Sets.{type_at}
+use Rattle.catalogue.specs.declared.Catalogue.{Catalogue}
 use Rattle.synth_classes.specs.Made.{type_names, names_in}
 use Rattle.interpretation.specs.Emit.{emit}
-use Rattle.duplicates.specs.Held.{Makings, held_items}
+use Rattle.duplicates.specs.declared.Makings.{Makings}
+use Rattle.duplicates.specs.Held.{held_items}
 use Rattle.associates.specs.StepLaws.{no_rows}
 use Rattle.associates.specs.Step.{Reached, items_held}
 use Rattle.emitting.specs.Emitting.{emit-append}
-use Rattle.interpreting.specs.Entry.{size, interpret_entry, EntryDoneIn, EntryDone}
+use Rattle.interpreting.specs.Entry.{size, interpret_entry, begun, EntryDoneIn, EntryDone}
 use Rattle.interpreting.specs.Annotations.{TypeReached, own_entries_in, interpreted_of, AddedIn, Added, WithEntry, interpreted_at, TypeDoneIn, TypeDone}
 
 -- ---- some annotations, and then others
@@ -84,7 +86,7 @@ module _ (t : LineMap) (T limit : ℕ) where
   -- one annotation
   added-entry : (x : InheritedAnnotation) (e : Entry) (doms : List Row) (s : TypeReached) (b : List ℕ) (r : Reached) (b' : List ℕ) (c : Bool) →
       resources_of x.annotation ≡ resources_at (table_of doms) e.words → x.parents ≡ names_in t e.parents →
-      EntryDoneIn t T e doms limit (record { failed = false; ended = false; rows = s.rows; made = s.made }) b r b' → c ≡ (s.clean && not r.failed) →
+      EntryDoneIn t T e doms limit (begun s.rows s.made) b r b' → c ≡ (s.clean && not r.failed) →
       AddedIn t T limit (x ∷ []) s b (record { clean = c; rows = r.rows; made = r.made }) b'
   added-entry x e doms s b r b' c us ps d h =
       let f = one_entry x e doms (items_held t T s.made) us ps in
@@ -113,9 +115,9 @@ module _ (t : LineMap) (T limit : ℕ) where
   unfolding interpreted_at interpret_all inherited_of entries_of
   none_in o h n b e d = record { rows = rw (e, d) (no_rows limit (b, n)); clean = rw (e, d) refl }
 
--- ---- for every sheet whose catalogue the table is
+-- ---- for every sheet whose catalogue it is
 
-module _ (t : List ℕ) (T limit : ℕ) where
+module _ (t : Catalogue) (T limit : ℕ) where
   pub all_none : (s : TypeReached) (b : List ℕ) → Added t T limit (λ ns. []) 0 s b s b
   all_none s b = record { count = omega arith; right = λ x k h. added_none (line_map x) T limit s b }
 
@@ -138,7 +140,7 @@ module _ (t : List ℕ) (T limit : ℕ) where
 
   -- one annotation
   pub entry-with : (e : Entry) (doms : List Row) (s : TypeReached) (b : List ℕ) (r : Reached) (b' : List ℕ) (c : Bool) →
-      EntryDone t T e doms limit (record { failed = false; ended = false; rows = s.rows; made = s.made }) b r b' → c ≡ (s.clean && not r.failed) →
+      EntryDone t T e doms limit (begun s.rows s.made) b r b' → c ≡ (s.clean && not r.failed) →
       WithEntry t T e doms limit s b (record { clean = c; rows = r.rows; made = r.made }) b'
   entry-with e doms s b r b' c d h =
       record { count = d.count; added = λ x k l a us ps. added-entry (line_map x) T limit a e doms s b r b' c us ps (d.right x k l) h }

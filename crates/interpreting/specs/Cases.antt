@@ -26,7 +26,8 @@ use Rattle.inheritance.specs.Own as own
 use Rattle.inheritance.specs.Own.{Own, AllOwn}
 use Rattle.own_associates.specs.declared.OwnAssociates.{OwnAssociates}
 use Rattle.synth_classes.specs.Made.{type_names}
-use Rattle.duplicates.specs.Held.{Makings}
+use Rattle.duplicates.specs.declared.Makings.{Makings}
+use Rattle.duplicates.specs.Held.{no_making}
 use Rattle.associates.specs.Step.{Ready}
 use Rattle.interpreting.specs.Entry.{EntryReady}
 use Rattle.interpreting.specs.Annotations.{TypeReady, interpreted_at}
@@ -126,18 +127,18 @@ inherited-good =
 
 -- a slice for four rows
 pub ready : TypeReady 0 owns inherited 4 (replicate 24 0)
-ready = record { on_ground = record { place = omega arith; slice = omega arith; few = omega arith }; own = owns-own; inherited = inherited-good }
+ready = record { on_ground = record { place = omega arith; slice = omega arith }; own = owns-own; inherited = inherited-good }
 
 -- ---- one word and one annotation, with as many makings as there can be before them
 
 abbrev makings : ℕ → Makings
-makings n = record { count = n; numbers = replicate 2280 0 }
+makings n = record { count = n; items = replicate 380 no_making }
 
 pub word-ready : Ready (record { place = 0; word = 199 }) 4 (record { failed = false; ended = false; rows = 0; made = makings 379 }) (replicate 24 0)
-word-ready = record { place = omega arith; word = omega arith; room = omega arith; slice = omega arith; few = omega arith }
+word-ready = record { place = omega arith; word = omega arith; room = omega arith; slice = omega arith }
 
 pub entry_ready : EntryReady 0 entry 4 (makings 180) (replicate 24 0)
-entry_ready = record { place = omega arith; room = omega (arith, many-most (has words) 200); slice = omega arith; few = omega arith }
+entry_ready = record { place = omega arith; room = omega (arith, many-most (has words) 200); slice = omega arith }
 
 -- ---- what it comes to
 

@@ -6,16 +6,16 @@ use Rattle.rows.specs.Rows.{has}
 use Rattle.definitions.specs.Records.{Item, Sheet}
 use Rattle.definitions.specs.Map.{LineMap}
 use Rattle.definitions.specs.Synthesis.{Interpreted, interpret_words}
-use Rattle.definitions.specs.Answer.{most_rows}
 use Rattle.dedup.specs.declared.Entry.{Entry}
 use Rattle.dedup.specs.Lists.{many}
 use Rattle.dedup.specs.Reading.{resources_at, table_of}
 use Rattle.line_laws.specs.Statements.{line_map}
 use Rattle.law_classes.specs.Sets.{type_at}
+use Rattle.catalogue.specs.declared.Catalogue.{Catalogue}
 use Rattle.synth_classes.specs.Made.{names_in}
 use Rattle.synth_classes.specs.Known.{Known}
 use Rattle.interpretation.specs.Emit.{emit}
-use Rattle.duplicates.specs.Held.{Makings}
+use Rattle.duplicates.specs.declared.Makings.{Makings}
 use Rattle.associates.specs.Step.{Reached, items_held}
 
 -- how many words it has
@@ -26,12 +26,15 @@ size e = many (has e.words) 200
 unfoldable pub interpret_entry : LineMap → ℕ → Entry → List Row → List Item → Interpreted
 interpret_entry m T e doms is = interpret_words m (type_at m T) (names_in m e.parents) (resources_at (table_of doms) e.words) false is
 
+-- before its first word
+abbrev pub begun : ℕ → Makings → Reached
+begun rows made = record { failed = false; ended = false; rows = rows; made = made }
+
 -- what it needs: room for as many makings as it has words, and for the rows
 pub record EntryReady (T : ℕ) (e : Entry) (limit : ℕ) (made : Makings) (b : List ℕ) : Type 0 where
   pub place : T < 64
   pub room : made.count + size e ≤ 380
   pub slice : 6 * limit ≤ length b
-  pub few : limit ≤ most_rows
 
 -- r is s behind it: `failed` where it added a row
 pub record EntryDoneIn (m : LineMap) (T : ℕ) (e : Entry) (doms : List Row) (limit : ℕ) (s : Reached) (b : List ℕ) (r : Reached) (b' : List ℕ) : Type 0 where
@@ -39,7 +42,7 @@ pub record EntryDoneIn (m : LineMap) (T : ℕ) (e : Entry) (doms : List Row) (li
   pub items : items_held m T r.made ≡ (interpret_entry m T e doms (items_held m T s.made)).items
   pub failed : r.failed ≡ not (null (interpret_entry m T e doms (items_held m T s.made)).rows)
 
--- the same for every sheet whose catalogue the table is
-pub record EntryDone (t : List ℕ) (T : ℕ) (e : Entry) (doms : List Row) (limit : ℕ) (s : Reached) (b : List ℕ) (r : Reached) (b' : List ℕ) : Type 0 where
+-- the same for every sheet whose catalogue it is
+pub record EntryDone (t : Catalogue) (T : ℕ) (e : Entry) (doms : List Row) (limit : ℕ) (s : Reached) (b : List ℕ) (r : Reached) (b' : List ℕ) : Type 0 where
   pub count : r.made.count ≤ s.made.count + size e
   pub right : (x : Sheet) → Known x t → T < length (line_map x).types → EntryDoneIn (line_map x) T e doms limit s b r b'

@@ -1,3 +1,4 @@
+pub mod Words
 pub mod Entry
 pub mod EntryLaws
 pub mod Annotations

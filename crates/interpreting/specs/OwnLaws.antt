@@ -1,16 +1,15 @@
 -- An own associate as an entry: its words as a row of bits, its dom sets by word, and no parents.
-use Rattle.std.specs.Prelude.{Bool, ◌≡◌, ℕ, zero, suc, ◌+◌, ◌≤◌, ◌<◌, eqb, length, take, get_or}
+use Rattle.std.specs.Prelude.{◌≡◌, ℕ, zero, suc, ◌+◌, ◌≤◌, ◌<◌, eqb, length, take, get_or}
 use mathlib.Core.List.{List, [], ◌∷◌, ◌++◌, map, head-eq_of_cons-eq}
 use Rattle.std.proofs.Math.Path.{refl, ap}
 use Rattle.std.proofs.Common.{sym, ◌∙◌, add-one, arith, eq-eqb, ne_eqb}
 use Rattle.std.proofs.Math.Seq
 use Rattle.lists.specs.Lists.{filter}
-use Rattle.lists.specs.Tests.{by}
 use Rattle.lists.specs.Appending.{filter_alike, map-append, map-map, filter-append, filter_map}
 use Rattle.rows.specs.declared.Row.{Row}
 use Rattle.rows.specs.Rows.{has, has_bit}
 use Rattle.rows.specs.RowLaws.{bit-none}
-use Rattle.rows.specs.Lists.{between, below, between-same, between_none, elem}
+use Rattle.rows.specs.Lists.{below, between-same, between_none, elem}
 use Rattle.definitions.specs.Records.{Name, TypeInfo, associate}
 use Rattle.definitions.specs.Checks.{kind_of, resources_of}
 use Rattle.definitions.specs.Inherited.{InheritedAnnotation, own_associates, as_associate, dedup_one}
@@ -28,28 +27,8 @@ use Rattle.inheritance.specs.Own.{words_in, Own, WordsOf, DomsWith, handed, zero
 use Rattle.inheritance.specs.OwnLaws.{ascending-is, entry_of, own-sound, joins-own-by}
 use Rattle.own_associates.specs.declared.OwnAssociates.{OwnAssociates}
 use Rattle.own_associates.specs.Owning.{listed}
+use Rattle.interpreting.specs.Words.{many_below}
 use Rattle.interpreting.specs.Annotations.{as_own, is_plain, plain_of, own_entries_in}
-
--- the number of words is the length of their list
-many-between : (f : ℕ → Bool) (i n : ℕ) → length (between f i n) + many f i ≡ many f (i + n)
-unfolding many between
-many-between f i zero =
-    let z : i ≡ i + 0 = omega arith in
-    let e : many f i ≡ many f (i + 0) = ap (λ (k : ℕ). many f k) z in
-    omega (arith, e)
-many-between f i (suc n) =
-    let z : suc i + n ≡ i + suc n = omega arith in
-    let e : many f (suc i + n) ≡ many f (i + suc n) = ap (λ (k : ℕ). many f k) z in
-    by (f i)
-    (λ p. rw p (omega (arith, e, rw p at (many-between f (suc i) n))))
-    (λ p. rw p (omega (arith, e, rw p at (many-between f (suc i) n))))
-
-many_below : (f : ℕ → Bool) (n : ℕ) → length (below f n) ≡ many f n
-unfolding many
-many_below f n = omega (arith, many-between f 0 n, ap (λ (k : ℕ). many f k) (zero-plus n))
-  where
-    zero-plus : (n : ℕ) → 0 + n ≡ n
-    zero-plus n = omega arith
 
 -- ---- its resources
 

@@ -1,21 +1,28 @@
 // What the annotations of one type come to, after `interpret_associate` and `interpret_inherited_annotations` of compile.rs.
 #![tactic(auto)]
 
-ghost use Rattle.std.specs.Prelude.{◌&&◌, not, [], ◌∷◌, ◌≡◌, ◌+◌, ◌≤◌, ◌<◌};
+ghost use Rattle.std.specs.Prelude.{◌&&◌, not, [], ◌∷◌, ◌≡◌, ◌+◌, ◌≤◌};
+ghost use Rattle.std.specs.Iterator.{YieldsFirst, item_count};
 ghost use Rattle.rows.specs.Rows.{has};
+ghost use Rattle.rows.specs.Lists.{below};
 ghost use Rattle.dedup.specs.Reading.{inherited_of, Good};
 ghost use Rattle.inheritance.specs.Own.{Own, AllOwn};
-ghost use Rattle.duplicates.specs.Held.{makings_in};
-ghost use Rattle.associates.specs.Step.{failed_in, ended_in, reached};
-ghost use Rattle.interpreting.specs.Entry.{EntryReady, EntryDone};
+ghost use Rattle.associates.specs.Step.{failed_in, reached};
+ghost use Rattle.interpreting.specs.Words.{words_left};
+ghost use Rattle.interpreting.specs.Entry.{begun, EntryReady, EntryDone};
 ghost use Rattle.interpreting.specs.Annotations.{type_reached, plain_of, own_entries_in, Added, WithEntry, Ground, TypeReady, TypeDone};
 
 use annotations::AnnotationInfo;
 use associates::{Progress, Standing};
+use catalogue::Catalogue;
 use dedup::{Entry, Inherited};
+use duplicates::Makings;
 use own_associates::OwnAssociates;
 use rows::Row;
 use synth_classes::{Origin, Site};
+
+// A sheet has at most as many words (FORMAT 1.2).
+const MOST_WORDS: usize = 200;
 
 // A type's turn: its place, and how many rows there can be.
 #[derive(Clone, Copy)]
@@ -24,61 +31,77 @@ pub struct Turn {
     pub limit: usize,
 }
 
-// How far a type is: whether it added no row, the count of rows, and that of its makings.
-#[derive(Clone, Copy)]
-pub struct Told {
-    pub clean: bool,
-    pub rows: usize,
-    pub made: usize,
-}
-
-// What a type came to: the count of rows, and whether it added none.
+// How far a type is, and in the end what it came to: the count of rows, and whether it added none.
 #[derive(Clone, Copy)]
 pub struct Interpreted {
     pub rows: usize,
     pub clean: bool,
 }
 
-// Whether the word is the annotation's, which has not ended.
-fn is_due(words: Row, word: usize, standing: Standing) -> bool
-    requires { word < 256 }
-    ensures { result ≡ (has words word && not (ended_in standing)) }
-{
-    rows::holds(words, word) && standing != Standing::Ended
+// The words of a row, ascending: as synth_classes::Doms, which ends one later, since no dom is a number too.
+#[derive(Drop)]
+struct Words {
+    row: Row,
+    from: u8,
 }
 
-// One annotation, its words ascending. The loop goes from one that stands to the next, and not over all numbers.
+impl Words {
+    // Those of a whole row.
+    fn of(row: Row) -> Words
+        ensures { words_left result ≡ below (has row) 200 }
+    {
+        Words { row, from: 0 }
+    }
+}
+
+impl Iterator for Words {
+    type Item = u8;
+
+    ghost next_gives = { YieldsFirst words_left };
+
+    ghost remaining = { item_count words_left };
+
+    #[tactic(auto, using(crate::specs::Words::next_word, crate::specs::Words::last_word))]
+    fn next(&mut self) -> Option<u8> {
+        let k = rows::next(self.row, self.from as usize);
+        if k < MOST_WORDS {
+            let word = k as u8;
+            self.from = word + 1;
+            return Some(word);
+        }
+        None
+    }
+}
+
+// One annotation, its words ascending, as far as it goes.
+#[tactic(auto, using(crate::specs::Words::word_small, crate::specs::EntryLaws::going_room))]
 pub fn interpret_associate(
-    t: &[u64; 1544],
+    t: &Catalogue,
     turn: Turn,
     e: Entry,
     doms: [Row; 200],
-    s: Progress,
-    made: &mut [u64; 2280],
+    rows: usize,
+    made: &mut Makings,
     buf: &mut [u8],
 ) -> Progress
-    requires { EntryReady turn.place e turn.limit (makings_in made.old s.made) buf.old }
-    ensures { EntryDone t.now turn.place e doms turn.limit (reached s made.old) buf.old (reached result made.new) buf.new }
+    requires { EntryReady turn.place e turn.limit made.old buf.old }
+    ensures { EntryDone t.now turn.place e doms turn.limit (begun rows made.old) buf.old (reached result made.new) buf.new }
 {
-    let words = e.words;
-    let parents = e.parents;
     let place = turn.place;
     let limit = turn.limit;
+    let parents = e.parents;
     let mut p = Progress {
         standing: Standing::Going,
-        rows: s.rows,
-        made: s.made,
+        rows,
     };
-    let mut w = rows::next(words, 0);
-    while w < 200 {
-        if is_due(words, w, p.standing) {
-            let d = doms[w];
-            let word = w as u8;
-            let site = Site { place, word };
-            let origin = Origin { doms: d, parents };
-            p = associates::interpret_word(t, site, origin, p, made, buf, limit);
+    for word in Words::of(e.words) {
+        if p.standing == Standing::Ended {
+            return p;
         }
-        w = rows::next(words, w + 1);
+        let d = doms[word as usize];
+        let site = Site { place, word };
+        let origin = Origin { doms: d, parents };
+        p = associates::interpret_word(t, site, origin, p, made, buf, limit);
     }
     p
 }
@@ -92,42 +115,36 @@ fn still_clean(clean: bool, standing: Standing) -> bool
 
 // One annotation more.
 fn with_entry(
-    t: &[u64; 1544],
+    t: &Catalogue,
     turn: Turn,
     e: Entry,
     doms: [Row; 200],
-    s: Told,
-    made: &mut [u64; 2280],
+    s: Interpreted,
+    made: &mut Makings,
     buf: &mut [u8],
-) -> Told
-    requires { EntryReady turn.place e turn.limit (makings_in made.old s.made) buf.old }
+) -> Interpreted
+    requires { EntryReady turn.place e turn.limit made.old buf.old }
     ensures { WithEntry t.now turn.place e doms turn.limit (type_reached s made.old) buf.old (type_reached result made.new) buf.new }
 {
-    let p = Progress {
-        standing: Standing::Going,
-        rows: s.rows,
-        made: s.made,
-    };
-    let r = interpret_associate(t, turn, e, doms, p, made, buf);
+    let r = interpret_associate(t, turn, e, doms, s.rows, made, buf);
     let clean = still_clean(s.clean, r.standing);
-    Told {
-        clean,
+    Interpreted {
         rows: r.rows,
-        made: r.made,
+        clean,
     }
 }
 
 // One own associate more. An Associate is an annotation without parents; a NestAssociate (2) is not interpreted.
 fn interpret_own(
-    t: &[u64; 1544],
+    t: &Catalogue,
     turn: Turn,
     a: AnnotationInfo,
-    s: Told,
-    made: &mut [u64; 2280],
+    s: Interpreted,
+    made: &mut Makings,
     buf: &mut [u8],
-) -> Told
+) -> Interpreted
     requires on_ground { Ground turn.place turn.limit buf.old }
-    requires own { Own a × (s.made + 15 ≤ 380) }
+    requires own { Own a × (made.old.count + 15 ≤ 380) }
     ensures { Added t.now turn.place turn.limit (λ ns. plain_of (a ∷ [])) 15 (type_reached s made.old) buf.old (type_reached result made.new) buf.new }
 {
     if a.kind != 1 {
@@ -146,15 +163,15 @@ fn interpret_own(
 
 // The type's own associates one after the other, in their order (FORMAT 8.6, 8.7).
 fn interpret_owns(
-    t: &[u64; 1544],
+    t: &Catalogue,
     turn: Turn,
     own: OwnAssociates,
-    s: Told,
-    made: &mut [u64; 2280],
+    s: Interpreted,
+    made: &mut Makings,
     buf: &mut [u8],
-) -> Told
+) -> Interpreted
     requires on_ground { Ground turn.place turn.limit buf.old }
-    requires all_own { AllOwn own.items own.count × (s.made + 180 ≤ 380) }
+    requires all_own { AllOwn own.items own.count × (made.old.count + 180 ≤ 380) }
     ensures { Added t.now turn.place turn.limit (λ ns. own_entries_in own) 180 (type_reached s made.old) buf.old (type_reached result made.new) buf.new }
 {
     let count = own.count;
@@ -169,15 +186,15 @@ fn interpret_owns(
 
 // What the type inherits, in the order in which the dedup left it (FORMAT 8.6, 8.9).
 fn interpret_extra(
-    t: &[u64; 1544],
+    t: &Catalogue,
     turn: Turn,
     h: Inherited,
-    s: Told,
-    made: &mut [u64; 2280],
+    s: Interpreted,
+    made: &mut Makings,
     buf: &mut [u8],
-) -> Told
+) -> Interpreted
     requires on_ground { Ground turn.place turn.limit buf.old }
-    requires good { Good h × (s.made + 200 ≤ 380) }
+    requires good { Good h × (made.old.count + 200 ≤ 380) }
     ensures { Added t.now turn.place turn.limit (λ ns. inherited_of ns h) 200 (type_reached s made.old) buf.old (type_reached result made.new) buf.new }
 {
     let list = h.list;
@@ -194,7 +211,7 @@ fn interpret_extra(
 
 // All annotations of the type at a place: its own associates, and what it inherits. The rows go behind the first n.
 pub fn interpret_inherited_annotations(
-    t: &[u64; 1544],
+    t: &Catalogue,
     place: usize,
     own: OwnAssociates,
     h: Inherited,
@@ -205,25 +222,15 @@ pub fn interpret_inherited_annotations(
     requires { TypeReady place own h limit buf.old }
     ensures { TypeDone t.now place own h limit n buf.old result buf.new }
 {
-    if own.count == 0 {
-        if h.list.count == 0 {
-            return Interpreted {
-                rows: n,
-                clean: true,
-            };
-        }
-    }
-    let mut made = [0u64; 2280];
-    let turn = Turn { place, limit };
-    let s = Told {
-        clean: true,
+    let s = Interpreted {
         rows: n,
-        made: 0,
+        clean: true,
     };
-    let p = interpret_owns(t, turn, own, s, &mut made, buf);
-    let r = interpret_extra(t, turn, h, p, &mut made, buf);
-    Interpreted {
-        rows: r.rows,
-        clean: r.clean,
+    if own.count == 0 && h.list.count == 0 {
+        return s;
     }
+    let mut made = Makings::new();
+    let turn = Turn { place, limit };
+    let p = interpret_owns(t, turn, own, s, &mut made, buf);
+    interpret_extra(t, turn, h, p, &mut made, buf)
 }

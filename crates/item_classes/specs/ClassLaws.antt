@@ -63,13 +63,13 @@ gathers-none resources = record { own = bit-none; given = bit-none; wrong = refl
 joined : (u x : ℕ) (l : List ℕ) → ((a : ℕ) → has_bit u a ≡ any (λ y. has_bit y a) l) → (a : ℕ) → has_bit (bit_or u x) a ≡ any (λ y. has_bit y a) (l ++ (x ∷ []))
 joined u x l e a = bit-either u x a ∙ ap (λ (b : Bool). b || has_bit x a) (e a) ∙ sym (any_snoc (λ y. has_bit y a) l x)
 
-pub gathers-own : (resources x : ℕ) (c : Classes) → GathersMore resources true x c (record {
+pub gathers_own : (resources x : ℕ) (c : Classes) → GathersMore resources true x c (record {
   own = bit_or c.own x;
   given = bit_or c.given x;
   wrong = (c.wrong || lost resources x) || meets c.own x;
   missing = c.missing || lost resources x;
 })
-gathers-own resources x c =
+gathers_own resources x c =
     record {
       more = λ os gs g. record {
         own = joined c.own x os g.own;
@@ -82,13 +82,13 @@ gathers-own resources x c =
       };
     }
 
-pub gathers-nested : (resources x : ℕ) (c : Classes) → GathersMore resources false x c (record {
+pub gathers_nested : (resources x : ℕ) (c : Classes) → GathersMore resources false x c (record {
   own = c.own;
   given = bit_or c.given x;
   wrong = c.wrong;
   missing = c.missing || lost resources x;
 })
-gathers-nested resources x c =
+gathers_nested resources x c =
     record {
       more = λ os gs g. record {
         own = λ a. g.own a ∙ ap (any (λ y. has_bit y a)) (sym (append-nil os));

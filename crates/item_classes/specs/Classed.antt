@@ -23,6 +23,7 @@ use Rattle.fields.specs.Fields.{two_words}
 use Rattle.law_classes.specs.Sets.{Set, both, some, class_of, named, own_set, given_set, type_at, no_type, SetIs}
 use Rattle.law_classes.specs.Numbers.{bit-both, place-of, Fits, holds-both, holds-some}
 use Rattle.law_classes.specs.Refusal.{unmet, has_child, lost_class, own_twice}
+use Rattle.catalogue.specs.declared.Catalogue.{Catalogue}
 use Rattle.item_names.specs.Holding.{Holds, nonzero-bit, holds-set, holds_fits}
 use Rattle.item_names.specs.Named.{Named, NamesIn, types-hold}
 use Rattle.item_classes.specs.Classes.{class_by, class_in, meets, lost, Gathers}
@@ -46,7 +47,7 @@ any-agree f g (x ∷ l) e = ap₂ (λ (a b : Bool). a || b) (e x (Memᴰ.head re
 abbrev pub AllWithin : ℕ → List Resource → Type 0
 AllWithin W us = (u : Resource) → In u us → ResourceWithin W u
 
-module _ (s : Sheet) (firsts seconds t : List ℕ) (nm : Named (line_map s) (length s.words) firsts seconds)
+module _ (s : Sheet) (firsts seconds : List ℕ) (t : Catalogue) (nm : Named (line_map s) (length s.words) firsts seconds)
     (ns : NamesIn firsts seconds (length (line_map s).types) (length s.words) t) where
   abbrev m : LineMap
   m = line_map s

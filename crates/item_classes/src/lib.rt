@@ -14,6 +14,7 @@ pub struct Classes {
 }
 
 // One class more, of an own Associate.
+#[tactic(auto, using(crate::specs::ClassLaws::gathers_own))]
 fn with_own(c: Classes, resources: u64, class: u64) -> Classes
     ensures { GathersMore resources true class c result }
 {
@@ -28,6 +29,7 @@ fn with_own(c: Classes, resources: u64, class: u64) -> Classes
 }
 
 // One class more, of a nested Associate.
+#[tactic(auto, using(crate::specs::ClassLaws::gathers_nested))]
 fn with_nested(c: Classes, resources: u64, class: u64) -> Classes
     ensures { GathersMore resources false class c result }
 {

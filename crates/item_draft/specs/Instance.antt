@@ -1,6 +1,6 @@
--- A small map and its draft: what is asked of a draft is no empty demand. The words are `resource` and `self`. The sheet lists the domain
--- resource.self, which associates `resource` and has it as parent, before the virtual resource `resource`, which has a mark.
-use Rattle.std.specs.Prelude.{Bool, true, false, List, [], ◌∷◌, ◌++◌, map, ◌≡◌, refl, ℕ, zero, suc, ◌%◌, ◌<◌, eqb, take, drop, replicate}
+-- A small map and its draft: what is asked of a draft is no empty demand. The words are `resource` and `self`. The sheet lists the
+-- domain resource.self, which associates `resource` and has it as parent, before the virtual resource `resource`, which has a mark.
+use Rattle.std.specs.Prelude.{Bool, true, false, List, [], ◌∷◌, map, ◌≡◌, refl, ℕ, zero, suc, ◌%◌, ◌<◌, eqb, take, drop, replicate}
 use mathlib.Core.List.Memᴰ
 use Rattle.std.proofs.Common.{arith}
 use Rattle.lists.specs.Lists.{insert, sort, include, set_of}
@@ -17,6 +17,7 @@ use Rattle.sheet_keys.specs.Keys.{name_of_key, names_from}
 use Rattle.sheet_notes.specs.Notes.{notes}
 use Rattle.sheet_draft.specs.Draft.{place_at, key_at, notes_at, type_in, types_in}
 use Rattle.sheet_draft.specs.Drafted.{entry_before, entries_of}
+use Rattle.sheet_draft.specs.declared.Draft.{Draft}
 use Rattle.item_notes.specs.Notes.{DoneAt}
 use Rattle.item_draft.specs.Fill.{by_name, Drawn}
 
@@ -52,8 +53,8 @@ abbrev pub small_bits : List Bool
 small_bits = bits_of small_bytes
 
 -- row 0 has the name of two words, row 1 that of one
-abbrev pub small_draft : List ℕ
-small_draft = (2 ∷ 0 ∷ replicate 62 0) ++ ((1 ∷ 96 ∷ replicate 62 0) ++ ((0 ∷ 23 ∷ replicate 62 0) ++ replicate 512 0))
+abbrev pub small_draft : Draft
+small_draft = record { keys = 2 ∷ 0 ∷ replicate 62 0; heads = 1 ∷ 96 ∷ replicate 62 0; places = 0 ∷ 23 ∷ replicate 62 0; parents = replicate 512 0 }
 
 -- by name, row 1 comes first
 abbrev pub small_entries : List ℕ
@@ -145,7 +146,7 @@ rows-sorted = refl
 
 pub small-drawn : Drawn small small_bits small_draft small_entries 2
 small-drawn = record {
-  drafted = record { few = omega arith; long = refl; types = types-drafted };
+  drafted = record { few = omega arith; types = types-drafted };
   entered = record { long = refl; sorted = entries_sorted };
   sorted = rows-sorted;
   read = notes-read;

@@ -1,4 +1,4 @@
--- The extension records in the table are those of the map.
+-- The extension records in the catalogue are those of the map.
 use Rattle.std.proofs.Math.Bool.{Bool}
 use Rattle.std.specs.Prelude.{true, false, ◌&&◌, ◌≡◌, refl, length}
 use mathlib.Core.List.{List, [], ◌∷◌, ◌++◌, map}
@@ -22,8 +22,9 @@ use Rattle.line_laws.specs.Statements.{line_map}
 use Rattle.line_laws.specs.Within.{NameWithin, ExtensionWithin, Within}
 use Rattle.ordering.specs.Lists.{tab, any-tab-out, below, below-same, below_none, filter-below, map_below, same-list-sym}
 use Rattle.law_classes.specs.Sets.{type_at}
-use Rattle.catalogue.specs.Layout.{key_at, extension_key_at, extension_count_at, extension_parent_at, extensions_in, extended_in, looked}
+use Rattle.catalogue.specs.Layout.{key_at, extension_key_at, extension_count_at, extension_parent_at, looked}
 use Rattle.catalogue.specs.Catalogue.{name_of_key, parents_in, added_in, Extended}
+use Rattle.catalogue.specs.declared.Catalogue.{Catalogue}
 use Rattle.item_names.specs.Names.{key_of}
 use Rattle.item_names.specs.Named.{Named, NamesIn, name-of-key, key-name, types-hold}
 use Rattle.item_sets.specs.Sets.{RecordKeysFit}
@@ -77,7 +78,7 @@ filter-tabulate {A} f h n = ap (filter f) (as-tab n ∙ sym (map_below h n)) ∙
 
 -- ---- the records by themselves
 
-module _ (s : Sheet) (t : List ℕ) (n : ℕ) (w : Within s) (held : tabulate (record_in t) n ≡ s.extensions) where
+module _ (s : Sheet) (t : Catalogue) (n : ℕ) (w : Within s) (held : tabulate (record_in t) n ≡ s.extensions) where
   pub few-records : n ≤ 32
   few-records = omega (arith, w.extensions, ap length held, length-tabulate (record_in t) n)
 
@@ -106,9 +107,9 @@ module _ (s : Sheet) (t : List ℕ) (n : ℕ) (w : Within s) (held : tabulate (r
 
 -- ---- the records and the types
 
-module _ (s : Sheet) (firsts seconds t : List ℕ) (nm : Named (line_map s) (length s.words) firsts seconds)
+module _ (s : Sheet) (firsts seconds : List ℕ) (t : Catalogue) (nm : Named (line_map s) (length s.words) firsts seconds)
     (ns : NamesIn firsts seconds (length (line_map s).types) (length s.words) t) (n : ℕ) (w : Within s) (held : tabulate (record_in t) n ≡ s.extensions)
-    (count : extensions_in t ≡ n) (types : (a : ℕ) → has_bit (extended_in t) a ≡ any (λ e. has_bit (looked t (extension_key_at t e / 256)) a) (tab (λ e. e) n)) where
+    (count : t.extension_count ≡ n) (types : (a : ℕ) → has_bit t.extended a ≡ any (λ e. has_bit (looked t (extension_key_at t e / 256)) a) (tab (λ e. e) n)) where
   abbrev m : LineMap
   m = line_map s
 
@@ -152,7 +153,7 @@ module _ (s : Sheet) (firsts seconds t : List ℕ) (nm : Named (line_map s) (len
       (ap (same_name (type_at m a).name) (sym (ap name_of_key j ∙ name-of-key f g (omega arith))))
 
   -- a type outside the set has no record
-  none-added : (a r : ℕ) → a < length m.types → has_bit (extended_in t) a ≡ false → extension_parents m (type_at m a).name r ≡ []
+  none-added : (a r : ℕ) → a < length m.types → has_bit t.extended a ≡ false → extension_parents m (type_at m a).name r ≡ []
   none-added a r h z =
       added-as a r
       ∙ ap (each (parents_in t))

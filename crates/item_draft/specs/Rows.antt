@@ -24,6 +24,7 @@ use Rattle.law_classes.specs.Sets.{type_at, no_type}
 use Rattle.sheet_keys.specs.Keys as keys
 use Rattle.sheet_draft.specs.Draft.{key_at, type_in}
 use Rattle.sheet_draft.specs.Drafted.{entry_at, entry_before, entries_of}
+use Rattle.sheet_draft.specs.declared.Draft.{Draft}
 use Rattle.catalogue.specs.Catalogue.{name_of_key}
 use Rattle.item_names.specs.Named.{WordOrNone, Named, name-of-key}
 use Rattle.item_entries.specs.Entries.{key_in, row_in, firsts_of, seconds_of, KeysFit}
@@ -53,7 +54,7 @@ second_below W k w =
     (λ e. inl (eqb-true (k % 256) 0 e))
     (λ e. inr (w.below (k % 256 - 1) (Memᴰ.tail (subst (λ (c : Bool). In (k % 256 - 1) (cond c [] ((k % 256 - 1) ∷ []))) (sym e) (Memᴰ.head refl)))))
 
-module _ (s : Sheet) (bs : List Bool) (d entries : List ℕ) (n : ℕ) (w : Drawn s bs d entries n) where
+module _ (s : Sheet) (bs : List Bool) (d : Draft) (entries : List ℕ) (n : ℕ) (w : Drawn s bs d entries n) where
   abbrev W : ℕ
   W = length s.words
 

@@ -1,93 +1,62 @@
--- What was put into the table before the filling stands there when it is filled; and keys are looked up right.
-use Rattle.std.specs.Prelude.{Bool, ◌&&◌, not, List, ◌≡◌, ℕ, ◌+◌, ◌*◌, ◌/◌, ◌%◌, ◌^◌, ◌≤◌, ◌<◌, ltb, length, get_or}
+-- What was put into the catalogue before the filling stands there when it is filled; and keys are looked up right.
+use Rattle.std.specs.Prelude.{Bool, ◌&&◌, List, ◌≡◌, ℕ, ◌*◌, ◌/◌, ◌%◌, ◌^◌, ◌<◌, ltb, length, get_or}
 use Rattle.std.proofs.Math.Path.{sym, ap, ap₂}
-use Rattle.std.proofs.Common.{◌∙◌, subst, arith, eq-eqb, eqb-true, le-ltb}
+use Rattle.std.proofs.Common.{refl, ◌∙◌, subst, arith, eq-eqb, eqb-true, le-ltb}
 use Rattle.std.specs.Int.Bits.{bit_and}
 use Rattle.std.proofs.Math.Dec.{eqb}
 use Rattle.lists.specs.Lists.{In}
 use Rattle.lists.specs.Tests.{same_test, and_left, and_right, and_both}
 use Rattle.lists.specs.Tabulating.{tabulate, tabulate-same, tabulate-in}
 use Rattle.rows.specs.Rows.{has_bit}
-use Rattle.definitions.specs.Records.{Name, Sheet, TypeInfo}
+use Rattle.definitions.specs.Records.{Sheet, TypeInfo}
 use Rattle.definitions.specs.Comparisons.{same_name}
 use Rattle.definitions.specs.Map.{type_map_of}
 use Rattle.line_laws.specs.Within.{Within}
-use Rattle.ordering.specs.Lists.{below-same}
 use Rattle.ordering.specs.Reading.{type_at}
 use Rattle.sheet_keys.specs.Keys as keys
 use Rattle.sheet_draft.specs.Draft.{parent_count_at, parent_at, type_in}
-use Rattle.catalogue.specs.Layout.{key_at, word_at, first_at, second_at, extension_key_at, extension_count_at, extension_parent_at, looked}
+use Rattle.sheet_draft.specs.declared.Draft.{Draft}
+use Rattle.catalogue.specs.Layout.{first_at, second_at, extension_key_at, extension_count_at, looked}
 use Rattle.catalogue.specs.Catalogue.{name_of_key, parents_in}
-use Rattle.catalogue.specs.Kept.{KeptOutside}
-use Rattle.item_names.specs.Names.{second_of, mask_of, owner_of, NamesPut}
+use Rattle.catalogue.specs.declared.Catalogue.{Catalogue}
+use Rattle.item_names.specs.Names.{second_of, NamesPut}
 use Rattle.item_names.specs.Holding.{Holds, holds-and, holds_same, no-bits-past}
 use Rattle.item_entries.specs.Entries.{key_in, row_in, firsts_of, seconds_of}
 use Rattle.item_entries.specs.EntryLaws.{first-at, second_at_lem}
 use Rattle.item_draft.specs.Fill.{Drawn, NamesStand, record_in}
 use Rattle.item_draft.specs.Rows as rows
-use Rattle.item_draft.specs.Records.{same_key, few-records, record-count}
+use Rattle.item_draft.specs.Records.{same_key}
 
 -- ---- names
 
--- names stand in a table in which nothing of theirs changed
-pub names_stand : (firsts seconds : List ℕ) (n width : ℕ) (t0 t1 t2 : List ℕ) (r lo hi : ℕ) → n ≤ 64
-    → NamesPut firsts seconds n width t0 t1 r → KeptOutside lo hi t1 t2 → 64 ≤ lo → hi ≤ 512 → NamesStand firsts seconds n width t2 r
-names_stand firsts seconds n width t0 t1 t2 r lo hi few p k l h =
-    let first : (w : ℕ) → first_at t2 w ≡ first_at t1 w = λ w. k.after (1024 + w) (omega arith) in
-    let second : (w : ℕ) → second_at t2 w ≡ second_at t1 w = λ w. k.after (1280 + w) (omega arith) in
-    let mask : (w : ℕ) → mask_of t2 w ≡ mask_of t1 w = λ w. rw (first w, second 0, second (w + 1)) in
-    let word : (i : ℕ) → word_at t2 i ≡ word_at t1 i = λ i. k.after (512 + i) (omega arith) in
-    let key : (a : ℕ) → a < n → key_at t2 a ≡ key_at t1 a = λ a b. k.before a (omega arith) in
-    record {
-      key = λ a b. key a b ∙ p.key a b;
-      first = λ w b a. ap (λ (x : ℕ). has_bit x a) (first w) ∙ p.first w b a;
-      second = λ w b a. ap (λ (x : ℕ). has_bit x a) (second w) ∙ p.second w b a;
-      owner = λ a b.
-          k.after (640 + a) (omega arith)
-          ∙ p.owner a b
-          ∙ sym (ap₂ (λ (i j : ℕ). owner_of i (bit_and (first_at t2 (i / 256)) j)) (key a b) (second 0) ∙ ap (λ (i : ℕ). owner_of (key_at t1 a) (bit_and i (second_at t1 0))) (first (key_at t1 a / 256)));
-      words =
-          tabulate-same (word_at t2) (word_at t1) r (λ i b. word i)
-          ∙ p.words
-          ∙ below-same (λ w. not (eqb (mask_of t1 w) 0)) (λ w. not (eqb (mask_of t2 w) 0)) width (λ w b. ap (λ (x : ℕ). not (eqb x 0)) (sym (mask w)));
-      masks = λ i b. k.after (576 + i) (omega arith) ∙ p.masks i b ∙ sym (mask (word_at t1 i)) ∙ ap (mask_of t2) (sym (word i));
-    }
+-- names stand in a catalogue in which nothing of theirs changed
+pub names_stand : (firsts seconds : List ℕ) (n width : ℕ) (t0 t1 t2 : Catalogue) (r : ℕ) → NamesPut firsts seconds n width t0 t1 r
+    → t2 ≡ record t1 { heads = t2.heads; marks = t2.marks; tallies = t2.tallies; parents = t2.parents; own = t2.own; above = t2.above; passed = t2.passed }
+    → NamesStand firsts seconds n width t2 r
+names_stand firsts seconds n width t0 t1 t2 r p e =
+    rw e (record { key = p.key; first = p.first; second = p.second; owner = p.owner; words = p.words; masks = p.masks })
 
 -- ---- extension records
 
--- a record with its parents as names of a table of keys
-pub record-as : (t : List ℕ) (e : ℕ) → record_in t e ≡ record {
+-- a record with its parents as names out of a column of keys
+pub record-as : (t : Catalogue) (e : ℕ) → record_in t e ≡ record {
   name = keys.name_of_key (extension_key_at t e / 256);
   word = extension_key_at t e % 256;
-  parents = keys.names_from t (768 + 8 * e) (extension_count_at t e);
+  parents = keys.names_from t.extension_parents (8 * e) (extension_count_at t e);
 }
 unfolding record_in parents_in keys.names_from keys.name_of_key name_of_key
-record-as t e =
-    ap (λ (l : List Name). record { name = name_of_key (extension_key_at t e / 256); word = extension_key_at t e % 256; parents = l })
-    (tabulate-same (λ j. name_of_key (extension_parent_at t (8 * e + j))) (λ j. name_of_key (get_or t (768 + 8 * e + j) 0)) (extension_count_at t e) (λ j h. ap (λ (i : ℕ). name_of_key (get_or t i 0)) (turned j)))
-  where
-    turned : (j : ℕ) → 768 + (8 * e + j) ≡ 768 + 8 * e + j
-    turned j = omega arith
+record-as t e = refl
 
--- records stand in a table in which nothing of theirs changed
-pub records-stand : (s : Sheet) (t u : List ℕ) (n : ℕ) → Within s → tabulate (record_in t) n ≡ s.extensions → ((i : ℕ) → 704 ≤ i → i < 1024 → get_or u i 0 ≡ get_or t i 0)
-    → tabulate (record_in u) n ≡ s.extensions
+-- records stand in a catalogue in which nothing of theirs changed
+pub records-stand : (s : Sheet) (t u : Catalogue) (n : ℕ) → tabulate (record_in t) n ≡ s.extensions
+    → u.extension_keys ≡ t.extension_keys → u.extension_counts ≡ t.extension_counts → u.extension_parents ≡ t.extension_parents → tabulate (record_in u) n ≡ s.extensions
 unfolding record_in parents_in
-records-stand s t u n w held same =
-    let few = few-records s t n w held in
-    tabulate-same (record_in u) (record_in t) n
-    (λ e h.
-    let c = record-count s t n w held e h in
-    let p : parents_in u e ≡ parents_in t e =
-    ap (tabulate (λ j. name_of_key (extension_parent_at u (8 * e + j)))) (same (736 + e) (omega arith) (omega arith))
-    ∙ tabulate-same (λ j. name_of_key (extension_parent_at u (8 * e + j))) (λ j. name_of_key (extension_parent_at t (8 * e + j))) (extension_count_at t e)
-    (λ j l. ap name_of_key (same (768 + (8 * e + j)) (omega arith) (omega arith))) in
-    rw (same (704 + e) (omega arith) (omega arith), p))
-    ∙ held
+records-stand s t u n held k c p =
+    tabulate-same (record_in u) (record_in t) n (λ e h. rw (k, c, p)) ∙ held
 
 -- ---- keys looked up
 
-module _ (s : Sheet) (bs : List Bool) (d entries : List ℕ) (n width : ℕ) (w : Drawn s bs d entries n) (t : List ℕ) (r : ℕ) (ns : NamesStand (firsts_of entries) (seconds_of entries) n width t r) where
+module _ (s : Sheet) (bs : List Bool) (d : Draft) (entries : List ℕ) (n width : ℕ) (w : Drawn s bs d entries n) (t : Catalogue) (r : ℕ) (ns : NamesStand (firsts_of entries) (seconds_of entries) n width t r) where
   -- the types of a key: the one that has it, or none
   looked-holds : (key : ℕ) → key < 65536 → Holds n (looked t key) (λ b. same_name (keys.name_of_key key) (type_at (type_map_of s) b).name)
   unfolding looked
@@ -122,7 +91,7 @@ module _ (s : Sheet) (bs : List Bool) (d entries : List ℕ) (n width : ℕ) (w 
 
 -- ---- parents in the draft
 
-module _ (s : Sheet) (bs : List Bool) (d entries : List ℕ) (n : ℕ) (w : Drawn s bs d entries n) where
+module _ (s : Sheet) (bs : List Bool) (d : Draft) (entries : List ℕ) (n : ℕ) (w : Drawn s bs d entries n) where
   -- the parents of a type, as names
   pub parents-listed : (a : ℕ) → a < n → (type_at (type_map_of s) a).parents ≡ tabulate (λ k. keys.name_of_key (parent_at d (row_in entries a) k)) (parent_count_at d (row_in entries a))
   unfolding type_in keys.names_from

@@ -2,7 +2,7 @@
 use Rattle.std.specs.Prelude.{List, ◌≡◌, ℕ, ◌+◌, ◌/◌, ◌%◌, ◌≤◌, ◌<◌, get_or}
 use Rattle.lists.specs.Tabulating.{tabulate}
 use Rattle.catalogue.specs.Layout.{first_at, second_at}
-use Rattle.catalogue.specs.Kept.{KeptOutside}
+use Rattle.catalogue.specs.declared.Catalogue.{Catalogue}
 
 -- The key of an entry (FORMAT 1.4).
 abbrev pub key_in : List ℕ → ℕ → ℕ
@@ -26,7 +26,7 @@ pub record KeysFit (entries : List ℕ) (n : ℕ) : Type 0 where
   pub small : (a : ℕ) → a < n → key_in entries a < 65536
 
 -- The sets of the first n words, and of the first n numbers of second words, are empty.
-pub record SetsCleared (n : ℕ) (old new : List ℕ) : Type 0 where
+pub record SetsCleared (n : ℕ) (old new : Catalogue) : Type 0 where
   pub first : (w : ℕ) → w < n → first_at new w ≡ 0
   pub second : (w : ℕ) → w < n → second_at new w ≡ 0
-  pub kept : KeptOutside 1024 1536 old new
+  pub kept : new ≡ record old { firsts = new.firsts; seconds = new.seconds }

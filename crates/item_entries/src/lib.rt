@@ -1,36 +1,32 @@
 // The names of the types in the catalogue, out of the entries of a draft in name order: an entry is a key times 64, and a row.
 #![tactic(auto)]
 
-ghost use Rattle.std.specs.Prelude.{◌≡◌, ◌≤◌, length};
+ghost use Rattle.std.specs.Prelude.{◌≤◌};
 ghost use Rattle.item_names.specs.Names.{KeysPut, SetsPut, NoSets, NamesPut};
 ghost use Rattle.item_entries.specs.Entries.{firsts_of, seconds_of, KeysFit, SetsCleared};
 
-// No type stands in the sets of the words. A width is below 256, so that what is put is 0; as a quotient it keeps the loop one of
-// stores, where a constant would make it a call that clears byte by byte.
-fn clear_sets(t: &mut [u64; 1544], width: usize)
-    requires { (length t.old ≡ 1544) × (width ≤ 200) }
+use catalogue::Catalogue;
+
+// No type stands in the sets of the words.
+fn clear_sets(t: &mut Catalogue)
     ensures { SetsCleared 256 t.old t.new }
 {
-    let none = (width / 256) as u64;
-    for w in 0..256 {
-        catalogue::put_first(t, w, none);
-        catalogue::put_second(t, w, none);
-    }
+    t.firsts = [0; 256];
+    t.seconds = [0; 256];
 }
 
 // The key of each type's name.
-fn put_keys(t: &mut [u64; 1544], entries: &[u64; 64], count: usize)
-    requires t_len { length t.old ≡ 1544 }
+fn put_keys(t: &mut Catalogue, entries: &[u64; 64], count: usize)
     requires keys_fit { KeysFit entries.now count }
     ensures { KeysPut (firsts_of entries.now) (seconds_of entries.now) count t.old t.new }
 {
     for a in 0..count {
-        catalogue::put_key(t, a, entries[a] / 64);
+        t.keys[a] = entries[a] / 64;
     }
 }
 
 // Each type goes into the sets of its words, which were empty.
-fn put_sets(t: &mut [u64; 1544], entries: &[u64; 64], count: usize)
+fn put_sets(t: &mut Catalogue, entries: &[u64; 64], count: usize)
     requires no_sets { NoSets t.old }
     requires keys_fit { KeysFit entries.now count }
     ensures { SetsPut (firsts_of entries.now) (seconds_of entries.now) count t.old t.new }
@@ -42,13 +38,12 @@ fn put_sets(t: &mut [u64; 1544], entries: &[u64; 64], count: usize)
 }
 
 // All that the catalogue has of the names, whatever stood in it before. The answer says how many words are the last of a name.
-pub fn put_names(t: &mut [u64; 1544], entries: &[u64; 64], count: usize, width: usize) -> usize
-    requires t_len { length t.old ≡ 1544 }
+pub fn put_names(t: &mut Catalogue, entries: &[u64; 64], count: usize, width: usize) -> usize
     requires keys_fit { KeysFit entries.now count }
     requires width_bound { width ≤ 200 }
     ensures { NamesPut (firsts_of entries.now) (seconds_of entries.now) count width t.old t.new result }
 {
-    clear_sets(t, width);
+    clear_sets(t);
     put_keys(t, entries, count);
     put_sets(t, entries, count);
     item_names::put_owners(t, count);

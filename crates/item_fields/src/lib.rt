@@ -53,8 +53,8 @@ pub fn parent_field(key: u64) -> Field
     counted_words(words_field(key))
 }
 
-// The parent P.r, out of the name of P and the word r (FORMAT 4.4, 6.2). Its width is known in each branch, since there is a call for
-// each parent of a making.
+// The parent P.r, out of the name of P and the word r (FORMAT 4.4, 6.2). Its width is known in each branch, since there is a call
+// for each parent of a making.
 pub fn passing_field(key: u64, word: u64) -> Field
     ensures { Holds result (length (parent_bits (dotted (name_of_key key) word))) (parent_bits (dotted (name_of_key key) word)) × (result.width ≤ 26) }
 {
@@ -68,8 +68,8 @@ pub fn passing_field(key: u64, word: u64) -> Field
     item_pen::join(item_pen::number(2, 3), item_pen::join(name, last))
 }
 
-// What stands before the parents of a synthesized resource: the bit 0, the type's name, the word, virtual, and the number of parents (FORMAT 6.2).
-// Virtual is the last bit of a number, as heads have it: to make a bool of it, and a bit again, would cost.
+// What stands before the parents of a synthesized resource: the bit 0, the type's name, the word, virtual, and the number of
+// parents (FORMAT 6.2). Virtual is the last bit of a number, as heads have it: a bool would be made of it, and of that a bit.
 pub fn head_field(key: u64, word: u64, is_virtual: u64, parents: u64) -> Field
     ensures { Holds result (length (head_bits key word is_virtual parents)) (head_bits key word is_virtual parents) × (result.width ≤ 32) }
 {
@@ -78,7 +78,8 @@ pub fn head_field(key: u64, word: u64, is_virtual: u64, parents: u64) -> Field
     item_pen::join(name, item_pen::join(flag, item_pen::number(5, parents)))
 }
 
-// An extension line: the bit 1, the type's name, virtual and trait, which are the bits 5 and 4 of its head, and the word (FORMAT 6.3).
+// An extension line: the bit 1, the type's name, virtual and trait, which are the bits 5 and 4 of its head, and the word (FORMAT
+// 6.3).
 pub fn line_field(key: u64, head: u64, word: u64) -> Field
     ensures { Holds result (length (line_bits key head word)) (line_bits key head word) × (result.width ≤ 28) }
 {

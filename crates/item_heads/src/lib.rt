@@ -11,7 +11,8 @@ pub struct Packed {
     pub tally: u64,
 }
 
-// A set with the type a, if its variant is that of a resource.
+// A set with the type a, if its variant is that of a resource. The variant is two bits of a head: an enum made of them would be
+// asked once, for this one case.
 pub fn with_resource(set: u64, a: usize, variant: usize) -> u64
     requires { a < 64 }
     ensures { WithResource set a variant result }
@@ -22,7 +23,8 @@ pub fn with_resource(set: u64, a: usize, variant: usize) -> u64
     set
 }
 
-// One mark behind the others: a 0, or a 1 and the 8 bits of the tag.
+// One mark behind the others: a 0, or a 1 and the 8 bits of the tag. `derive` and `tag` are the bits of a window: `records::Mark`
+// would be made of them only to be taken apart here.
 pub fn with_mark(p: Packed, derive: u8, tag: u8) -> Packed
     requires { (p.bits < 2 ^ 54) × (p.tally < 440) }
     ensures { WithMark p derive tag result }

@@ -1,3 +1,4 @@
 pub mod Making
 pub mod Walks
 pub mod MakingLaws
+pub mod Adding

@@ -1,56 +1,17 @@
--- The walk over a set: its lowest place, then the rest.
-use Rattle.std.specs.Prelude.{Bool, true, false, ◌&&◌, not, List, [], ◌∷◌, ◌++◌, ◌≡◌, refl, ℕ, zero, suc, ◌+◌, ◌*◌, ◌-◌, ◌/◌, ◌%◌, ◌^◌, ◌≤◌, ◌<◌, eqb, length, drop}
+-- Counts over a set, and the walk over it: its lowest place, then the rest.
+use Rattle.std.specs.Prelude.{Bool, true, false, List, [], ◌∷◌, ◌++◌, ◌≡◌, refl, ℕ, zero, suc, ◌+◌, ◌*◌, ◌/◌, ◌%◌, ◌^◌, ◌≤◌, ◌<◌, length, drop}
 use mathlib.Core.List.Memᴰ
 use Rattle.std.proofs.Common.{sym, ap, ap₂, ◌∙◌, mul-suc, pow-suc, arith, eq-eqb, ne_eqb, length-append}
 use Rattle.std.proofs.Math.Decide.{dec_lt}
-use Rattle.std.specs.Int.Bits.{bit_and}
 use Rattle.std.specs.Int.Count as counting
 use Rattle.lists.specs.Lists.{In, each}
 use Rattle.lists.specs.Tabulating.{tabulate, length-tabulate, get_d_tabulate}
 use Rattle.lists.specs.Places.{drop-step, drop-end}
-use Rattle.ordering.specs.Lists.{only, below, below_none, below-most}
+use Rattle.ordering.specs.Lists.{only, below, below-most}
 use Rattle.rows.specs.Rows.{has_bit}
-use Rattle.rows.specs.RowLaws.{bit-none}
-use Rattle.law_classes.proofs.SetLaws.{below_of}
-use Rattle.bitsets.specs.Bitsets.{Lowest, Rest}
-use Rattle.bitsets.specs.BitLaws.{rest-is}
-use Rattle.item_making.specs.Making.{members, each_of, total}
-
--- the lowest number below n with f, and the others
-module _ (f g : ℕ → Bool) (k : ℕ) (there : f k ≡ true) (none : (i : ℕ) → i < k → f i ≡ false) (rest : (j : ℕ) → g j ≡ (f j && not (eqb j k))) where
-  rest-none : (i : ℕ) → i < suc k → g i ≡ false
-  rest-none i h =
-      elim (dec_lt i k) [
-        | yes l ↦ rest i ∙ ap (λ b. b && not (eqb i k)) (none i l)
-        | no l ↦ let e : i ≡ k = omega arith in rest i ∙ ap₂ (λ a b. a && not b) (ap f e ∙ there) (eq-eqb i k e)
-      ]
-
-  rest-same : (n : ℕ) → k < n → g n ≡ f n
-  rest-same n h = rest n ∙ rw (ne_eqb n k (λ e. absurd (omega arith))) (and_so (f n))
-    where
-      and_so : (b : Bool) → (b && true) ≡ b
-      and_so true = refl
-      and_so false = refl
-
-  pub below-lowest : (n : ℕ) → k < n → below f n ≡ k ∷ below g n
-  below-lowest zero h = absurd (omega arith)
-  below-lowest (suc n) h =
-      elim (dec_lt k n) [
-        | yes l ↦ rw (below-lowest n l, rest-same n l)
-        | no l ↦
-            let e : n ≡ k = omega arith in
-            ap₂ (λ (a : List ℕ) (b : Bool). a ++ only b n) (below_none f n (λ x p. none x (omega arith))) (ap f e ∙ there)
-            ∙ ap₂ (λ (x : ℕ) (l : List ℕ). x ∷ l) e (sym (below_none g (suc n) (λ x p. rest-none x (omega arith))))
-      ]
-
--- a set is its lowest place and the rest
-pub members-next : (left k r : ℕ) → Lowest left k → Rest left r → members left ≡ k ∷ members r
-unfolding members
-members-next left k r w t = below-lowest (has_bit left) (has_bit r) k w.there w.none (t.bits k w) 64 w.place
-
-pub members-none : (left : ℕ) → left ≡ 0 → members left ≡ []
-unfolding members
-members-none left e = below_none (has_bit left) 64 (λ x h. ap (λ (y : ℕ). has_bit y x) e ∙ bit-none x)
+use Rattle.bitsets.specs.Bitsets.{members, Lowest, Rest}
+use Rattle.bitsets.specs.BitLaws.{members-next, members-none}
+use Rattle.item_making.specs.Making.{each_of, total}
 
 -- how many a set has is how many of its bits are set
 only-long : (b : Bool) (x y : ℕ) → length (only b x) ≡ length (only b y)
@@ -84,18 +45,13 @@ bits-long (suc d) x h =
     let b = bits-long d (x / 2) (omega (arith, pow-suc 2 d)) in
     omega (arith, below-behind (has_bit x) d, lowest-bit x, b, counting.ones_step x)
 
-pub members-long : (x : ℕ) → x < 2 ^ 64 → length (members x) ≡ counting.ones x
+pub members_long : (x : ℕ) → x < 2 ^ 64 → counting.ones x ≡ length (members x)
 unfolding members
-members-long x h = bits-long 64 x h
+members_long x h = sym (bits-long 64 x h)
 
-pub members-most : (x : ℕ) → length (members x) ≤ 64
+pub members_most : (x : ℕ) → length (members x) ≤ 64
 unfolding members
-members-most x = below-most (has_bit x) 64
-
--- a member is a place with its bit
-pub member_of : (x : ℕ) {p : ℕ} → In p (members x) → (p < 64) × (has_bit x p ≡ true)
-unfolding members
-member_of x i = below_of (has_bit x) 64 i
+members_most x = below-most (has_bit x) 64
 
 -- what is made of each
 pub each_next : (g : ℕ → List Bool) (left k r : ℕ) → Lowest left k → Rest left r → each_of g left ≡ g k ++ each_of g r
@@ -107,11 +63,11 @@ unfolding each_of
 each_none g left e = ap (each g) (members-none left e)
 
 -- what each counts
-pub total-next : (f : ℕ → ℕ) (left k r : ℕ) → Lowest left k → Rest left r → total f (members left) ≡ f k + total f (members r)
-total-next f left k r w t = ap (total f) (members-next left k r w t)
+pub total_next : (f : ℕ → ℕ) (left k r : ℕ) → Lowest left k → Rest left r → total f (members left) ≡ f k + total f (members r)
+total_next f left k r w t = ap (total f) (members-next left k r w t)
 
-pub total-none : (f : ℕ → ℕ) (left : ℕ) → left ≡ 0 → total f (members left) ≡ 0
-total-none f left e = ap (total f) (members-none left e)
+pub total_none : (f : ℕ → ℕ) (left : ℕ) → left ≡ 0 → total f (members left) ≡ 0
+total_none f left e = ap (total f) (members-none left e)
 
 pub total-append : (f : ℕ → ℕ) (a b : List ℕ) → total f (a ++ b) ≡ total f a + total f b
 total-append f [] b = omega arith
@@ -130,10 +86,6 @@ total-same f g (x ∷ l) h = ap₂ (λ (a b : ℕ). a + b) (h x (Memᴰ.head ref
 pub total-each : {A : Type 0} (g : ℕ → List A) (l : List ℕ) → length (each g l) ≡ total (λ x. length (g x)) l
 total-each g [] = refl
 total-each g (x ∷ l) = length-append (g x) (each g l) ∙ ap (λ (n : ℕ). length (g x) + n) (total-each g l)
-
--- what is made of the lowest place goes first
-pub each-some : (g : ℕ → List Bool) (left k : ℕ) → 0 < left → Lowest left k → (ys : List Bool) × (each_of g left ≡ g k ++ ys)
-each-some g left k h w = (each_of g (bit_and left (left - 1)), each_next g left k (bit_and left (left - 1)) w (rest-is left h))
 
 -- ---- the walk up the first n places
 

@@ -1,30 +1,38 @@
-// What is made for a type and a word, out of the catalogue, added to a pen: a synthesized resource (FORMAT 6.2) and an extension line (FORMAT 6.3).
+// What is made for a type and a word, out of the catalogue, added to a pen: a synthesized resource (FORMAT 6.2) and an extension
+// line (FORMAT 6.3).
 #![tactic(auto)]
 
 ghost use Rattle.std.specs.Prelude.{true, [], ◌∷◌, ◌++◌, ◌≡◌, ◌+◌, ◌*◌, ◌%◌, ◌≤◌, ◌<◌, length};
 ghost use Rattle.definitions.specs.Bits.{to_bits};
 ghost use Rattle.definitions.specs.LegalSchedule.{most_marks};
 ghost use Rattle.definitions.specs.Packing.{parent_bits};
-ghost use Rattle.catalogue.specs.Layout.{key_at, head_at, tally_at, resource_in, extension_count_at};
+ghost use Rattle.catalogue.specs.Layout.{key_at, head_at, tally_at, extension_count_at};
+ghost use Rattle.bitsets.specs.Bitsets.{members};
 ghost use Rattle.item_pen.specs.Pen.{Full, field_bits, Holds, RoomFor, Adds};
 ghost use Rattle.item_fields.specs.Fields.{line_bits};
-ghost use Rattle.item_making.specs.Making.{members, each_of, classes_of, marks_in, Recorded, added, record_bits, first_bits, marks_bits, Gathers};
+ghost use Rattle.item_making.specs.Making.{each_of, classes_of, marks_in, Recorded, added, record_bits, first_bits, marks_bits, Gathers};
 ghost use Rattle.item_making.specs.Making.{all_marks_bits, GathersAll, parents_of, made_bits, others_bits, behind_bits, tail_bits, Alone};
 
+use catalogue::Catalogue;
 use item_pen::{Field, Pen};
 
-// What is made for a type and a word: the word; the extension records that add parents; the types whose names begin the first parents; the classes; and whether a
-// first parent is P.r, for a type P, or the type itself.
+// What is made for a type and a word.
 #[derive(Clone, Copy)]
 pub struct Making {
     pub word: u64,
+    // The set of the extension records that add parents.
     pub records: u64,
+    // The set of the types whose names begin the first parents.
     pub firsts: u64,
+    // The set of the classes.
     pub classes: u64,
+    // Whether a first parent is P.r, for a type P, or the type itself. One place asks it, and only so: an enum of two cases would
+    // be the same test.
     pub inherited: bool,
 }
 
-// How many marks some classes have, and, in the last bit, whether all are virtual: a bool would be made of it for each class.
+// How many marks some classes have, and, in the last bit of a number, whether all are virtual: heads and items have it as a bit,
+// so that a bool would be made of the one and made into the other.
 #[derive(Clone, Copy)]
 struct Gathered {
     marks: u64,
@@ -32,6 +40,7 @@ struct Gathered {
 }
 
 // How many types a set has.
+#[tactic(auto, using(crate::specs::Walks::members_long, crate::specs::Walks::members_most))]
 fn count_of(set: u64) -> u64
     ensures { (result ≡ length (members set)) × (result ≤ 64) }
 {
@@ -39,37 +48,40 @@ fn count_of(set: u64) -> u64
 }
 
 // How many parents extension records add (FORMAT 4.5).
-fn count_added(t: &[u64; 1544], records: u64) -> u64
+#[tactic(auto, using(crate::specs::MakingLaws::added_next, crate::specs::MakingLaws::added_none, crate::specs::MakingLaws::added_most, crate::specs::MakingLaws::recorded_rest))]
+fn count_added(t: &Catalogue, records: u64) -> u64
     requires { Recorded t.now records }
     ensures { (result ≡ length (added t.now records)) × (result ≤ 512) }
 {
     let mut n: u64 = 0;
     for e in bitsets::members(records) {
-        n += catalogue::extension_count_at(t, e);
+        n += t.extension_counts[e];
     }
     n
 }
 
 // With the classes of a set (FORMAT 4.6, 4.7).
-fn gather(t: &[u64; 1544], g: Gathered, set: u64) -> Gathered
+#[tactic(auto, using(crate::specs::MakingLaws::marks_next, crate::specs::MakingLaws::marks_none, crate::specs::MakingLaws::flag_next, crate::specs::MakingLaws::flag_none, crate::specs::MakingLaws::marks_most))]
+fn gather(t: &Catalogue, g: Gathered, set: u64) -> Gathered
     requires { g.marks ≤ most_marks }
     ensures { Gathers t.now g set result }
 {
     let mut marks = g.marks;
     let mut flag = g.flag;
     for c in bitsets::members(set) {
-        marks += catalogue::tally_at(t, c) % 8;
-        flag = flag & (catalogue::head_at(t, c) >> 5);
+        marks += t.tallies[c] % 8;
+        flag &= t.heads[c] >> 5;
     }
     Gathered { marks, flag }
 }
 
 // A first parent: the class of an own making, P.r of an inherited one (FORMAT 4.3, 4.4).
-fn first_field(t: &[u64; 1544], m: Making, p: usize) -> Field
+#[tactic(auto, unfolding(crate::specs::Making::first_bits, crate::specs::Making::first_in, crate::specs::Making::name_in))]
+fn first_field(t: &Catalogue, m: Making, p: usize) -> Field
     requires { p < 64 }
     ensures { Holds result (length (first_bits t.now m p)) (first_bits t.now m p) × (result.width ≤ 26) }
 {
-    let key = catalogue::key_at(t, p);
+    let key = t.keys[p];
     if m.inherited {
         return item_fields::passing_field(key, m.word);
     }
@@ -77,7 +89,7 @@ fn first_field(t: &[u64; 1544], m: Making, p: usize) -> Field
 }
 
 // The head and the first parents, several written together.
-fn add_firsts(buf: &mut [u8], pen: Pen, t: &[u64; 1544], m: Making, head: Field) -> Pen
+fn add_firsts(buf: &mut [u8], pen: Pen, t: &Catalogue, m: Making, head: Field) -> Pen
     requires full { Full head }
     requires room_for { RoomFor buf.old pen 0 (field_bits head ++ each_of (first_bits t.now m) m.firsts) }
     ensures { Adds buf.old buf.new pen result 0 (field_bits head ++ each_of (first_bits t.now m) m.firsts) }
@@ -93,22 +105,23 @@ fn add_firsts(buf: &mut [u8], pen: Pen, t: &[u64; 1544], m: Making, head: Field)
 }
 
 // The parents of an extension record (FORMAT 4.5).
-fn add_record(buf: &mut [u8], pen: Pen, t: &[u64; 1544], e: usize) -> Pen
+fn add_record(buf: &mut [u8], pen: Pen, t: &Catalogue, e: usize) -> Pen
     requires e_bound { (e < 32) × (extension_count_at t.now e ≤ 8) }
     requires room_for { RoomFor buf.old pen 0 (record_bits t.now e) }
     ensures { Adds buf.old buf.new pen result 0 (record_bits t.now e) }
 {
-    let count = catalogue::extension_count_at(t, e);
+    let count = t.extension_counts[e];
     let mut to = pen;
     for j in 0..count as usize {
-        let key = catalogue::extension_parent_at(t, 8 * e + j);
+        let key = t.extension_parents[8 * e + j];
         to = item_pen::add(buf, to, item_fields::parent_field(key));
     }
     to
 }
 
-// The parents of some records.
-fn add_records(buf: &mut [u8], pen: Pen, t: &[u64; 1544], records: u64) -> Pen
+// The parents of some records. This loop and that of `add_classes` stay apart: one over a closure needs a contract that is longer
+// than they are.
+fn add_records(buf: &mut [u8], pen: Pen, t: &Catalogue, records: u64) -> Pen
     requires recorded { Recorded t.now records }
     requires room_for { RoomFor buf.old pen 0 (each_of (record_bits t.now) records) }
     ensures { Adds buf.old buf.new pen result 0 (each_of (record_bits t.now) records) }
@@ -120,28 +133,40 @@ fn add_records(buf: &mut [u8], pen: Pen, t: &[u64; 1544], records: u64) -> Pen
     to
 }
 
+// The parent `resource` (FORMAT 4.5).
+fn resource_field(t: &Catalogue) -> Field
+    ensures { Holds result 10 (parent_bits (t.now.resource ∷ [])) }
+{
+    item_pen::join(item_pen::number(2, 1), item_pen::number(8, t.resource))
+}
+
 // The parents behind the first ones: `resource`, those of the extension (FORMAT 4.5).
-fn add_others(buf: &mut [u8], pen: Pen, t: &[u64; 1544], records: u64) -> Pen
+fn add_others(buf: &mut [u8], pen: Pen, t: &Catalogue, records: u64) -> Pen
     requires recorded { Recorded t.now records }
     requires room_for { RoomFor buf.old pen 0 (others_bits t.now records) }
     ensures { Adds buf.old buf.new pen result 0 (others_bits t.now records) }
 {
-    let resource = item_pen::join(
-        item_pen::number(2, 1),
-        item_pen::number(8, catalogue::resource_in(t)),
-    );
-    let to = item_pen::add(buf, pen, resource);
+    let to = item_pen::add(buf, pen, resource_field(t));
     add_records(buf, to, t, records)
 }
 
+// How many bits the marks of a class have.
+#[tactic(auto, using(crate::specs::MakingLaws::marks_long))]
+fn mark_width(t: &Catalogue, c: usize) -> usize
+    requires { c < 64 }
+    ensures { (result ≡ length (marks_bits t.now c)) × (result ≤ 63) }
+{
+    ((t.tallies[c] >> 3) % 64) as usize
+}
+
 // The marks of a class, up to 63 bits: more than 56 in two parts.
-fn add_class(buf: &mut [u8], pen: Pen, t: &[u64; 1544], c: usize) -> Pen
+fn add_class(buf: &mut [u8], pen: Pen, t: &Catalogue, c: usize) -> Pen
     requires c_bound { c < 64 }
     requires room_for { RoomFor buf.old pen 0 (marks_bits t.now c) }
     ensures { Adds buf.old buf.new pen result 0 (marks_bits t.now c) }
 {
-    let width = ((catalogue::tally_at(t, c) >> 3) % 64) as usize;
-    let marks = catalogue::marks_at(t, c);
+    let width = mark_width(t, c);
+    let marks = t.marks[c];
     if width <= 56 {
         return item_pen::add(buf, pen, item_pen::number(width, marks));
     }
@@ -150,7 +175,7 @@ fn add_class(buf: &mut [u8], pen: Pen, t: &[u64; 1544], c: usize) -> Pen
 }
 
 // The marks of the classes of a set (FORMAT 4.7).
-fn add_classes(buf: &mut [u8], pen: Pen, t: &[u64; 1544], set: u64) -> Pen
+fn add_classes(buf: &mut [u8], pen: Pen, t: &Catalogue, set: u64) -> Pen
     requires { RoomFor buf.old pen 0 (each_of (marks_bits t.now) set) }
     ensures { Adds buf.old buf.new pen result 0 (each_of (marks_bits t.now) set) }
 {
@@ -162,32 +187,34 @@ fn add_classes(buf: &mut [u8], pen: Pen, t: &[u64; 1544], set: u64) -> Pen
 }
 
 // The number of marks, and the marks of the classes, no dom first (FORMAT 4.7, 6.2).
-fn add_marks(buf: &mut [u8], pen: Pen, t: &[u64; 1544], marks: u64, classes: u64) -> Pen
+fn add_marks(buf: &mut [u8], pen: Pen, t: &Catalogue, marks: u64, classes: u64) -> Pen
     requires { RoomFor buf.old pen 0 (all_marks_bits t.now marks classes) }
     ensures { Adds buf.old buf.new pen result 0 (all_marks_bits t.now marks classes) }
 {
-    let alone = classes & catalogue::second_at(t, 0);
+    let alone = classes & t.seconds[0];
     let to = item_pen::add(buf, pen, item_pen::number(9, marks));
     let then = add_classes(buf, to, t, alone);
     add_classes(buf, then, t, classes ^ alone)
 }
 
 // What the type and its classes give: how many marks, and whether all are virtual (FORMAT 4.6, 4.7).
-fn gather_all(t: &[u64; 1544], a: usize, classes: u64) -> Gathered
+#[tactic(auto, using(crate::specs::MakingLaws::marks_both, crate::specs::MakingLaws::flag_both))]
+fn gather_all(t: &Catalogue, a: usize, classes: u64) -> Gathered
     requires { a < 64 }
     ensures { GathersAll t.now a classes result }
 {
-    let alone = classes & catalogue::second_at(t, 0);
+    let alone = classes & t.seconds[0];
     let none = Gathered {
         marks: 0,
-        flag: catalogue::head_at(t, a) >> 5,
+        flag: t.heads[a] >> 5,
     };
     let some = gather(t, none, alone);
     gather(t, some, classes ^ alone)
 }
 
 // How many parents a making has.
-fn count_parents(t: &[u64; 1544], m: Making) -> u64
+#[tactic(auto, using(crate::specs::MakingLaws::parents_count))]
+fn count_parents(t: &Catalogue, m: Making) -> u64
     requires { Recorded t.now m.records }
     ensures { result ≡ length (parents_of t.now m) }
 {
@@ -195,28 +222,24 @@ fn count_parents(t: &[u64; 1544], m: Making) -> u64
 }
 
 // `resource`, and the number of marks of a class.
-fn tail_start(t: &[u64; 1544], c: usize) -> Field
+fn tail_start(t: &Catalogue, c: usize) -> Field
     requires { c < 64 }
-    ensures { Holds result 19 (parent_bits (resource_in t.now ∷ []) ++ to_bits 9 (tally_at t.now c % 8)) }
+    ensures { Holds result 19 (parent_bits (t.now.resource ∷ []) ++ to_bits 9 (tally_at t.now c % 8)) }
 {
-    let resource = item_pen::join(
-        item_pen::number(2, 1),
-        item_pen::number(8, catalogue::resource_in(t)),
-    );
-    let count = catalogue::tally_at(t, c) % 8;
-    item_pen::join(resource, item_pen::number(9, count))
+    let count = t.tallies[c] % 8;
+    item_pen::join(resource_field(t), item_pen::number(9, count))
 }
 
-// What stands behind the first parents where a class is the only one and no extension adds parents: `resource`, the number of its marks, the marks (FORMAT 6.2). More
-// than 56 bits go in two parts.
-fn add_tail(buf: &mut [u8], pen: Pen, t: &[u64; 1544], c: usize) -> Pen
+// What stands behind the first parents where a class is the only one and no extension adds parents: `resource`, the number of its
+// marks, the marks (FORMAT 6.2). More than 56 bits go in two parts.
+fn add_tail(buf: &mut [u8], pen: Pen, t: &Catalogue, c: usize) -> Pen
     requires c_bound { c < 64 }
     requires room_for { RoomFor buf.old pen 0 (tail_bits t.now c) }
     ensures { Adds buf.old buf.new pen result 0 (tail_bits t.now c) }
 {
     let start = tail_start(t, c);
-    let width = ((catalogue::tally_at(t, c) >> 3) % 64) as usize;
-    let marks = catalogue::marks_at(t, c);
+    let width = mark_width(t, c);
+    let marks = t.marks[c];
     if width <= 37 {
         let f = item_pen::join(start, item_pen::number(width, marks));
         return item_pen::add(buf, pen, f);
@@ -240,7 +263,7 @@ fn is_alone(m: Making) -> bool
 }
 
 // What stands behind the first parents: the others, the number of marks, the marks.
-fn add_behind(buf: &mut [u8], pen: Pen, t: &[u64; 1544], m: Making, marks: u64) -> Pen
+fn add_behind(buf: &mut [u8], pen: Pen, t: &Catalogue, m: Making, marks: u64) -> Pen
     requires recorded { Recorded t.now m.records × (marks ≡ marks_in t.now (classes_of t.now m.classes)) }
     requires room_for { RoomFor buf.old pen 0 (behind_bits t.now m marks) }
     ensures { Adds buf.old buf.new pen result 0 (behind_bits t.now m marks) }
@@ -253,20 +276,20 @@ fn add_behind(buf: &mut [u8], pen: Pen, t: &[u64; 1544], m: Making, marks: u64) 
 }
 
 // A synthesized resource, field by field.
-fn add_resource(buf: &mut [u8], pen: Pen, t: &[u64; 1544], a: usize, m: Making) -> Pen
+fn add_resource(buf: &mut [u8], pen: Pen, t: &Catalogue, a: usize, m: Making) -> Pen
     requires a_bound { (a < 64) × Recorded t.now m.records }
     requires room_for { RoomFor buf.old pen 1 (made_bits t.now a m) }
     ensures { Adds buf.old buf.new pen result 1 (made_bits t.now a m) }
 {
     let g = gather_all(t, a, m.classes);
     let parents = count_parents(t, m);
-    let head = item_fields::head_field(catalogue::key_at(t, a), m.word, g.flag, parents);
+    let head = item_fields::head_field(t.keys[a], m.word, g.flag, parents);
     let to = add_firsts(buf, item_pen::counted(pen), t, m, head);
     add_behind(buf, to, t, m, g.marks)
 }
 
 // How many bits a first parent has.
-fn first_width(t: &[u64; 1544], m: Making, p: usize) -> usize
+fn first_width(t: &Catalogue, m: Making, p: usize) -> usize
     requires { p < 64 }
     ensures { (result ≡ length (first_bits t.now m p)) × (result ≤ 26) }
 {
@@ -275,7 +298,8 @@ fn first_width(t: &[u64; 1544], m: Making, p: usize) -> usize
 }
 
 // How many bits the first parents have.
-fn firsts_width(t: &[u64; 1544], m: Making) -> usize
+#[tactic(auto, using(crate::specs::MakingLaws::long_next, crate::specs::MakingLaws::long_none, crate::specs::MakingLaws::firsts_most))]
+fn firsts_width(t: &Catalogue, m: Making) -> usize
     ensures { (result ≡ length (each_of (first_bits t.now m) m.firsts)) × (result ≤ 1664) }
 {
     let mut n: usize = 0;
@@ -286,33 +310,35 @@ fn firsts_width(t: &[u64; 1544], m: Making) -> usize
 }
 
 // How many bits the marks of the classes of a set have.
-fn marks_width(t: &[u64; 1544], set: u64) -> usize
+#[tactic(auto, using(crate::specs::MakingLaws::long_next, crate::specs::MakingLaws::long_none, crate::specs::MakingLaws::mark_bits_most))]
+fn marks_width(t: &Catalogue, set: u64) -> usize
     ensures { (result ≡ length (each_of (marks_bits t.now) set)) × (result ≤ 9 * most_marks) }
 {
     let mut n: usize = 0;
     for c in bitsets::members(set) {
-        n += ((catalogue::tally_at(t, c) >> 3) % 64) as usize;
+        n += mark_width(t, c);
     }
     n
 }
 
 // How many bits a synthesized resource has to which no extension adds parents: 34, the type's name, the first parents, the marks.
-fn width_of(t: &[u64; 1544], a: usize, m: Making) -> usize
+#[tactic(auto, using(crate::specs::MakingLaws::made_long))]
+fn width_of(t: &Catalogue, a: usize, m: Making) -> usize
     requires { (a < 64) × (m.records ≡ 0) }
     ensures { result ≡ length (made_bits t.now a m) }
 {
-    let name = item_fields::name_field(catalogue::key_at(t, a));
-    let alone = m.classes & catalogue::second_at(t, 0);
+    let name = item_fields::name_field(t.keys[a]);
+    let alone = m.classes & t.seconds[0];
     let marks = marks_width(t, alone) + marks_width(t, m.classes ^ alone);
     34 + name.width + firsts_width(t, m) + marks
 }
 
-// A synthesized resource T.r, after the Rust's function of that name (FORMAT 4, 6.2). With the pen up its bits are counted and not
-// made.
+// A synthesized resource T.r, after the Rust's function of that name (FORMAT 4, 6.2). With the pen up its bits are counted and
+// not made.
 pub fn create_synthetic_resource(
     buf: &mut [u8],
     pen: Pen,
-    t: &[u64; 1544],
+    t: &Catalogue,
     a: usize,
     m: Making,
 ) -> Pen
@@ -329,12 +355,12 @@ pub fn create_synthetic_resource(
 }
 
 // The extension line of a type and a word (FORMAT 4.8, 6.3).
-pub fn extension_line(buf: &mut [u8], pen: Pen, t: &[u64; 1544], a: usize, word: u64) -> Pen
+pub fn extension_line(buf: &mut [u8], pen: Pen, t: &Catalogue, a: usize, word: u64) -> Pen
     requires a_bound { a < 64 }
     requires room_for { RoomFor buf.old pen 1 (line_bits (key_at t.now a) (head_at t.now a) word) }
     ensures { Adds buf.old buf.new pen result 1 (line_bits (key_at t.now a) (head_at t.now a) word) }
 {
-    let line = item_fields::line_field(catalogue::key_at(t, a), catalogue::head_at(t, a), word);
+    let line = item_fields::line_field(t.keys[a], t.heads[a], word);
     let then = item_pen::counted(pen);
     if !item_pen::is_down(then) {
         return item_pen::pass_over(then, line.width);

@@ -1,7 +1,6 @@
--- A map with a name of two words: `a`, `b`, `c.file`, `file`. Its names as two arrays, and an empty table.
+-- A map with a name of two words: `a`, `b`, `c.file`, `file`. Its names as two arrays, and an empty catalogue.
 use Rattle.std.specs.Prelude.{List, ◌∷◌, ◌≡◌, refl, ℕ, ◌<◌, get_or, replicate}
 use Rattle.std.proofs.Common.{inl, inr, arith}
-use Rattle.std.proofs.lemmas.List.{length-replicate}
 use Rattle.lists.specs.Places.{zero-at}
 use Rattle.lists.specs.Tests.{never}
 use Rattle.definitions.specs.Cases.{run}
@@ -10,11 +9,13 @@ use Rattle.laws.specs.Comparisons.{name-same}
 use Rattle.line_laws.specs.Statements.{line_map}
 use Rattle.law_classes.specs.Sets.{type_at}
 use Rattle.law_classes.proofs.Instance.{accepted, four}
+use Rattle.catalogue.specs.Layout.{blank}
 use Rattle.item_names.specs.Names.{NoSets}
 use Rattle.item_names.specs.Named.{WordOrNone, Named}
 
-pub blank-sets : NoSets (replicate 1544 0)
-blank-sets = record { long = length-replicate {A = ℕ} 1544 0; none = λ i h k. zero-at 1544 i }
+pub blank-sets : NoSets blank
+unfolding blank
+blank-sets = record { first = λ w h. zero-at 256 w; second = λ w h. zero-at 256 w }
 
 abbrev firsts : List ℕ
 firsts = 0 ∷ 1 ∷ 2 ∷ 3 ∷ replicate 60 0

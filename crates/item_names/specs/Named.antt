@@ -1,4 +1,4 @@
--- What the numbers of the names say of the map whose names they are.
+-- What the catalogue's columns of names say of the map whose names they are.
 use Rattle.std.specs.Prelude.{Bool, true, false, ◌&&◌, ◌||◌, not, cond, List, [], ◌∷◌, ◌⊎◌, ◌≡◌, refl, ℕ, ◌+◌, ◌-◌, ◌/◌, ◌%◌, ◌≤◌, ◌<◌, ltb, length, get_or}
 use Rattle.std.proofs.Math.Bool.{and-true, and-false, or-false}
 use Rattle.std.proofs.Common.{inl, inr, ⊎_elim, ap, ap₂, ◌∙◌, subst, arith, eq-eqb, ne_eqb, eqb-true, lt-ltb, ltb-true}
@@ -22,8 +22,9 @@ use Rattle.law_classes.specs.Sets.{some, one_word, word_of, masked, type_at, Set
 use Rattle.law_classes.proofs.SetLaws.{below_of}
 use Rattle.law_classes.specs.Numbers.{Fits, holds-some}
 use Rattle.bitsets.specs.BitLaws.{lowest-is}
-use Rattle.catalogue.specs.Layout.{key_at, word_at, mask_at, owner_at, first_at, second_at, words_in, looked}
+use Rattle.catalogue.specs.Layout.{key_at, word_at, mask_at, owner_at, first_at, second_at, looked}
 use Rattle.catalogue.specs.Catalogue.{name_of_key, first_is, second_is, Worded}
+use Rattle.catalogue.specs.declared.Catalogue.{Catalogue}
 use Rattle.item_names.specs.Names.{second_of, key_of, mask_of, owner_of}
 use Rattle.item_names.specs.NamesLaws.{few_words, looked-words}
 use Rattle.item_names.specs.Holding.{Holds, holds-and, holds-or, holds_same, holds-set, holds_fits}
@@ -43,13 +44,13 @@ pub record Named (m : LineMap) (width : ℕ) (firsts seconds : List ℕ) : Type 
   pub second : (a : ℕ) → a < length m.types → WordOrNone width (get_or seconds a 0)
   pub once : (a b : ℕ) → a < length m.types → b < length m.types → (type_at m a).name ≡ (type_at m b).name → a ≡ b
 
--- The numbers of n names stand in the table: keys, sets of words, last words, owners.
-pub record NamesIn (firsts seconds : List ℕ) (n width : ℕ) (t : List ℕ) : Type 0 where
+-- All of n names stands in the catalogue: keys, sets of words, last words, owners.
+pub record NamesIn (firsts seconds : List ℕ) (n width : ℕ) (t : Catalogue) : Type 0 where
   pub key : (a : ℕ) → a < n → key_at t a ≡ key_of (get_or firsts a 0) (get_or seconds a 0)
   pub first : (w : ℕ) → w < 256 → Holds n (first_at t w) (λ a. eqb (get_or firsts a 0) w)
   pub second : (w : ℕ) → w < 256 → Holds n (second_at t w) (λ a. eqb (second_of (get_or seconds a 0)) w)
-  pub words : tabulate (word_at t) (words_in t) ≡ below (λ w. not (eqb (mask_of t w) 0)) width
-  pub masks : (k : ℕ) → k < words_in t → mask_at t k ≡ mask_of t (word_at t k)
+  pub words : tabulate (word_at t) t.word_count ≡ below (λ w. not (eqb (mask_of t w) 0)) width
+  pub masks : (k : ℕ) → k < t.word_count → mask_at t k ≡ mask_of t (word_at t k)
   pub owner : (a : ℕ) → a < n → owner_at t a ≡ owner_of (key_at t a) (bit_and (first_at t (key_at t a / 256)) (second_at t 0))
 
 -- ---- bytes
@@ -108,7 +109,7 @@ second_word_lem f g w h =
 
 -- ---- the map
 
-module _ (s : Sheet) (firsts seconds t : List ℕ) (nm : Named (line_map s) (length s.words) firsts seconds)
+module _ (s : Sheet) (firsts seconds : List ℕ) (t : Catalogue) (nm : Named (line_map s) (length s.words) firsts seconds)
     (ns : NamesIn firsts seconds (length (line_map s).types) (length s.words) t) where
   abbrev m : LineMap
   m = line_map s
@@ -209,15 +210,15 @@ module _ (s : Sheet) (firsts seconds t : List ℕ) (nm : Named (line_map s) (len
   mask-some : (w : ℕ) → w < W → not (eqb (mask_of t w) 0) ≡ some m (masked w)
   mask-some w h = sym (holds-some m (mask_of t w) (masked w) (mask_fits w h) (mask_is w h))
 
-  words_are : tabulate (word_at t) (words_in t) ≡ below (λ r. some m (masked r)) W
+  words_are : tabulate (word_at t) t.word_count ≡ below (λ r. some m (masked r)) W
   words_are = ns.words ∙ Rattle.ordering.specs.Lists.below-same (λ w. not (eqb (mask_of t w) 0)) (λ r. some m (masked r)) W mask-some
 
-  word_below : (k : ℕ) → k < words_in t → word_at t k < W
-  word_below k h = (below_of (λ w. not (eqb (mask_of t w) 0)) W (subst (In (word_at t k)) ns.words (tabulate-in (word_at t) (words_in t) k h))).0
+  word_below : (k : ℕ) → k < t.word_count → word_at t k < W
+  word_below k h = (below_of (λ w. not (eqb (mask_of t w) 0)) W (subst (In (word_at t k)) ns.words (tabulate-in (word_at t) t.word_count k h))).0
 
   pub worded : Worded s t
   worded = record {
-    few = omega (arith, few_words firsts seconds t n ns.first ns.second W (omega (arith, nm.narrow)) nm.few, length-tabulate (word_at t) (words_in t), ap length ns.words);
+    few = omega (arith, few_words firsts seconds t n ns.first ns.second W (omega (arith, nm.narrow)) nm.few, length-tabulate (word_at t) t.word_count, ap length ns.words);
     words = words_are;
     mask_fits = λ k h. rw (ns.masks k h) (mask_fits (word_at t k) (word_below k h));
     mask = λ k h. rw (ns.masks k h) (mask_is (word_at t k) (word_below k h));

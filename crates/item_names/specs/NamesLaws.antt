@@ -1,42 +1,37 @@
 -- The steps of the loops over the names and the words.
 use mathlib.Core.Bool.{Bool, true, ◌&&◌, ◌||◌, not, cond, or-false}
 use Rattle.std.specs.Prelude.{List, [], ◌∷◌, ◌++◌, ◌≡◌, refl, ℕ, ◌+◌, ◌-◌, ◌*◌, ◌%◌, ◌/◌, ◌^◌, ◌≤◌, ◌<◌, eqb, ltb, length, get_or, set}
-use Rattle.std.proofs.Common.{sym, ap, ap₂, ◌∙◌, subst, arith, eq-eqb, ne_eqb, eqb-true, lt-ltb, le-ltb, ltb-true, ltb-false, length-set, get_or-set_same, get_or-set_other}
+use Rattle.std.proofs.Common.{sym, ap, ap₂, ◌∙◌, subst, arith, eq-eqb, ne_eqb, eqb-true, lt-ltb, le-ltb, ltb-true, ltb-false, get_or-set_same, get_or-set_other}
 use Rattle.std.proofs.lemmas.Bool.{eqb-false, not-true}
 use Rattle.std.specs.Int.Bits.{bit_and, bit_or}
 use Rattle.lists.specs.Lists.{In}
 use Rattle.lists.specs.Tests.{by, and_left, and_right, or_elim}
 use Rattle.lists.specs.Counting.{pigeonhole}
+use Rattle.lists.specs.Places.{stored}
 use Rattle.lists.specs.Sorting.{Distinct, sorted-imp}
 use Rattle.lists.specs.Tabulating.{tabulate, tabulate-set, tabulate-in, length-tabulate}
 use Rattle.rows.specs.Rows.{has_bit}
 use Rattle.rows.specs.RowLaws.{bit-either, bit-none, bit-one, one_shifted}
 use Rattle.ordering.specs.Lists.{below, below-yes, below-no, below-same, below-lt}
 use Rattle.law_classes.proofs.SetLaws.{below_of, below-ascends}
-use Rattle.catalogue.specs.Layout.{key_at, word_at, first_at, second_at, looked}
-use Rattle.catalogue.specs.Kept.{KeptOutside, kept-none, kept_set, kept_more}
+use Rattle.catalogue.specs.Layout.{key_at, word_at, owner_at, first_at, second_at, looked}
+use Rattle.catalogue.specs.declared.Catalogue.{Catalogue}
 use Rattle.item_names.specs.Holding.{Holds, nonzero-bit, holds-and, holds-or}
-use Rattle.item_names.specs.Names.{second_of, key_of, KeysPut, name_marked, NoSets, SetsPut, mask_of, WordPut, FewWords, WordsPut, owner_of, KeysSmall, OwnersPut, NamesPut}
+use Rattle.item_names.specs.Names.{second_of, key_of, KeysPut, name_marked, NoSets, SetsPut, mask_of, WordPut, FewWords, WordsPut, owner_of, OwnersPut, NamesPut}
 
 -- ---- keys
 
-pub keys_none : (firsts seconds t : List ℕ) → KeysPut firsts seconds 0 t t
-keys_none firsts seconds t = record { key = λ a h. absurd (omega arith); small = λ a h. absurd (omega arith); kept = kept-none 0 64 t }
+pub keys_none : (firsts seconds : List ℕ) (t : Catalogue) → KeysPut firsts seconds 0 t t
+keys_none firsts seconds t = record { key = λ a h. absurd (omega arith); small = λ a h. absurd (omega arith); kept = refl }
 
-pub keys-more : (firsts seconds : List ℕ) (n : ℕ) (old t : List ℕ) (x : ℕ) → n < 64 → length old ≡ 1544 → (x ≡ key_of (get_or firsts n 0) (get_or seconds n 0)) × (x < 65536)
-    → {new : List ℕ} → new ≡ set t n x → KeysPut firsts seconds n old t → KeysPut firsts seconds (n + 1) old new
+pub keys-more : (firsts seconds : List ℕ) (n : ℕ) (old t : Catalogue) (x : ℕ) → n < 64 → length t.keys ≡ 64 → (x ≡ key_of (get_or firsts n 0) (get_or seconds n 0)) × (x < 65536)
+    → {new : Catalogue} → new ≡ record t { keys = set t.keys n x } → KeysPut firsts seconds n old t → KeysPut firsts seconds (n + 1) old new
 keys-more firsts seconds n old t x h l e q k =
     rw q
     record {
-      key = λ a b.
-          by (eqb a n)
-          (λ q. let z = eqb-true a n q in rw z (get_or-set_same t n x 0 (omega (arith, k.kept.long)) ∙ e.0))
-          (λ q. let z = eqb-false a n q in get_or-set_other t n a x 0 z ∙ k.key a (omega (arith, z)));
-      small = λ a b.
-          by (eqb a n)
-          (λ q. let z = eqb-true a n q in rw z (omega (arith, get_or-set_same t n x 0 (omega (arith, k.kept.long)), e.1)))
-          (λ q. let z = eqb-false a n q in omega (arith, get_or-set_other t n a x 0 z, k.small a (omega (arith, z))));
-      kept = kept_more 0 64 0 64 old t (set t n x) k.kept (kept_set 0 64 t n x (omega arith) (omega arith)) (omega arith) (omega arith);
+      key = stored 0 (λ a y. y ≡ key_of (get_or firsts a 0) (get_or seconds a 0)) t.keys n x (omega arith) k.key e.0;
+      small = stored 0 (λ a y. y < 65536) t.keys n x (omega arith) k.small e.1;
+      kept = ap (λ (c : Catalogue). record c { keys = set t.keys n x }) k.kept;
     }
 
 -- ---- the sets of words
@@ -60,21 +55,16 @@ pub with-bit : (x n a : ℕ) → n < 64 → has_bit (bit_or x (1 * 2 ^ n % 2 ^ 6
 with-bit x n a h =
     bit-either x (1 * 2 ^ n % 2 ^ 64) a ∙ ap (λ (b : Bool). has_bit x a || b) (ap (λ (y : ℕ). has_bit y a) (one_shifted n h) ∙ bit-one n a)
 
--- the four accesses
-pub marked : (old u : List ℕ) (a first second x y : ℕ) {new : List ℕ} → new ≡ set u (1280 + second_of second) (bit_or y (1 * 2 ^ a % 2 ^ 64))
-    → u ≡ set old (1024 + first) (bit_or x (1 * 2 ^ a % 2 ^ 64)) → x ≡ first_at old first → y ≡ second_at old (second_of second) → new ≡ name_marked old a first second
-marked old u a first second x y e f p q = e ∙ rw (f, p, q)
-
-pub sets-none : (firsts seconds t : List ℕ) → NoSets t → SetsPut firsts seconds 0 t t
+pub sets-none : (firsts seconds : List ℕ) (t : Catalogue) → NoSets t → SetsPut firsts seconds 0 t t
 sets-none firsts seconds t z =
     record {
-      first = λ w h a. ap (λ (x : ℕ). has_bit x a) (z.none (1024 + w) (omega arith) (omega arith)) ∙ bit-none a ∙ sym (rw (le-ltb a 0 (omega arith)));
-      second = λ w h a. ap (λ (x : ℕ). has_bit x a) (z.none (1280 + w) (omega arith) (omega arith)) ∙ bit-none a ∙ sym (rw (le-ltb a 0 (omega arith)));
-      kept = kept-none 1024 1536 t;
+      first = λ w h a. ap (λ (x : ℕ). has_bit x a) (z.first w h) ∙ bit-none a ∙ sym (rw (le-ltb a 0 (omega arith)));
+      second = λ w h a. ap (λ (x : ℕ). has_bit x a) (z.second w h) ∙ bit-none a ∙ sym (rw (le-ltb a 0 (omega arith)));
+      kept = refl;
     }
 
-module _ (firsts seconds : List ℕ) (n : ℕ) (old t : List ℕ) (small : n < 64) (first_small : get_or firsts n 0 < 256) (l : length old ≡ 1544)
-    (p : SetsPut firsts seconds n old t) where
+module _ (firsts seconds : List ℕ) (n : ℕ) (old t : Catalogue) (small : n < 64) (first_small : get_or firsts n 0 < 256)
+    (long : (length t.firsts ≡ 256) × (length t.seconds ≡ 256)) (p : SetsPut firsts seconds n old t) where
   -- the words of the type, and the sets with it
   abbrev f : ℕ
   f = get_or firsts n 0
@@ -87,9 +77,6 @@ module _ (firsts seconds : List ℕ) (n : ℕ) (old t : List ℕ) (small : n < 6
 
   abbrev y : ℕ
   y = bit_or (second_at t g) (1 * 2 ^ n % 2 ^ 64)
-
-  abbrev u : List ℕ
-  u = set t (1024 + f) x
 
   -- in the set of a word stand those that stood there, and the type if it has the word
   joined : (s w v : ℕ) (h : ℕ → ℕ) (a : ℕ) → ((a : ℕ) → has_bit s a ≡ (ltb a n && eqb (h a) w)) → v ≡ h n
@@ -105,34 +92,30 @@ module _ (firsts seconds : List ℕ) (n : ℕ) (old t : List ℕ) (small : n < 6
         ∙ one_more (λ b. eqb (h b) w) n a,
   )
 
-  pub sets_more : {new : List ℕ} → new ≡ name_marked t n f (get_or seconds n 0) → SetsPut firsts seconds (n + 1) old new
+  -- what stands in the sets of a column, after one of them was written
+  in_column : (l : List ℕ) (h : ℕ → ℕ) → h n < length l → ((w : ℕ) → w < 256 → (a : ℕ) → has_bit (get_or l w 0) a ≡ (ltb a n && eqb (h a) w))
+      → (w : ℕ) → w < 256 → (a : ℕ) → has_bit (get_or (set l (h n) (bit_or (get_or l (h n) 0) (1 * 2 ^ n % 2 ^ 64))) w 0) a ≡ (ltb a (n + 1) && eqb (h a) w)
+  in_column l h b e w k a =
+      let v = h n in
+      let z = bit_or (get_or l v 0) (1 * 2 ^ n % 2 ^ 64) in
+      let j = joined (get_or l w 0) w v h a (e w k) refl in
+      by (eqb w v)
+      (λ q. let y = eqb-true w v q in ap (λ (i : ℕ). has_bit (get_or (set l v z) i 0) a) y ∙ ap (λ (i : ℕ). has_bit i a) (get_or-set_same l v z 0 b) ∙ ap (λ (i : ℕ). has_bit (bit_or (get_or l i 0) (1 * 2 ^ n % 2 ^ 64)) a) (sym y) ∙ j.0 y)
+      (λ q. let y = eqb-false w v q in ap (λ (i : ℕ). has_bit i a) (get_or-set_other l v w z 0 y) ∙ j.1 y)
+
+  pub sets_more : {new : Catalogue} → new ≡ name_marked t n f (get_or seconds n 0) → SetsPut firsts seconds (n + 1) old new
   sets_more q =
       rw q
-      let lt : length t ≡ 1544 = p.kept.long ∙ l in
       record {
-        first = λ w h a.
-            let j = joined (first_at t w) w f (λ b. get_or firsts b 0) a (p.first w h) refl in
-            ap (λ (z : ℕ). has_bit z a) (get_or-set_other u (1280 + g) (1024 + w) y 0 (λ e. omega arith))
-            ∙ by (eqb w f)
-            (λ q. let z = eqb-true w f q in ap (λ (k : ℕ). has_bit k a) (ap (λ (k : ℕ). get_or u (1024 + k) 0) z ∙ get_or-set_same t (1024 + f) x 0 (omega arith)) ∙ ap (λ (k : ℕ). has_bit (bit_or (first_at t k) (1 * 2 ^ n % 2 ^ 64)) a) (sym z) ∙ j.0 z)
-            (λ q. let z = eqb-false w f q in ap (λ (k : ℕ). has_bit k a) (get_or-set_other t (1024 + f) (1024 + w) x 0 (λ e. z (omega arith))) ∙ j.1 z);
-        second = λ w h a.
-            let j = joined (second_at t w) w g (λ b. second_of (get_or seconds b 0)) a (p.second w h) refl in
-            by (eqb w g)
-            (λ q. let z = eqb-true w g q in ap (λ (k : ℕ). has_bit k a) (ap (λ (k : ℕ). get_or (set u (1280 + g) y) (1280 + k) 0) z ∙ get_or-set_same u (1280 + g) y 0 (omega (arith, length-set t (1024 + f) x))) ∙ ap (λ (k : ℕ). has_bit (bit_or (second_at t k) (1 * 2 ^ n % 2 ^ 64)) a) (sym z) ∙ j.0 z)
-            (λ q.
-            let z = eqb-false w g q in
-            ap (λ (k : ℕ). has_bit k a) (get_or-set_other u (1280 + g) (1280 + w) y 0 (λ e. z (omega arith)) ∙ get_or-set_other t (1024 + f) (1280 + w) x 0 (λ e. omega arith)) ∙ j.1 z);
-        kept =
-            kept_more 1024 1536 1024 1536 old u (set u (1280 + g) y)
-            (kept_more 1024 1536 1024 1536 old t u p.kept (kept_set 1024 1536 t (1024 + f) x (omega arith) (omega arith)) (omega arith) (omega arith))
-            (kept_set 1024 1536 u (1280 + g) y (omega arith) (omega arith)) (omega arith) (omega arith);
+        first = in_column t.firsts (λ a. get_or firsts a 0) (omega arith) p.first;
+        second = in_column t.seconds (λ a. second_of (get_or seconds a 0)) (omega arith) p.second;
+        kept = ap (λ (c : Catalogue). record c { firsts = set t.firsts f x; seconds = set t.seconds g y }) p.kept;
       }
 
 -- ---- the words
 
 -- each word with a set that is not empty is the last word of one of the names, so there are no more than names
-module _ (firsts seconds t : List ℕ) (n : ℕ) (first : (w : ℕ) → w < 256 → Holds n (first_at t w) (λ a. eqb (get_or firsts a 0) w))
+module _ (firsts seconds : List ℕ) (t : Catalogue) (n : ℕ) (first : (w : ℕ) → w < 256 → Holds n (first_at t w) (λ a. eqb (get_or firsts a 0) w))
     (second : (w : ℕ) → w < 256 → Holds n (second_at t w) (λ a. eqb (second_of (get_or seconds a 0)) w)) where
   -- the last word of a name
   abbrev last : ℕ → ℕ
@@ -170,15 +153,15 @@ module _ (firsts seconds t : List ℕ) (n : ℕ) (first : (w : ℕ) → w < 256 
       )
 
 -- the sets of words stay while words are put
-pub turned : (old t : List ℕ) {n v : ℕ} (w : ℕ) → WordsPut v old t n → bit_or (bit_and (first_at t w) (second_at old 0)) (second_at t (w + 1)) ≡ mask_of old w
-turned old t w p = rw (p.kept.after (1024 + w) (omega arith), p.kept.after (1280 + (w + 1)) (omega arith))
+pub turned : (old t : Catalogue) {n v : ℕ} (w : ℕ) → WordsPut v old t n → bit_or (bit_and (first_at t w) (second_at old 0)) (second_at t (w + 1)) ≡ mask_of old w
+turned old t w p = ap (λ (c : Catalogue). bit_or (bit_and (first_at c w) (second_at old 0)) (second_at c (w + 1))) p.kept
 
 -- what is put into the first n places of the words
-pub words-none : (t : List ℕ) → WordsPut 0 t t 0
+pub words-none : (t : Catalogue) → WordsPut 0 t t 0
 unfolding tabulate
-words-none t = record { words = refl; masks = λ k h. absurd (omega arith); kept = kept-none 512 640 t }
+words-none t = record { words = refl; masks = λ k h. absurd (omega arith); kept = refl }
 
-module _ (width w n : ℕ) (old t : List ℕ) (few : FewWords width old) (within : w < width) (p : WordsPut w old t n) where
+module _ (width w n : ℕ) (old t : Catalogue) (few : FewWords width old) (within : w < width) (p : WordsPut w old t n) where
   -- whether the set of a word is not empty
   abbrev stands : ℕ → Bool
   stands v = not (eqb (mask_of old v) 0)
@@ -189,8 +172,8 @@ module _ (width w n : ℕ) (old t : List ℕ) (few : FewWords width old) (within
   pub room : (mask_of old w ≡ 0 → ⊥) → n < 64
   room q = omega (arith, count-is, few.few, below-lt stands w width within (ap not (ne_eqb (mask_of old w) 0 q)))
 
-  pub words_more : (new : List ℕ) (r : ℕ) → WordPut n w (mask_of old w) t new r → WordsPut (w + 1) old new r
-  words_more new r q =
+  pub words_more : (length t.words ≡ 64) × (length t.masks ≡ 64) → (new : Catalogue) (r : ℕ) → WordPut n w (mask_of old w) t new r → WordsPut (w + 1) old new r
+  words_more long new r q =
       by (eqb (mask_of old w) 0)
       (λ e.
       let z = q.none (eqb-true (mask_of old w) 0 e) in
@@ -199,34 +182,23 @@ module _ (width w n : ℕ) (old t : List ℕ) (few : FewWords width old) (within
       let ne = eqb-false (mask_of old w) 0 e in
       let z = q.some ne in
       let h = room ne in
-      let u = set t (512 + n) w in
-      let v = set u (576 + n) (mask_of old w) in
-      let lt : length t ≡ 1544 = p.kept.long ∙ few.long in
-      let last : word_at v n ≡ w = get_or-set_other u (576 + n) (512 + n) (mask_of old w) 0 (λ d. omega arith) ∙ get_or-set_same t (512 + n) w 0 (omega arith) in
-      let keep : (k : ℕ) → k < n → word_at v k ≡ word_at t k =
-      λ k l. get_or-set_other u (576 + n) (512 + k) (mask_of old w) 0 (λ d. omega arith) ∙ get_or-set_other t (512 + n) (512 + k) w 0 (λ d. omega arith) in
+      let u = set t.words n w in
+      let v = set t.masks n (mask_of old w) in
+      let last : get_or u n 0 ≡ w = get_or-set_same t.words n w 0 (omega arith) in
+      let keep : (k : ℕ) → k < n → get_or u k 0 ≡ word_at t k = λ k l. get_or-set_other t.words n k w 0 (λ d. omega arith) in
       rw (z.0, z.1)
       (record {
-        words = tabulate-set (word_at t) (word_at v) n w keep last ∙ ap (λ (l : List ℕ). l ++ (w ∷ [])) p.words ∙ sym (below-yes stands w (ap not e));
-        masks = λ k l.
-            by (eqb k n)
-            (λ d. let y = eqb-true k n d in rw (y, last) (get_or-set_same u (576 + n) (mask_of old w) 0 (omega (arith, length-set t (512 + n) w))))
-            (λ d.
-            let y = eqb-false k n d in
-            get_or-set_other u (576 + n) (576 + k) (mask_of old w) 0 (λ b. y (omega arith))
-            ∙ get_or-set_other t (512 + n) (576 + k) w 0 (λ b. omega arith)
-            ∙ p.masks k (omega (arith, y))
-            ∙ ap (mask_of old) (sym (keep k (omega (arith, y)))));
-        kept =
-            kept_more 512 640 512 640 old u v
-            (kept_more 512 640 512 640 old t u p.kept (kept_set 512 640 t (512 + n) w (omega arith) (omega arith)) (omega arith) (omega arith))
-            (kept_set 512 640 u (576 + n) (mask_of old w) (omega arith) (omega arith)) (omega arith) (omega arith);
+        words = tabulate-set (word_at t) (λ k. get_or u k 0) n w keep last ∙ ap (λ (l : List ℕ). l ++ (w ∷ [])) p.words ∙ sym (below-yes stands w (ap not e));
+        masks =
+            stored 0 (λ k m. m ≡ mask_of old (get_or u k 0)) t.masks n (mask_of old w) (omega arith) (λ k l. p.masks k l ∙ ap (mask_of old) (sym (keep k l)))
+            (ap (mask_of old) (sym last));
+        kept = ap (λ (c : Catalogue). record c { words = u; masks = v }) p.kept;
       }))
 
 -- ---- look-up by name
 
 -- by the words of a key
-pub looked-words : (t : List ℕ) (first second : ℕ) → looked t (key_of first second) ≡ bit_and (first_at t first) (second_at t (second_of second))
+pub looked-words : (t : Catalogue) (first second : ℕ) → looked t (key_of first second) ≡ bit_and (first_at t first) (second_at t (second_of second))
 unfolding looked
 looked-words t first second =
     let a : key_of first second / 256 ≡ first = omega arith in
@@ -234,7 +206,7 @@ looked-words t first second =
     ap₂ (λ (i j : ℕ). bit_and (first_at t i) (second_at t j)) a b
 
 -- by the first word of a key alone
-looked-alone : (t : List ℕ) (key : ℕ) → looked t (key / 256 * 256) ≡ bit_and (first_at t (key / 256)) (second_at t 0)
+looked-alone : (t : Catalogue) (key : ℕ) → looked t (key / 256 * 256) ≡ bit_and (first_at t (key / 256)) (second_at t 0)
 unfolding looked
 looked-alone t key =
     let a : key / 256 * 256 / 256 ≡ key / 256 = omega arith in
@@ -243,75 +215,66 @@ looked-alone t key =
 
 -- ---- owners
 
-pub owners-none : (t : List ℕ) → OwnersPut 0 t t
-owners-none t = record { owner = λ a h. absurd (omega arith); kept = kept-none 640 704 t }
+pub owners-none : (t : Catalogue) → OwnersPut 0 t t
+owners-none t = record { owner = λ a h. absurd (omega arith); kept = refl }
 
 -- what is read of a type in a turn stands there since the start
-pub owner-turn : (old t : List ℕ) (n key types : ℕ) {x : ℕ} → n < 64 → OwnersPut n old t → key ≡ key_at t n → key < 65536 → types ≡ looked t (key / 256 * 256)
-    → x ≡ owner_of key types → x ≡ owner_of (key_at old n) (bit_and (first_at old (key_at old n / 256)) (second_at old 0))
-owner-turn old t n key types h p k l f e =
-    let a : key ≡ key_at old n = k ∙ p.kept.before n (omega arith) in
-    let b : first_at t (key / 256) ≡ first_at old (key_at old n / 256) = p.kept.after (1024 + key / 256) (omega arith) ∙ ap (λ (i : ℕ). first_at old (i / 256)) a in
-    e ∙ ap₂ owner_of a (f ∙ looked-alone t key ∙ ap₂ bit_and b (p.kept.after 1280 (omega arith)))
+pub owner-turn : (old t : Catalogue) (n : ℕ) → OwnersPut n old t
+    → owner_of (key_at t n) (looked t (key_at t n / 256 * 256)) ≡ owner_of (key_at old n) (bit_and (first_at old (key_at old n / 256)) (second_at old 0))
+owner-turn old t n p =
+    ap (owner_of (key_at t n)) (looked-alone t (key_at t n)) ∙ ap (λ (c : Catalogue). owner_of (key_at c n) (bit_and (first_at c (key_at c n / 256)) (second_at c 0))) p.kept
 
-pub owners-more : (n : ℕ) (old t : List ℕ) (x : ℕ) → n < 64 → length old ≡ 1544 → x ≡ owner_of (key_at old n) (bit_and (first_at old (key_at old n / 256)) (second_at old 0))
-    → {new : List ℕ} → new ≡ set t (640 + n) x → OwnersPut n old t → OwnersPut (n + 1) old new
+pub owners-more : (n : ℕ) (old t : Catalogue) (x : ℕ) → n < 64 → length t.owners ≡ 64 → x ≡ owner_of (key_at old n) (bit_and (first_at old (key_at old n / 256)) (second_at old 0))
+    → {new : Catalogue} → new ≡ record t { owners = set t.owners n x } → OwnersPut n old t → OwnersPut (n + 1) old new
 owners-more n old t x h l e q k =
     rw q
     record {
-      owner = λ a b.
-          by (eqb a n)
-          (λ q. let z = eqb-true a n q in rw z (get_or-set_same t (640 + n) x 0 (omega (arith, k.kept.long)) ∙ e))
-          (λ q. let z = eqb-false a n q in get_or-set_other t (640 + n) (640 + a) x 0 (λ d. z (omega arith)) ∙ k.owner a (omega (arith, z)));
-      kept = kept_more 640 704 640 704 old t (set t (640 + n) x) k.kept (kept_set 640 704 t (640 + n) x (omega arith) (omega arith)) (omega arith) (omega arith);
+      owner = stored 0 (λ a y. y ≡ owner_of (key_at old a) (bit_and (first_at old (key_at old a / 256)) (second_at old 0))) t.owners n x (omega arith) k.owner e;
+      kept = ap (λ (c : Catalogue). record c { owners = set t.owners n x }) k.kept;
     }
 
 -- ---- all of it
 
--- the sets of words are read of their own part
-mask-same : (old new : List ℕ) (lo hi w : ℕ) → KeptOutside lo hi old new → hi ≤ 1024 → mask_of new w ≡ mask_of old w
-mask-same old new lo hi w k h =
-    rw (k.after (1024 + w) (omega arith), k.after (1280 + 0) (omega arith), k.after (1280 + (w + 1)) (omega arith))
-
-pub names-put : (firsts seconds : List ℕ) (n width : ℕ) (t0 t1 t2 t3 t4 : List ℕ) (r : ℕ) → n ≤ 64 → KeysPut firsts seconds n t0 t1 → SetsPut firsts seconds n t1 t2 → OwnersPut n t2 t3 → WordsPut width t3 t4 r
+pub names-put : (firsts seconds : List ℕ) (n width : ℕ) (t0 t1 t2 t3 t4 : Catalogue) (r : ℕ) → KeysPut firsts seconds n t0 t1 → SetsPut firsts seconds n t1 t2 → OwnersPut n t2 t3 → WordsPut width t3 t4 r
     → NamesPut firsts seconds n width t0 t4 r
-names-put firsts seconds n width t0 t1 t2 t3 t4 r few k s o w =
-    let first : (i : ℕ) → first_at t4 i ≡ first_at t2 i = λ i. w.kept.after (1024 + i) (omega arith) ∙ o.kept.after (1024 + i) (omega arith) in
-    let second : (i : ℕ) → second_at t4 i ≡ second_at t2 i = λ i. w.kept.after (1280 + i) (omega arith) ∙ o.kept.after (1280 + i) (omega arith) in
-    let key : (a : ℕ) → a < n → key_at t4 a ≡ key_at t2 a = λ a h. w.kept.before a (omega arith) ∙ o.kept.before a (omega arith) in
-    let mask : (i : ℕ) → mask_of t4 i ≡ mask_of t3 i = λ i. mask-same t3 t4 512 640 i w.kept (omega arith) in
+names-put firsts seconds n width t0 t1 t2 t3 t4 r k s o w =
+    let keys : t4.keys ≡ t2.keys = ap (λ (c : Catalogue). c.keys) w.kept ∙ ap (λ (c : Catalogue). c.keys) o.kept in
+    let first : t4.firsts ≡ t2.firsts = ap (λ (c : Catalogue). c.firsts) w.kept ∙ ap (λ (c : Catalogue). c.firsts) o.kept in
+    let second : t4.seconds ≡ t2.seconds = ap (λ (c : Catalogue). c.seconds) w.kept ∙ ap (λ (c : Catalogue). c.seconds) o.kept in
+    let mask : (i : ℕ) → mask_of t4 i ≡ mask_of t3 i = λ i. ap (λ (c : Catalogue). mask_of c i) w.kept in
+    let all =
+    w.kept
+    ∙ ap (λ (c : Catalogue). record c { words = t4.words; masks = t4.masks }) o.kept
+    ∙ ap (λ (c : Catalogue). record c { owners = t3.owners; words = t4.words; masks = t4.masks }) s.kept
+    ∙ ap (λ (c : Catalogue). record c { firsts = t2.firsts; seconds = t2.seconds; owners = t3.owners; words = t4.words; masks = t4.masks }) k.kept in
     record {
-      key = λ a h. key a h ∙ s.kept.before a (omega arith) ∙ k.key a h;
-      first = λ i h a. ap (λ (x : ℕ). has_bit x a) (first i) ∙ s.first i h a;
-      second = λ i h a. ap (λ (x : ℕ). has_bit x a) (second i) ∙ s.second i h a;
+      key = λ a h. ap (λ (l : List ℕ). get_or l a 0) (keys ∙ ap (λ (c : Catalogue). c.keys) s.kept) ∙ k.key a h;
+      first = λ i h a. ap (λ (l : List ℕ). has_bit (get_or l i 0) a) first ∙ s.first i h a;
+      second = λ i h a. ap (λ (l : List ℕ). has_bit (get_or l i 0) a) second ∙ s.second i h a;
       owner = λ a h.
-          w.kept.after (640 + a) (omega arith)
+          ap (λ (c : Catalogue). owner_at c a) w.kept
           ∙ o.owner a h
-          ∙ sym (ap₂ (λ (i j : ℕ). owner_of i (bit_and (first_at t4 (i / 256)) j)) (key a h) (second 0) ∙ ap (λ (i : ℕ). owner_of (key_at t2 a) (bit_and i (second_at t2 0))) (first (key_at t2 a / 256)));
+          ∙ sym (ap (λ (l : List ℕ). owner_of (get_or l a 0) (bit_and (first_at t4 (get_or l a 0 / 256)) (second_at t4 0))) keys
+          ∙ ap₂ (λ (i j : List ℕ). owner_of (key_at t2 a) (bit_and (get_or i (key_at t2 a / 256) 0) (get_or j 0 0))) first second);
       words = w.words ∙ below-same (λ v. not (eqb (mask_of t3 v) 0)) (λ v. not (eqb (mask_of t4 v) 0)) width (λ v h. ap (λ (x : ℕ). not (eqb x 0)) (sym (mask v)));
       masks = λ i h. w.masks i h ∙ sym (mask (word_at t4 i));
-      long = w.kept.long ∙ o.kept.long ∙ s.kept.long ∙ k.kept.long;
-      between = λ i p q. w.kept.before i q ∙ o.kept.before i (omega arith) ∙ s.kept.before i (omega arith) ∙ k.kept.after i p;
-      behind = λ i p q. w.kept.after i (omega arith) ∙ o.kept.after i p ∙ s.kept.before i q ∙ k.kept.after i (omega arith);
-      last = λ i p. w.kept.after i (omega arith) ∙ o.kept.after i (omega arith) ∙ s.kept.after i p ∙ k.kept.after i (omega arith);
+      kept = rw all;
     }
 
 -- the sets are empty behind the keys
-pub sets-kept : (t0 t1 : List ℕ) → NoSets t0 → KeptOutside 0 64 t0 t1 → NoSets t1
-sets-kept t0 t1 z k = record { long = k.long ∙ z.long; none = λ i p q. k.after i (omega arith) ∙ z.none i p q }
-
--- the keys are small behind the sets
-pub keys-small : (firsts seconds : List ℕ) (n : ℕ) (t0 t1 t2 : List ℕ) → n ≤ 64 → length t0 ≡ 1544 → KeysPut firsts seconds n t0 t1 → SetsPut firsts seconds n t1 t2 → KeysSmall n t2
-keys-small firsts seconds n t0 t1 t2 few l k s =
-    record { long = s.kept.long ∙ k.kept.long ∙ l; few = few; small = λ a h. omega (arith, s.kept.before a (omega arith), k.small a h) }
-
--- and the words are few behind the owners
-pub words-few : (firsts seconds : List ℕ) (n width : ℕ) (t1 t2 t3 : List ℕ) → n ≤ 64 → width ≤ 200 → length t1 ≡ 1544 → SetsPut firsts seconds n t1 t2 → OwnersPut n t2 t3 → FewWords width t3
-words-few firsts seconds n width t1 t2 t3 few narrow l s o =
+pub sets-kept : (t0 t1 : Catalogue) → NoSets t0 → t1 ≡ record t0 { keys = t1.keys } → NoSets t1
+sets-kept t0 t1 z k =
     record {
-      long = o.kept.long ∙ s.kept.long ∙ l;
+      first = λ w h. ap (λ (c : Catalogue). first_at c w) k ∙ z.first w h;
+      second = λ w h. ap (λ (c : Catalogue). second_at c w) k ∙ z.second w h;
+    }
+
+-- the words are few behind the owners
+pub words-few : (firsts seconds : List ℕ) (n width : ℕ) (t1 t2 t3 : Catalogue) → n ≤ 64 → width ≤ 200 → SetsPut firsts seconds n t1 t2 → OwnersPut n t2 t3 → FewWords width t3
+words-few firsts seconds n width t1 t2 t3 few narrow s o =
+    record {
       small = omega arith;
       few =
-          few_words firsts seconds t3 n (λ w h a. ap (λ (x : ℕ). has_bit x a) (o.kept.after (1024 + w) (omega arith)) ∙ s.first w h a)
-          (λ w h a. ap (λ (x : ℕ). has_bit x a) (o.kept.after (1280 + w) (omega arith)) ∙ s.second w h a) width (omega arith) few;
+          few_words firsts seconds t3 n (λ w h a. ap (λ (c : Catalogue). has_bit (first_at c w) a) o.kept ∙ s.first w h a)
+          (λ w h a. ap (λ (c : Catalogue). has_bit (second_at c w) a) o.kept ∙ s.second w h a) width (omega arith) few;
     }

@@ -5,50 +5,50 @@
 ghost use Rattle.std.specs.Prelude.{◌≡◌, ◌+◌, ◌<◌};
 ghost use Rattle.item_names.specs.Names.{NameMarked, WordPut, WordsPut, FewWords, owner_of, OwnersPut, KeysSmall};
 
+use catalogue::Catalogue;
+
 // A type goes into the set of its first word and into that of its second, or of those that have none.
-pub fn mark_name(t: &mut [u64; 1544], a: usize, first: u8, second: u8)
+pub fn mark_name(t: &mut Catalogue, a: usize, first: u8, second: u8)
     requires { a < 64 }
     ensures { NameMarked a first second t.old t.new }
 {
-    let one: u64 = 1;
-    let bit = one << a;
+    let bit = 1u64 << a;
     let w = first as usize;
     let v = (second as usize + 1) % 256;
-    let x = catalogue::first_at(t, w);
-    let y = catalogue::second_at(t, v);
-    catalogue::put_first(t, w, x | bit);
-    catalogue::put_second(t, v, y | bit);
+    t.firsts[w] |= bit;
+    t.seconds[v] |= bit;
 }
 
 // The word w with the set of the types whose last word it is, behind the first n words, if there are such types.
-fn put_word_if(t: &mut [u64; 1544], n: usize, w: usize, mask: u64) -> usize
+fn put_word_if(t: &mut Catalogue, n: usize, w: usize, mask: u64) -> usize
     requires { (mask ≡ 0 → ⊥) → n < 64 }
     ensures { WordPut n w mask t.old t.new result }
 {
     if mask == 0 {
         return n;
     }
-    catalogue::put_word(t, n, w as u64);
-    catalogue::put_mask(t, n, mask);
+    t.words[n] = w as u64;
+    t.masks[n] = mask;
     n + 1
 }
 
 // The words below `width` that are the last of a type's name, ascending, each with its types. The answer says how many.
-pub fn put_words(t: &mut [u64; 1544], width: usize) -> usize
+pub fn put_words(t: &mut Catalogue, width: usize) -> usize
     requires { FewWords width t.old }
     ensures { WordsPut width t.old t.new result }
 {
-    let none = catalogue::second_at(t, 0);
+    let none = t.seconds[0];
     let mut n: usize = 0;
     for w in 0..width {
-        let first = catalogue::first_at(t, w);
-        let second = catalogue::second_at(t, w + 1);
+        let first = t.firsts[w];
+        let second = t.seconds[w + 1];
         n = put_word_if(t, n, w, first & none | second);
     }
     n
 }
 
-// The place of the type of the set, 64 where the name of the key has one word or the set is empty: a number of the table.
+// The place of the type of the set, or 64 where the name of the key has one word or the set is empty. The column has the number,
+// since `trailing_zeros` answers 64 for the empty set: an Option would be made of it here and matched where an owner is asked.
 fn owner_of(key: u64, set: u64) -> u64
     ensures { result ≡ owner_of key set }
 {
@@ -59,13 +59,13 @@ fn owner_of(key: u64, set: u64) -> u64
 }
 
 // For each type of a name `a.b` the place of the type `a`.
-pub fn put_owners(t: &mut [u64; 1544], count: usize)
+pub fn put_owners(t: &mut Catalogue, count: usize)
     requires { KeysSmall count t.old }
     ensures { OwnersPut count t.old t.new }
 {
     for a in 0..count {
-        let key = catalogue::key_at(t, a);
-        let owner = catalogue::type_of(t, key / 256 * 256);
-        catalogue::put_owner(t, a, owner_of(key, owner));
+        let key = t.keys[a];
+        let owner = t.type_of(key / 256 * 256);
+        t.owners[a] = owner_of(key, owner);
     }
 }

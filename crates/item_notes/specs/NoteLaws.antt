@@ -24,6 +24,7 @@ use Rattle.sheet_peek.specs.PeekLaws.{refused-not, done-value, done-rest, next-d
 use Rattle.records.specs.Annotations.{resource_of, annotation_as, row_of_word, row_of_tag, rows_for}
 use Rattle.records.specs.AnnotationLaws.{annotation-rows, rows_none}
 use Rattle.sheet_notes.specs.Notes.{Notes, notes}
+use Rattle.catalogue.specs.declared.Catalogue.{Catalogue}
 use Rattle.catalogue.specs.Layout.{looked}
 use Rattle.item_names.specs.Names.{key_of}
 use Rattle.item_classes.specs.Classes.{class_in, Gathers, own_if, GathersMore}
@@ -134,12 +135,12 @@ module _ (bs : List Bool) (p w : ℕ) (e : w ≡ num 17 (drop p bs)) where
 
 -- ---- the class of a name
 
-pub class-one : (t : List ℕ) (w : ℕ) → w / 256 % 2 ≡ 0 → looked t (w / 512 * 256) ≡ class_in t (resource_of (name_in w))
+pub class-one : (t : Catalogue) (w : ℕ) → w / 256 % 2 ≡ 0 → looked t (w / 512 * 256) ≡ class_in t (resource_of (name_in w))
 class-one t w e =
     let k : w / 512 * 256 ≡ key_of (w / 512) 255 = omega arith in
     ap (looked t) k ∙ sym (rw (eq-eqb (w / 256 % 2) 0 e))
 
-pub class-two : (t : List ℕ) (w : ℕ) → (w / 256 % 2 ≡ 0 → ⊥) → looked t (w % 256 * 256 + (w / 512 + 1) % 256) ≡ class_in t (resource_of (name_in w))
+pub class-two : (t : Catalogue) (w : ℕ) → (w / 256 % 2 ≡ 0 → ⊥) → looked t (w % 256 * 256 + (w / 512 + 1) % 256) ≡ class_in t (resource_of (name_in w))
 class-two t w n = sym (rw (ne_eqb (w / 256 % 2) 0 n))
 
 -- ---- sets added
@@ -164,7 +165,7 @@ adds-as resources os gs os' gs' a b e f p = subst (λ (z : List ℕ). Adds resou
 
 -- ---- rows, one by one
 
-module _ (t : List ℕ) (resources kind n : ℕ) (bs : List Bool) (g : Gathered) where
+module _ (t : Catalogue) (resources kind n : ℕ) (bs : List Bool) (g : Gathered) where
   pub record RowsTo (at left : ℕ) (c : Classes) : Type 0 where
     pub so : (W : ℕ) (rows : List (List ℕ)) (rest : List Bool) → repeat (name W) n (drop g.at bs) ≡ done rows rest
         → (ys : List (List ℕ)) × (repeat_onto ys (name W) left (drop at bs) ≡ done rows rest) × Adds resources (only_if (eqb kind 1) (row_sets t ys)) (row_sets t ys) g.classes c
@@ -272,11 +273,11 @@ rows-names W bs p k {rows} {rest} q e =
     let c = counted-done (name W) bs p 4 0 15 (omega arith) e in
     (omega (arith, c.0), subst (λ j. repeat (name W) (num 4 (drop p bs)) (drop j bs) ≡ done rows rest) q c.1)
 
-sets-as : (t : List ℕ) (rows : List (List ℕ)) → row_sets t rows ≡ map (class_in t) (map resource_of rows)
+sets-as : (t : Catalogue) (rows : List (List ℕ)) → row_sets t rows ≡ map (class_in t) (map resource_of rows)
 sets-as t [] = refl
 sets-as t (x ∷ rows) = ap (λ (l : List ℕ). class_in t (resource_of x) ∷ l) (sets-as t rows)
 
-only-sets : (t : List ℕ) (b : Bool) (rows : List (List ℕ)) → only_if b (row_sets t rows) ≡ map (class_in t) (only_if b (map resource_of rows))
+only-sets : (t : Catalogue) (b : Bool) (rows : List (List ℕ)) → only_if b (row_sets t rows) ≡ map (class_in t) (only_if b (map resource_of rows))
 only-sets t true rows = sets-as t rows
 only-sets t false rows = refl
 
@@ -322,7 +323,7 @@ module _ (bs : List Bool) (p w : ℕ) (e : w ≡ num 7 (drop p bs)) where
   pub rows_fit : AnnotationAt bs p → p + 3 ≤ length bs
   rows_fit a = (annotation-done a.width a.one bs p a.read.is).there
 
-pub listed : (t : List ℕ) (resources w : ℕ) (bs : List Bool) (g r : Gathered) → w ≡ num 7 (drop g.at bs) → lists (w / 16) ≡ true
+pub listed : (t : Catalogue) (resources w : ℕ) (bs : List Bool) (g r : Gathered) → w ≡ num 7 (drop g.at bs) → lists (w / 16) ≡ true
     → RowsGathered t resources (w / 16) (w % 16) bs (record { classes = g.classes; at = g.at + 7 }) r → AnnotationGathered t resources bs g r
 listed t resources w bs g r e h k =
     record {
@@ -336,7 +337,7 @@ listed t resources w bs g r e h k =
           );
     }
 
-pub unlisted : (t : List ℕ) (resources w q : ℕ) (bs : List Bool) (g : Gathered) → w ≡ num 7 (drop g.at bs) → lists (w / 16) ≡ false
+pub unlisted : (t : Catalogue) (resources w q : ℕ) (bs : List Bool) (g : Gathered) → w ≡ num 7 (drop g.at bs) → lists (w / 16) ≡ false
     → RowsSkipped (w / 16) bs (g.at + 3) q → AnnotationGathered t resources bs g (record { classes = g.classes; at = q })
 unlisted t resources w q bs g e h k =
     record {
@@ -407,7 +408,7 @@ module _ (bs : List Bool) (at : ℕ) where
 
 -- ---- the annotations of a type, one by one
 
-module _ (t : List ℕ) (resources : ℕ) (bs : List Bool) (start : ℕ) where
+module _ (t : Catalogue) (resources : ℕ) (bs : List Bool) (start : ℕ) where
   -- the sets of annotations
   abbrev own_of : List Annotation → List ℕ
   own_of ys = map (class_in t) (each associate_of ys)
@@ -570,7 +571,7 @@ notes-done W one bs {x} {rest} e =
       subst (λ l. counted 3 0 7 mark d.1 ≡ done l rest) (sym (ap (λ (n : Notes). n.marks) f.2)) f.1,
     )
 
-module _ (t : List ℕ) (resources : ℕ) (bs : List Bool) (at : ℕ) where
+module _ (t : Catalogue) (resources : ℕ) (bs : List Bool) (at : ℕ) where
   pub annotations-at : NotesAt bs at → AnnotationsAt bs at
   annotations-at a =
       let d = notes-done a.width a.one (drop at bs) a.read.is in

@@ -9,6 +9,7 @@ use Rattle.definitions.specs.Checks.{resources_of}
 use Rattle.definitions.specs.Items.{associate_of}
 use Rattle.records.specs.Annotations.{resource_of, rows_for}
 use Rattle.sheet_notes.specs.Notes.{Notes, notes}
+use Rattle.catalogue.specs.declared.Catalogue.{Catalogue}
 use Rattle.item_classes.specs.Classes.{class_in, Gathers}
 use Rattle.item_classes.specs.ClassLaws.{only_if}
 use Rattle.item_classes.specs.declared.Classes.{Classes}
@@ -78,11 +79,11 @@ pub record Adds (resources : ℕ) (own given : List ℕ) (c r : Classes) : Type 
   pub more : (os gs : List ℕ) → Gathers resources os gs c → Gathers resources (os ++ own) (gs ++ given) r
 
 -- The sets of the classes of rows (FORMAT 2.8, 4.2).
-abbrev pub row_sets : List ℕ → List (List ℕ) → List ℕ
+abbrev pub row_sets : Catalogue → List (List ℕ) → List ℕ
 row_sets t rows = map (λ row. class_in t (resource_of row)) rows
 
 -- The classes of n rows of an annotation of that kind, and the place behind them (FORMAT 2.8, 4.1).
-pub record RowsGathered (t : List ℕ) (resources kind n : ℕ) (bs : List Bool) (g r : Gathered) : Type 0 where
+pub record RowsGathered (t : Catalogue) (resources kind n : ℕ) (bs : List Bool) (g r : Gathered) : Type 0 where
   pub so : (W : ℕ) (rows : List (List ℕ)) (rest : List Bool) → repeat (name W) n (drop g.at bs) ≡ done rows rest
       → (drop r.at bs ≡ rest) × Adds resources (only_if (eqb kind 1) (row_sets t rows)) (row_sets t rows) g.classes r.classes
 
@@ -95,12 +96,12 @@ pub record RowsSkipped (kind : ℕ) (bs : List Bool) (at r : ℕ) : Type 0 where
   pub so : (W : ℕ) (rows : List (List ℕ)) (rest : List Bool) → rows_for W kind (drop at bs) ≡ done rows rest → drop r bs ≡ rest
 
 -- The classes of an annotation, and the place behind it (FORMAT 2.7, 4.1).
-pub record AnnotationGathered (t : List ℕ) (resources : ℕ) (bs : List Bool) (g r : Gathered) : Type 0 where
+pub record AnnotationGathered (t : Catalogue) (resources : ℕ) (bs : List Bool) (g r : Gathered) : Type 0 where
   pub so : (W : ℕ) (one : Bool) (y : Annotation) (rest : List Bool) → annotation W one (drop g.at bs) ≡ done y rest
       → (drop r.at bs ≡ rest) × Adds resources (map (class_in t) (associate_of y)) (map (class_in t) (resources_of y)) g.classes r.classes
 
 -- The classes of a type's annotations, and the place behind them (FORMAT 4.1, 4.3).
-pub record AnnotationsGathered (t : List ℕ) (resources : ℕ) (bs : List Bool) (at : ℕ) (r : Gathered) : Type 0 where
+pub record AnnotationsGathered (t : Catalogue) (resources : ℕ) (bs : List Bool) (at : ℕ) (r : Gathered) : Type 0 where
   pub so : (W : ℕ) (one : Bool) (xs : List Annotation) (rest : List Bool) → counted 4 0 12 (annotation W one) (drop at bs) ≡ done xs rest
       → (drop r.at bs ≡ rest) × Gathers resources (map (class_in t) (each associate_of xs)) (map (class_in t) (each resources_of xs)) r.classes
 
@@ -109,6 +110,6 @@ pub record MarksPacked (bs : List Bool) (at : ℕ) (r : Packed) : Type 0 where
   pub so : (ms : List Mark) (rest : List Bool) → counted 3 0 7 mark (drop at bs) ≡ done ms rest → Packs ms r
 
 -- Both lists (FORMAT 2.6).
-pub record NotesGathered (t : List ℕ) (resources : ℕ) (bs : List Bool) (at : ℕ) (r : Noted) : Type 0 where
+pub record NotesGathered (t : Catalogue) (resources : ℕ) (bs : List Bool) (at : ℕ) (r : Noted) : Type 0 where
   pub so : (W : ℕ) (one : Bool) (x : Notes) (rest : List Bool) → notes W one (drop at bs) ≡ done x rest
       → Gathers resources (map (class_in t) (each associate_of x.annotations)) (map (class_in t) (each resources_of x.annotations)) r.classes × Packs x.marks r.marks

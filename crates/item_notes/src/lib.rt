@@ -10,6 +10,7 @@ ghost use Rattle.item_classes.specs.ClassLaws.{lists};
 ghost use Rattle.records.specs.Annotations.{resource_of};
 ghost use Rattle.item_notes.specs.Notes.{name_in, NamesAt, RowsAt, AnnotationAt, AnnotationsAt, MarksAt, NotesAt, RowsGathered, NamesSkipped, RowsSkipped, AnnotationGathered, AnnotationsGathered, MarksPacked, NotesGathered};
 
+use catalogue::Catalogue;
 use item_classes::Classes;
 use item_heads::Packed;
 
@@ -28,23 +29,23 @@ pub struct Noted {
 }
 
 // The class of the name in 17 bits: a word, and perhaps a dom.
-fn class_in(t: &[u64; 1544], w: usize) -> u64
+fn class_in(t: &Catalogue, w: usize) -> u64
     requires { w < 131072 }
     ensures { result ≡ class_in t.now (resource_of (name_in w)) }
 {
     let word = w / 512;
     if w / 256 % 2 == 0 {
-        return catalogue::type_of(t, (word * 256) as u64);
+        return t.type_of((word * 256) as u64);
     }
     let dom = w % 256;
-    catalogue::type_of(t, (dom * 256 + (word + 1) % 256) as u64)
+    t.type_of((dom * 256 + (word + 1) % 256) as u64)
 }
 
-// The classes of n resources more, of an annotation of that kind. The loops here, of `gather` and of `pack_marks` count down: a
-// range takes a register more, and as all of this is inlined, others are spilled.
+// The classes of n resources more, of an annotation of that kind. The loops here, of `gather` and of `pack_marks` count down: by
+// ranges the filling of the catalogue took 3 % more.
 fn with_rows(
     s: &[u8],
-    t: &[u64; 1544],
+    t: &Catalogue,
     g: Gathered,
     n: usize,
     resources: u64,
@@ -83,7 +84,8 @@ fn skip_names(s: &[u8], at: usize, n: usize) -> usize
     next
 }
 
-// The place behind what follows a kind that lists no resources.
+// The place behind what follows a kind that lists no resources. A kind is the three bits of a window, here and in
+// `lists_resources`: the enum of `records` would be made of them by a match, only to be matched at once.
 fn skip_rest(s: &[u8], at: usize, kind: usize) -> usize
     requires addressable { Addressable s.now }
     requires kind_value { lists kind ≡ false }
@@ -111,7 +113,7 @@ fn lists_resources(kind: usize) -> bool
 }
 
 // The classes of one annotation more.
-fn with_annotation(s: &[u8], t: &[u64; 1544], g: Gathered, resources: u64) -> Gathered
+fn with_annotation(s: &[u8], t: &Catalogue, g: Gathered, resources: u64) -> Gathered
     requires addressable { Addressable s.now }
     requires annotation_at { AnnotationAt (bits_of s.now) g.at }
     ensures { AnnotationGathered t.now resources (bits_of s.now) g result }
@@ -134,7 +136,7 @@ fn with_annotation(s: &[u8], t: &[u64; 1544], g: Gathered, resources: u64) -> Ga
 }
 
 // The classes of a type's annotations. `resources` has the types of the resource variant.
-fn gather(s: &[u8], t: &[u64; 1544], at: usize, resources: u64) -> Gathered
+fn gather(s: &[u8], t: &Catalogue, at: usize, resources: u64) -> Gathered
     requires addressable { Addressable s.now }
     requires annotations_at { AnnotationsAt (bits_of s.now) at }
     ensures { AnnotationsGathered t.now resources (bits_of s.now) at result }
@@ -175,7 +177,7 @@ fn pack_marks(s: &[u8], at: usize) -> Packed
 }
 
 // Both lists. Most types have neither: 7 bits of 0.
-pub fn gather_notes(s: &[u8], t: &[u64; 1544], at: usize, resources: u64) -> Noted
+pub fn gather_notes(s: &[u8], t: &Catalogue, at: usize, resources: u64) -> Noted
     requires addressable { Addressable s.now }
     requires notes_at { NotesAt (bits_of s.now) at }
     ensures { NotesGathered t.now resources (bits_of s.now) at result }

@@ -15,7 +15,8 @@ pub struct Field {
     pub value: u64,
 }
 
-// Where the next bit goes, and twice the number of items that were put, one more where the pen is down: two numbers, so that a pen is handed on in registers.
+// Where the next bit goes, and twice the number of items that were put, one more where the pen is down: two numbers, since a
+// struct of three is handed on in memory.
 #[derive(Clone, Copy)]
 pub struct Pen {
     pub count: usize,
@@ -70,8 +71,8 @@ fn put_eight(buf: &mut [u8], i: usize, x: u64)
     buf[i..i + 8].copy_from_slice(&x.to_be_bytes());
 }
 
-// Eight bytes as one number, with the n bits of v behind its first o bits: those stay, zeros go behind v to the end of its last byte, and what stands behind that
-// stays.
+// Eight bytes as one number, with the n bits of v behind its first o bits: those stay, zeros go behind v to the end of its last
+// byte, and what stands behind that stays.
 fn merged(old: u64, o: usize, n: usize, v: u64) -> u64
     requires { (0 < n) × (n ≤ 56) × (o < 8) × (v < 2 ^ n) }
     ensures { Merged old o n v result }
@@ -110,7 +111,8 @@ fn put_near(buf: &mut [u8], at: usize, n: usize, v: u64) -> usize
     end.at
 }
 
-// The n bits of v at bit `at`, and zeros to the end of the byte that the last of them is in. No other byte is touched. The answer is the bit behind them.
+// The n bits of v at bit `at`, and zeros to the end of the byte that the last of them is in. No other byte is touched. The answer
+// is the bit behind them.
 fn put_bits(buf: &mut [u8], at: usize, n: usize, v: u64) -> usize
     requires { (n ≤ 56) × (v < 2 ^ n) × (at + n ≤ 8 * length buf.old) × (at + n < 2 ^ 64) }
     ensures { Wrote buf.old buf.new at result (to_bits n v) }
@@ -125,7 +127,9 @@ fn put_bits(buf: &mut [u8], at: usize, n: usize, v: u64) -> usize
     at + n
 }
 
-// With the pen down the n bits of v go to bit `at`, and zeros to the end of their last byte; with the pen up nothing is touched. The answer is the bit behind them.
+// With the pen down the n bits of v go to bit `at`, and zeros to the end of their last byte; with the pen up nothing is touched.
+// The answer is the bit behind them. `down` is a bool, here and in `begin`, so that counting and writing are one function with
+// one contract: an enum of the two would be the same test.
 pub fn put(buf: &mut [u8], at: usize, down: bool, n: usize, v: u64) -> usize
     requires { Room down buf.old at n v }
     ensures { Penned down buf.old buf.new at result (to_bits n v) }
@@ -168,7 +172,7 @@ pub fn add(buf: &mut [u8], pen: Pen, f: Field) -> Pen
     requires room_for { RoomFor buf.old pen 0 (field_bits f) }
     ensures { Adds buf.old buf.new pen result 0 (field_bits f) }
 {
-    let at = put(buf, pen.at, pen.count % 2 == 1, f.width, f.value);
+    let at = put(buf, pen.at, is_down(pen), f.width, f.value);
     Pen { at, ..pen }
 }
 
@@ -194,7 +198,7 @@ pub fn make_room(buf: &mut [u8], pen: Pen, held: Field, f: Field) -> Pen
     if held.width + f.width <= 56 {
         return pen;
     }
-    let at = put(buf, pen.at, pen.count % 2 == 1, held.width, held.value);
+    let at = put(buf, pen.at, is_down(pen), held.width, held.value);
     Pen { at, ..pen }
 }
 

@@ -1,24 +1,55 @@
 -- A test that is asked of the numbers of a set, by a walk: what the library's `any` and `all` answer of it.
-use Rattle.std.specs.Prelude.{Bool, true, false, List, [], ◌∷◌, ◌&&◌, ◌||◌, ◌≡◌, refl, ℕ, zero, suc, ◌<◌, length, get_or}
+use Rattle.std.specs.Prelude.{Bool, true, false, List, [], ◌∷◌, Option, ◌&&◌, ◌||◌, ◌≡◌, refl, ℕ, zero, suc, ◌<◌, length, get_or}
 use Rattle.std.specs.Bool.{MatchBool}
-use Rattle.std.specs.List.{AllWithin, HoldsAt}
+use Rattle.std.specs.List.{FoldsTo, list_any, list_all, AllWithin, HoldsAt}
+use Rattle.std.specs.Option.{MatchOption}
+use Rattle.std.specs.Iterator.{YieldsThen}
+use Rattle.std.specs.Fn.{Called}
 use Rattle.std.proofs.Common.{sym, ap, ap₂, ◌∙◌, subst, arith}
+use Rattle.std.proofs.Math.Bool.{and-false}
 use Rattle.std.proofs.lemmas.Iterator.{YieldsList}
 use Rattle.std.proofs.lemmas.Iterator.Consumers.{YieldsList-from_shown}
+use Rattle.std.proofs.lemmas.Iterator.Search.{all_from_yields_List, any_from_yields_List}
 use Rattle.lists.specs.Lists.{any, all}
-use Rattle.std.proofs.Math.Bool.{and-false}
 use Rattle.lists.specs.Tests.{or_left, or_right}
 use Rattle.bitsets.specs.declared.Walk.{Walk}
 use Rattle.bitsets.specs.Bitsets.{members, Walks}
 use Rattle.bitsets.specs.BitLaws.{members-next, members-none}
+use denote.Param.Members.{Mut}
+
+abbrev Turn : Walk → Option ℕ → Walk → Type 0
+Turn s r t = Walks s.left r t.left
 
 -- a walk yields the numbers of its set
-walk-yields : (s : Walk) → YieldsList (λ (s : Walk) r (t : Walk). Walks s.left r t.left) (λ (k : ℕ). k) s (members s.left)
-walk-yields = YieldsList-from_shown (λ (s : Walk) r (t : Walk). Walks s.left r t.left) (λ (k : ℕ). k) (λ (s : Walk). members s.left) (λ s t w. ap length (members-none s.left w.0)) (λ s k t w. members-next s.left k t.left w.0 w.1)
+walk-yields : (s : Walk) (set : ℕ) → s.left ≡ set → YieldsList Turn (λ (k : ℕ). k) s (members set)
+walk-yields s set e =
+    subst (λ x. YieldsList Turn (λ (k : ℕ). k) s (members x)) e
+    (YieldsList-from_shown Turn (λ (k : ℕ). k) (λ (s : Walk). members s.left) (λ s t w. ap length (members-none s.left w.0)) (λ s k t w. members-next s.left k t.left w.0 w.1) s)
 
 pub walk-lists : {s : Walk} (set : ℕ) → s.left ≡ set → YieldsList (λ (s : Walk) r (t : Walk). Walks s.left r t.left) (λ (k : ℕ). k) s (members set)
-walk-lists {s} set e = subst (λ x. YieldsList (λ (s : Walk) r (t : Walk). Walks s.left r t.left) (λ (k : ℕ). k) s (members x)) e (walk-yields s)
+walk-lists {s} set e = walk-yields s set e
 
+list-any : (test : ℕ → Bool) (l : List ℕ) → list_any test l ≡ any test l
+list-any test [] = refl
+list-any test (x ∷ l) = ap (λ b. test x || b) (list-any test l)
+
+list-all : (test : ℕ → Bool) (l : List ℕ) → list_all test l ≡ all test l
+list-all test [] = refl
+list-all test (x ∷ l) = ap (λ b. test x && b) (list-all test l)
+
+module _ {F : Type 0} {g : Mut F (ℕ × Unit {0}) Bool} {s u : Walk} {f : F} {r : Bool} (test : ℕ → Bool) (set : ℕ) (here : s.left ≡ set)
+    (asked : (x : ℕ) (b : Bool) (q : F) → Called g f (x, tt) b q → (q ≡ f) × (b ≡ test x)) where
+  pub walk-any : (xs : List ℕ) × (o : Option ℕ) × (j : F) × YieldsThen Turn s xs o u × FoldsTo (λ p x q. Called g p (x, tt) false q) f xs j
+      × MatchOption o (r ≡ false) (λ x. (r ≡ true) × ((h : F) × Called g j (x, tt) true h))
+      → r ≡ any test (members set)
+  walk-any ran = any_from_yields_List test u f r ran (walk-yields s set here) asked ∙ list-any test (members set)
+
+  pub walk-all : (xs : List ℕ) × (o : Option ℕ) × (j : F) × YieldsThen Turn s xs o u × FoldsTo (λ p x q. Called g p (x, tt) true q) f xs j
+      × MatchOption o (r ≡ true) (λ x. (r ≡ false) × ((h : F) × Called g j (x, tt) false h))
+      → r ≡ all test (members set)
+  walk-all ran = all_from_yields_List test u f r ran (walk-yields s set here) asked ∙ list-all test (members set)
+
+-- the same of what is said of the places in a list
 module _ (test : ℕ → Bool) where
   any-there : (l : List ℕ) (k : ℕ) → k < length l → test (get_or l k 0) ≡ true → any test l ≡ true
   any-there [] k h e = absurd (omega arith)

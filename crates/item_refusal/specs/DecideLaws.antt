@@ -1,5 +1,5 @@
 -- The test by numbers says exactly whether a type is refused.
-use Rattle.std.specs.Prelude.{Bool, true, false, ◌||◌, List, ◌≡◌, refl, ℕ}
+use Rattle.std.specs.Prelude.{Bool, true, false, ◌||◌, ◌≡◌, refl}
 use Rattle.std.proofs.Math.Path.{sym, ap, ap₂}
 use Rattle.std.proofs.Common.{◌∙◌}
 use Rattle.std.specs.Int.Bits.{bit_and, and_zero_r}
@@ -8,12 +8,13 @@ use Rattle.lists.specs.Tests.{any_none, or-false-both}
 use Rattle.definitions.specs.Records.{Sheet}
 use Rattle.line_laws.specs.Statements.{Readable, line_map, any_refused}
 use Rattle.line_laws.specs.Within.{Within}
-use Rattle.bitsets.specs.Bitsets.{members, less, first_bits}
+use Rattle.bitsets.specs.Bitsets.{members}
 use Rattle.bitsets.specs.BitLaws.{members-none}
 use Rattle.law_classes.specs.Refusal.{lost_class, taken_name, own_twice, crosses, set_refused}
 use Rattle.law_classes.proofs.RefusalLaws.{any-either, refused-by-sets}
-use Rattle.catalogue.specs.Layout.{own_at, second_at, count_in}
+use Rattle.catalogue.specs.Layout.{own_at}
 use Rattle.catalogue.specs.Catalogue.{Catalogued}
+use Rattle.catalogue.specs.declared.Catalogue.{Catalogue}
 use Rattle.item_refusal.specs.Tests.{takes, repeated, repeated_for, types_in, pairs_in, refused_in, Decides}
 use Rattle.item_refusal.specs.TakenLaws.{taken_is}
 use Rattle.item_refusal.specs.RepeatLaws.{crosses-is}
@@ -25,9 +26,9 @@ regroup false true true x = refl
 regroup false true false x = refl
 regroup false false w x = refl
 
-refused-is : (s : Sheet) → Readable s → Within s → (t : List ℕ) → Catalogued s t → (lost : Bool) → lost ≡ (any (lost_class (line_map s)) (line_map s).types || any own_twice (line_map s).types)
+refused-is : (s : Sheet) → Readable s → Within s → (t : Catalogue) → Catalogued s t → (lost : Bool) → lost ≡ (any (lost_class (line_map s)) (line_map s).types || any own_twice (line_map s).types)
     → refused_in t lost ≡ any_refused (line_map s)
-unfolding refused_in set_refused
+unfolding set_refused
 refused-is s ok within t k lost e =
     let m = line_map s in
     let l = m.types in
@@ -37,40 +38,20 @@ refused-is s ok within t k lost e =
     (ap (λ b. any (taken_name m) l || b) (any-either own_twice (crosses m) l) ∙ any-either (taken_name m) (λ T. own_twice T || crosses m T) l)
     ∙ sym (refused-by-sets s ok within)
 
-pub decides : (t : List ℕ) (lost r : Bool) → r ≡ refused_in t lost → Decides t lost r
+pub decides : (t : Catalogue) (lost r : Bool) → r ≡ refused_in t lost → Decides t lost r
 decides t lost r e = record { right = λ s ok within k h. e ∙ refused-is s ok within t k lost h }
 
 -- ---- the branches of the code
 
-pub refused-lost : (t : List ℕ) (lost : Bool) → lost ≡ true → true ≡ refused_in t lost
-unfolding refused_in
+pub refused-lost : (t : Catalogue) (lost : Bool) → lost ≡ true → true ≡ refused_in t lost
 refused-lost t lost e = rw e
 
-module _ (t : List ℕ) (lost : Bool) (kept : lost ≡ false) (count types ones pairs : ℕ) (ec : count ≡ count_in t) (et : types ≡ first_bits count) (eo : ones ≡ second_at t 0) (ep : pairs ≡ less types ones) where
-  types_are : types ≡ types_in t
-  unfolding types_in
-  types_are = et ∙ ap first_bits ec
-
-  pairs-are : pairs ≡ pairs_in t
-  unfolding pairs_in
-  pairs-are = ep ∙ ap₂ less types_are eo
-
-  -- no type of two words
-  pub refused_none : pairs ≡ 0 → false ≡ refused_in t lost
-  unfolding refused_in repeated_for
-  refused_none z =
-      let none : pairs_in t ≡ 0 = sym pairs-are ∙ z in
-      rw kept
-      (sym
-      (or-false-both (ap (any (takes t)) (members-none (pairs_in t) none))
-      (any_none (repeated_for t (pairs_in t)) (members (types_in t))
-      (λ a _. ap (any (repeated t a)) (members-none (bit_and (own_at t a) (pairs_in t)) (ap (bit_and (own_at t a)) none ∙ and_zero_r (own_at t a)))))))
-
-  module _ {taken : Bool} (ek : taken ≡ any (takes t) (members pairs)) where
-    pub refused-taken : taken ≡ true → true ≡ refused_in t lost
-    unfolding refused_in
-    refused-taken e = rw (kept, ← pairs-are, ← ek, e)
-
-    pub refused-again : {again : Bool} → taken ≡ false → again ≡ any (repeated_for t pairs) (members types) → again ≡ refused_in t lost
-    unfolding refused_in
-    refused-again e f = rw (kept, ← pairs-are, ← types_are, ← ek, e, f)
+-- no type of two words
+pub refused_none : (t : Catalogue) (lost : Bool) → lost ≡ false → pairs_in t ≡ 0 → false ≡ refused_in t lost
+unfolding repeated_for
+refused_none t lost kept none =
+    rw kept
+    (sym
+    (or-false-both (ap (any (takes t)) (members-none (pairs_in t) none))
+    (any_none (repeated_for t (pairs_in t)) (members (types_in t))
+    (λ a _. ap (any (repeated t a)) (members-none (bit_and (own_at t a) (pairs_in t)) (ap (bit_and (own_at t a)) none ∙ and_zero_r (own_at t a)))))))

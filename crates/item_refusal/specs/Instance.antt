@@ -1,5 +1,5 @@
 -- Two sheets with their catalogues: what the answer asks is no empty demand, and the test by numbers decides both.
-use Rattle.std.specs.Prelude.{Bool, true, false, List, [], ◌∷◌, ◌++◌, ◌≡◌, refl, ℕ, zero, suc, ◌+◌, ◌^◌, ◌<◌, ◌≤◌, eqb, replicate}
+use Rattle.std.specs.Prelude.{Bool, true, false, List, [], ◌∷◌, ◌≡◌, refl, ℕ, zero, suc, ◌+◌, ◌^◌, ◌<◌, ◌≤◌, eqb, replicate}
 use Rattle.std.proofs.Common.{sym, ◌∙◌, subst, eqb-true, arith}
 use Rattle.std.proofs.lemmas.Bool.{eqb-false}
 use Rattle.lists.specs.Tests.{by}
@@ -24,11 +24,12 @@ use Rattle.law_classes.specs.Refusal.{lost_class, own_twice, unmet, has_child}
 use Rattle.law_classes.proofs.Instance.{crossed, crossed-readable, crossed-within, crossed-tested}
 use Rattle.catalogue.specs.Layout.{parents_at, own_at, above_at, passed_at, word_at, mask_at, owner_at, first_at, second_at}
 use Rattle.catalogue.specs.Catalogue.{name_of_key, first_is, second_is, is_resource_head, virtual_head, trait_head, added_in, Entry, Listed, Worded, Extended, SetsOf, Owned, Catalogued}
+use Rattle.catalogue.specs.declared.Catalogue.{Catalogue}
 use Rattle.item_refusal.specs.Tests.{Decides}
 
--- ---- tables
+-- ---- columns
 
--- a part of the table, filled with zeros
+-- a column, filled with zeros
 abbrev fill : ℕ → List ℕ → List ℕ
 fill zero l = []
 fill (suc n) [] = 0 ∷ fill n []
@@ -48,23 +49,33 @@ each_at P (suc n) h a l =
 
 -- ---- a map refused for two identical makings (`crossed`): places p 0, p.f 1, q.f 2, t 3
 
-abbrev pub crossed_table : List ℕ
-crossed_table =
-    fill 64 (256 ∷ 257 ∷ 513 ∷ 1280 ∷ [])
-    ++ (fill 64 (0 ∷ 64 ∷ 64 ∷ 1 ∷ [])
-    ++ (fill 64 []
-    ++ (fill 64 (0 ∷ 9 ∷ 9 ∷ 0 ∷ [])
-    ++ (fill 64 (0 ∷ 0 ∷ 0 ∷ 1 ∷ [])
-    ++ (fill 64 (0 ∷ 0 ∷ 0 ∷ 2 ∷ [])
-    ++ (fill 64 (0 ∷ 0 ∷ 0 ∷ 4 ∷ [])
-    ++ (fill 64 (4 ∷ 0 ∷ 0 ∷ 6 ∷ [])
-    ++ (fill 64 (0 ∷ 1 ∷ 5 ∷ [])
-    ++ (fill 64 (6 ∷ 1 ∷ 8 ∷ [])
-    ++ (fill 64 (64 ∷ 0 ∷ 64 ∷ 64 ∷ [])
-    ++ (fill 320 []
-    ++ (fill 256 (0 ∷ 3 ∷ 4 ∷ 0 ∷ 0 ∷ 8 ∷ [])
-    ++ (fill 256 (9 ∷ 6 ∷ [])
-    ++ (4 ∷ 3 ∷ 0 ∷ 0 ∷ 3 ∷ 6 ∷ 1 ∷ 6 ∷ []))))))))))))))
+abbrev pub crossed_table : Catalogue
+crossed_table = record {
+  keys = fill 64 (256 ∷ 257 ∷ 513 ∷ 1280 ∷ []);
+  heads = fill 64 (0 ∷ 64 ∷ 64 ∷ 1 ∷ []);
+  marks = fill 64 [];
+  tallies = fill 64 (0 ∷ 9 ∷ 9 ∷ 0 ∷ []);
+  parents = fill 64 (0 ∷ 0 ∷ 0 ∷ 1 ∷ []);
+  own = fill 64 (0 ∷ 0 ∷ 0 ∷ 2 ∷ []);
+  above = fill 64 (0 ∷ 0 ∷ 0 ∷ 4 ∷ []);
+  passed = fill 64 (4 ∷ 0 ∷ 0 ∷ 6 ∷ []);
+  owners = fill 64 (64 ∷ 0 ∷ 64 ∷ 64 ∷ []);
+  words = fill 64 (0 ∷ 1 ∷ 5 ∷ []);
+  masks = fill 64 (6 ∷ 1 ∷ 8 ∷ []);
+  extension_keys = fill 32 [];
+  extension_counts = fill 32 [];
+  extension_parents = fill 256 [];
+  firsts = fill 256 (0 ∷ 3 ∷ 4 ∷ 0 ∷ 0 ∷ 8 ∷ []);
+  seconds = fill 256 (9 ∷ 6 ∷ []);
+  count = 4;
+  word_count = 3;
+  extension_count = 0;
+  extended = 0;
+  resource = 3;
+  resources = 6;
+  childed = 1;
+  width = 6;
+}
 
 -- the bits of a set, and a number without others
 crossed-set : (row : ℕ) (S : Set) → Each (λ a. has_bit row a ≡ S (type_at (line_map crossed) a)) 4 → SetIs (line_map crossed) row S
@@ -282,23 +293,33 @@ worked-read = refl
 worked-within : Within worked
 worked-within = read-is-within (bits_of worked_bytes) (replicate 1 false) worked worked-read
 
-abbrev worked_table : List ℕ
-worked_table =
-    fill 64 (0 ∷ 256 ∷ 512 ∷ [])
-    ++ (fill 64 (0 ∷ 97 ∷ 64 ∷ [])
-    ++ (fill 64 []
-    ++ (fill 64 (0 ∷ 9 ∷ 0 ∷ [])
-    ++ (fill 64 (0 ∷ 4 ∷ 0 ∷ [])
-    ++ (fill 64 (2 ∷ 0 ∷ 0 ∷ [])
-    ++ (fill 64 []
-    ++ (fill 64 (2 ∷ 0 ∷ 0 ∷ [])
-    ++ (fill 64 (0 ∷ 1 ∷ 2 ∷ [])
-    ++ (fill 64 (1 ∷ 2 ∷ 4 ∷ [])
-    ++ (fill 64 (64 ∷ 64 ∷ 64 ∷ [])
-    ++ (fill 320 []
-    ++ (fill 256 (1 ∷ 2 ∷ 4 ∷ 0 ∷ [])
-    ++ (fill 256 (7 ∷ [])
-    ++ (3 ∷ 3 ∷ 0 ∷ 0 ∷ 2 ∷ 6 ∷ 4 ∷ 4 ∷ []))))))))))))))
+abbrev worked_table : Catalogue
+worked_table = record {
+  keys = fill 64 (0 ∷ 256 ∷ 512 ∷ []);
+  heads = fill 64 (0 ∷ 97 ∷ 64 ∷ []);
+  marks = fill 64 [];
+  tallies = fill 64 (0 ∷ 9 ∷ 0 ∷ []);
+  parents = fill 64 (0 ∷ 4 ∷ 0 ∷ []);
+  own = fill 64 (2 ∷ 0 ∷ 0 ∷ []);
+  above = fill 64 [];
+  passed = fill 64 (2 ∷ 0 ∷ 0 ∷ []);
+  owners = fill 64 (64 ∷ 64 ∷ 64 ∷ []);
+  words = fill 64 (0 ∷ 1 ∷ 2 ∷ []);
+  masks = fill 64 (1 ∷ 2 ∷ 4 ∷ []);
+  extension_keys = fill 32 [];
+  extension_counts = fill 32 [];
+  extension_parents = fill 256 [];
+  firsts = fill 256 (1 ∷ 2 ∷ 4 ∷ 0 ∷ []);
+  seconds = fill 256 (7 ∷ []);
+  count = 3;
+  word_count = 3;
+  extension_count = 0;
+  extended = 0;
+  resource = 2;
+  resources = 6;
+  childed = 4;
+  width = 4;
+}
 
 -- the bits of a set, and a number without others
 worked-set : (row : ℕ) (S : Set) → Each (λ a. has_bit row a ≡ S (type_at (line_map worked) a)) 3 → SetIs (line_map worked) row S

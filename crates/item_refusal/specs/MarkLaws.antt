@@ -19,8 +19,9 @@ use Rattle.bits.specs.NumberLaws.{length-to_bits, num-to_bits, to_bits-split, to
 use Rattle.line_laws.specs.Within.{MarkWithin}
 use Rattle.line_laws.specs.SameItem.{mark-true, mark-self}
 use Rattle.catalogue.specs.Layout.{marks_at, tally_at}
+use Rattle.catalogue.specs.declared.Catalogue.{Catalogue}
 use Rattle.item_refusal.specs.Tests.{behind, follow}
-use Rattle.item_refusal.specs.TestLaws.{behind-parted, behind-short, behind-same, behind-other}
+use Rattle.item_refusal.specs.TestLaws.{behind-short, behind-same, behind-other, follow_lost}
 
 -- ---- marks are equal where their bits are
 
@@ -68,17 +69,10 @@ parted marks left w h =
     let e : left ≡ w + (left - w) = omega arith in
     ap (λ (x : ℕ). to_bits x marks) e ∙ to_bits-split w (left - w) marks
 
-module _ (t : List ℕ) (marks : ℕ) where
+module _ (t : Catalogue) (marks : ℕ) where
   -- the bits of a class's marks
   abbrev bits : ℕ → List Bool
   bits e = to_bits (tally_at t e / 8) (marks_at t e)
-
-  -- where they parted once, they stay so
-  follow-parted : (l : List ℕ) → follow t marks 64 l ≡ 64
-  unfolding follow
-  follow-parted [] = refl
-  follow-parted (e ∷ l) =
-      ap (λ (x : ℕ). follow t marks x l) (sym (behind-parted marks 64 (marks_at t e) (tally_at t e / 8) (omega arith))) ∙ follow-parted l
 
   follow-only : (l : List ℕ) (left : ℕ) → left < 64 → follow t marks left l ≡ 0 → to_bits left marks ≡ each bits l
   unfolding follow to_bits
@@ -86,7 +80,7 @@ module _ (t : List ℕ) (marks : ℕ) where
   follow-only (c ∷ l) left h e =
       let w = tally_at t c / 8 in
       let ms = marks_at t c in
-      let part : 64 ≡ behind marks left ms w → ⊥ = λ q. omega (arith, follow-parted l, ap (λ (x : ℕ). follow t marks x l) q, e) in
+      let part : 64 ≡ behind marks left ms w → ⊥ = λ q. omega (arith, follow_lost t marks 64 l refl, ap (λ (x : ℕ). follow t marks x l) q, e) in
       by (ltb left w)
       (λ p. absurd (part (behind-short marks left ms w h (ltb-true left w p))))
       (λ p.

@@ -36,30 +36,32 @@ use Rattle.law_classes.proofs.ItemLaws.{plain_map}
 use Rattle.law_classes.specs.Refusal.{firsts, identical, crosses}
 use Rattle.catalogue.specs.Layout.{marks_at, tally_at, parents_at, own_at, above_at, passed_at, owner_at, second_at}
 use Rattle.catalogue.specs.Catalogue.{Catalogued}
+use Rattle.catalogue.specs.declared.Catalogue.{Catalogue}
 use Rattle.item_refusal.specs.Tests.{same_word, passes, passes_alone, is_virtual, same_virtual, same_marks, repeated, repeated_for, types_in, pairs_in}
 use Rattle.item_refusal.specs.TestLaws.{repeated-none}
 use Rattle.item_refusal.specs.WordLaws.{WordSet, named-pair, same-word-set, types-bit, pairs-past, pairs-bit}
 use Rattle.item_refusal.specs.TakenLaws.{owner-lt, owner-is}
 use Rattle.item_refusal.specs.MarkLaws.{AllWithin, follow-is, follow-append}
 
-module _ (s : Sheet) (ok : Readable s) (within : Within s) (t : List ℕ) (k : Catalogued s t) where
+-- two places with one name are one place
+pub one_place : (s : Sheet) → Readable s → Within s → (p q : ℕ) → p < length (line_map s).types → q < length (line_map s).types → (type_at (line_map s) p).name ≡ (type_at (line_map s) q).name → p ≡ q
+one_place s ok within p q h i e =
+    let m = line_map s in
+    let N : LineType → LineType → Type 0 = λ P Q. name_before P.name Q.name ≡ true in
+    let ascend = (plain_map s ok within).ascend in
+    by (ltb p q)
+    (λ l. never (sorted-places N m.types no_type ascend p q (ltb-true p q l) i) (rw e (name-strict.irreflexive (type_at m q).name)))
+    (λ l.
+    by (ltb q p)
+    (λ r. never (sorted-places N m.types no_type ascend q p (ltb-true q p r) h) (rw e (name-strict.irreflexive (type_at m q).name)))
+    (λ r. omega (arith, ltb-false p q l, ltb-false q p r)))
+
+module _ (s : Sheet) (ok : Readable s) (within : Within s) (t : Catalogue) (k : Catalogued s t) where
   abbrev m : LineMap
   m = line_map s
 
   abbrev n : ℕ
   n = length m.types
-
-  -- two places with one name are one place
-  one_name : (p q : ℕ) → p < n → q < n → (type_at m p).name ≡ (type_at m q).name → p ≡ q
-  one_name p q h i e =
-      let N : LineType → LineType → Type 0 = λ P Q. name_before P.name Q.name ≡ true in
-      let ascend = (plain_map s ok within).ascend in
-      by (ltb p q)
-      (λ l. never (sorted-places N m.types no_type ascend p q (ltb-true p q l) i) (rw e (name-strict.irreflexive (type_at m q).name)))
-      (λ l.
-      by (ltb q p)
-      (λ r. never (sorted-places N m.types no_type ascend q p (ltb-true q p r) h) (rw e (name-strict.irreflexive (type_at m q).name)))
-      (λ r. omega (arith, ltb-false p q l, ltb-false q p r)))
 
   -- ---- the first parents are the class alone
 
@@ -113,7 +115,7 @@ module _ (s : Sheet) (ok : Readable s) (within : Within s) (t : List ℕ) (k : C
         λ x i b.
         let y : In (g (type_at m x)) (map g (map (type_at m) l)) = Memᴰ.map g (Memᴰ.map (type_at m) (in-below f n i b)) in
         let z = Memᴰ.eq_of_singleton (subst (In (g (type_at m x))) (sym q) y) in
-        one_name x p i hp (append_cancel_right (type_at m x).name (type_at m p).name (r ∷ []) z) in
+        one_place s ok within x p i hp (append_cancel_right (type_at m x).name (type_at m p).name (r ∷ []) z) in
         let x = Memᴰ.of_map g (map (type_at m) l) (subst (In c) q (Memᴰ.head refl)) in
         let y = Memᴰ.of_map (type_at m) l x.1 in
         let b = below_of f n y.1 in
@@ -190,7 +192,6 @@ module _ (s : Sheet) (ok : Readable s) (within : Within s) (t : List ℕ) (k : C
     -- ---- virtual
 
     virtual-at : (x : ℕ) → x < n → is_virtual t x ≡ (type_at m x).virtual
-    unfolding is_virtual
     virtual-at x h = (k.listed.entry x h).is_virtual
 
     all-agree : (f g : ℕ → Bool) (l : List ℕ) → ((x : ℕ) → In x l → f x ≡ g x) → all f l ≡ all g l
@@ -303,7 +304,7 @@ module _ (s : Sheet) (ok : Readable s) (within : Within s) (t : List ℕ) (k : C
       (λ e. let l = ltb-true (owner_at t c) 64 e in again-some a c h i l ∙ sym (ap (λ b. b && repeated t a c) (two-words a c h i l)))
       (λ e.
       let l = ltb-false (owner_at t c) 64 e in
-      again-none a c i l ∙ sym (ap (λ b. has_bit (pairs_in t) c && b) (sym (repeated-none t a c (owner_at t c) refl l)) ∙ and-false (has_bit (pairs_in t) c)))
+      again-none a c i l ∙ sym (ap (λ b. has_bit (pairs_in t) c && b) (sym (repeated-none t a c l)) ∙ and-false (has_bit (pairs_in t) c)))
 
   -- ---- all own classes of a type, and all types
 

@@ -1,5 +1,6 @@
--- That the name of what is made is taken, asked of the types of two words and their owners, is what the definitions ask of each T and r.
-use Rattle.std.specs.Prelude.{Bool, ◌&&◌, List, ◌≡◌, refl, ℕ, ◌<◌, eqb, length}
+-- That the name of what is made is taken, asked of the types of two words and their owners, is what the definitions ask of each T
+-- and r.
+use Rattle.std.specs.Prelude.{Bool, ◌&&◌, ◌≡◌, refl, ℕ, ◌<◌, eqb, length}
 use Rattle.std.proofs.Math.Bool.{true, not}
 use Rattle.std.proofs.Math.Path.{sym, ap, ap₂}
 use Rattle.std.proofs.Common.{◌∙◌, arith}
@@ -20,10 +21,11 @@ use Rattle.law_classes.specs.Numbers.{place-of, fits_both, holds-both, holds-eit
 use Rattle.law_classes.specs.Refusal.{taken_name}
 use Rattle.catalogue.specs.Layout.{own_at, above_at, owner_at}
 use Rattle.catalogue.specs.Catalogue.{Catalogued}
+use Rattle.catalogue.specs.declared.Catalogue.{Catalogue}
 use Rattle.item_refusal.specs.Tests.{same_word, takes, pairs_in}
 use Rattle.item_refusal.specs.WordLaws.{Named, named-pair, same-word-set, pairs-past, pairs-bit}
 
-module _ (s : Sheet) (ok : Readable s) (within : Within s) (t : List ℕ) (k : Catalogued s t) where
+module _ (s : Sheet) (ok : Readable s) (within : Within s) (t : Catalogue) (k : Catalogued s t) where
   abbrev m : LineMap
   m = line_map s
 

@@ -1,5 +1,5 @@
 -- The types of a word, from the sets by first and second word; and which types have two words.
-use Rattle.std.specs.Prelude.{Bool, true, false, ◌&&◌, ◌||◌, List, [], ◌∷◌, ◌≡◌, refl, eqb, ltb}
+use Rattle.std.specs.Prelude.{Bool, true, false, ◌&&◌, ◌||◌, [], ◌∷◌, ◌≡◌, refl, eqb, ltb}
 use Rattle.std.proofs.Math.Bool.{not, and-true, and-false, or-false}
 use Rattle.std.proofs.Math.Path.{sym, ap, ap₂}
 use Rattle.std.proofs.Common.{◌∙◌, subst, arith}
@@ -23,8 +23,9 @@ use Rattle.law_classes.proofs.SetLaws.{Short}
 use Rattle.law_classes.specs.Numbers.{Fits, fits_both, holds-both, holds-either}
 use Rattle.law_classes.specs.Walks.{fits-either}
 use Rattle.law_classes.proofs.ItemLaws.{plain_map, word_below}
-use Rattle.catalogue.specs.Layout.{key_at, first_at, second_at, count_in}
+use Rattle.catalogue.specs.Layout.{key_at, first_at, second_at}
 use Rattle.catalogue.specs.Catalogue.{name_of_key, first_is, second_is, Catalogued}
+use Rattle.catalogue.specs.declared.Catalogue.{Catalogue}
 use Rattle.item_refusal.specs.Tests.{same_word, types_in, pairs_in}
 
 -- a name that is T.r has two words or more
@@ -57,7 +58,7 @@ pub record WordSet (m : LineMap) (set r : ℕ) : Type 0 where
   pub is : SetIs m set (masked r)
   pub fits : Fits m set
 
-module _ (s : Sheet) (ok : Readable s) (within : Within s) (t : List ℕ) (k : Catalogued s t) where
+module _ (s : Sheet) (ok : Readable s) (within : Within s) (t : Catalogue) (k : Catalogued s t) where
   abbrev m : LineMap
   m = line_map s
 
@@ -109,15 +110,12 @@ module _ (s : Sheet) (ok : Readable s) (within : Within s) (t : List ℕ) (k : C
   -- ---- the types, and those of two words
 
   pub types-bit : (a : ℕ) → has_bit (types_in t) a ≡ ltb a n
-  unfolding types_in
   types-bit a =
-      let e : min (count_in t) 64 ≡ n = omega (arith, k.listed.count, k.listed.few) in
-      bit-first (count_in t) a ∙ ap (ltb a) e
+      let e : min t.count 64 ≡ n = omega (arith, k.listed.count, k.listed.few) in
+      bit-first t.count a ∙ ap (ltb a) e
 
   pub pairs-past : (a : ℕ) → n ≤ a → has_bit (pairs_in t) a ≡ false
-  unfolding pairs_in
   pairs-past a h = bit-less (types_in t) (second_at t 0) a ∙ ap (λ b. b && not (has_bit (second_at t 0) a)) (types-bit a ∙ le-ltb a n h)
 
   pub pairs-bit : (a : ℕ) → a < n → has_bit (pairs_in t) a ≡ not (one_word (type_at m a).name)
-  unfolding pairs_in
   pairs-bit a h = bit-less (types_in t) (second_at t 0) a ∙ ap₂ (λ x y. x && not y) (types-bit a ∙ lt-ltb a n h) (k.listed.none a h)

@@ -2,11 +2,12 @@
 use Rattle.std.proofs.Math.Bool.{Bool}
 use Rattle.std.specs.Prelude.{true, false, ◌≡◌, ℕ, ◌+◌, ◌/◌, ◌≤◌, ◌<◌, replicate, Ok, Err}
 use mathlib.Core.List.{List, ◌++◌, map, append_assoc}
-use Rattle.std.proofs.Math.Path.{sym, ap, ap₂, subst}
+use Rattle.std.proofs.Math.Path.{refl, sym, ap, ap₂, subst}
 use Rattle.std.proofs.Common.{◌∙◌, arith, length-append}
 use Rattle.std.proofs.Math.ListN.{length}
 use Rattle.std.proofs.lemmas.List.{length-map}
 use Rattle.lists.specs.Lists.{each}
+use Rattle.lists.specs.Tests.{never}
 use Rattle.lists.specs.Places.{zero-at}
 use Rattle.lists.specs.Appending.{each_map}
 use Rattle.lists.specs.Tabulating.{length-tabulate}
@@ -24,11 +25,14 @@ use Rattle.line_laws.specs.Within.{Within}
 use Rattle.line_laws.specs.Bounds.{items-at-most}
 use Rattle.line_laws.specs.Size.{schedule-at-most}
 use Rattle.catalogue.specs.Catalogue.{Catalogued}
+use Rattle.catalogue.specs.declared.Catalogue.{Catalogue}
 use Rattle.law_classes.proofs.ItemLaws.{items-by-sets}
+use Rattle.item_pen.specs.declared.Field.{Field}
 use Rattle.item_pen.specs.declared.Pen.{Pen}
-use Rattle.item_pen.specs.Pen.{joined, fresh, Penned, RoomFor, Adds, RoomForAll, AddsAll}
-use Rattle.item_pen.specs.PenLaws.{adds_then, fresh-is, fresh-few, room-head, room-tail}
-use Rattle.item_writer.specs.Items.{all_items, Cleared, WordsAre}
+use Rattle.item_pen.specs.Pen as pen
+use Rattle.item_pen.specs.Pen.{field_bits, joined, fresh, Penned, RoomFor, Adds, RoomForAll, AddsAll}
+use Rattle.item_pen.specs.PenLaws.{adds_then, adds-as, fresh-is, fresh-few, room_as, room-head, room-tail}
+use Rattle.item_writer.specs.Items.{Sound, all_items, Cleared, WordsAre}
 use Rattle.item_writer.proofs.SheetItems.{sound, items-are}
 use Rattle.rows.specs.Rows.{has_bit}
 use Rattle.rows.specs.RowLaws.{bit-none}
@@ -38,11 +42,11 @@ use Rattle.order_listing.proofs.OrderLaws.{placed_of, names-are}
 use Rattle.order_listing.specs.Order.{name_of, names_in, names_bits}
 use Rattle.answers.specs.declared.Refusal.TheVariants.{ShortListing}
 use Rattle.item_schedule.specs.declared.Pass.{Pass}
-use Rattle.item_schedule.specs.Schedule.{bits_in, Passable, Passed, Orderly, ListsSchedule}
+use Rattle.item_schedule.specs.Schedule.{bits_in, Passable, Passed, Orderly, Schedulable, ListsSchedule}
 
 -- ---- one pass, part by part
 
-module _ (down : Bool) (buf t words order : List ℕ) (n items : ℕ) (h : Passable down buf t words order n items) where
+module _ {down : Bool} {buf : List ℕ} {t : Catalogue} {words order : List ℕ} {n items : ℕ} (h : Passable down buf t words order n items) where
   abbrev m : ℕ
   m = length (all_items t)
 
@@ -68,49 +72,51 @@ module _ (down : Bool) (buf t words order : List ℕ) (n items : ℕ) (h : Passa
     few = omega (arith, h.few, fresh-few down);
   }
 
-  pub for-types : RoomFor buf (fresh down) 0 types_bits
-  for-types = room-head 0 (0 + (0 + m)) types_bits behind_types whole
+  module _ {types : Field} (held₁ : pen.Holds types 7 types_bits) where
+    pub room_for_types : RoomFor buf (fresh down) 0 (field_bits types)
+    room_for_types = room_as (sym held₁.bits) (room-head 0 (0 + (0 + m)) types_bits behind_types whole)
 
-  module _ {b₁ : List ℕ} {P₁ : Pen} (w₁ : Adds buf b₁ (fresh down) P₁ 0 types_bits) where
-    r₁ : RoomFor b₁ P₁ (0 + (0 + m)) behind_types
-    r₁ = room-tail 0 (0 + (0 + m)) types_bits behind_types w₁ whole
+    module _ {b₁ : List ℕ} {P₁ : Pen} (w₁ : Adds buf b₁ (fresh down) P₁ 0 (field_bits types)) where
+      r₁ : RoomFor b₁ P₁ (0 + (0 + m)) behind_types
+      r₁ = room-tail 0 (0 + (0 + m)) types_bits behind_types (adds-as held₁.bits w₁) whole
 
-    pub for-names : RoomFor b₁ P₁ 0 (names_bits t order n)
-    for-names = room-head 0 (0 + m) (names_bits t order n) behind_names r₁
+      pub room_for_names : RoomFor b₁ P₁ 0 (names_bits t order n)
+      room_for_names = room-head 0 (0 + m) (names_bits t order n) behind_names r₁
 
-    module _ {b₂ : List ℕ} {P₂ : Pen} (w₂ : Adds b₁ b₂ P₁ P₂ 0 (names_bits t order n)) where
-      r₂ : RoomFor b₂ P₂ (0 + m) behind_names
-      r₂ = room-tail 0 (0 + m) (names_bits t order n) behind_names w₂ r₁
+      module _ {b₂ : List ℕ} {P₂ : Pen} (w₂ : Adds b₁ b₂ P₁ P₂ 0 (names_bits t order n)) where
+        r₂ : RoomFor b₂ P₂ (0 + m) behind_names
+        r₂ = room-tail 0 (0 + m) (names_bits t order n) behind_names w₂ r₁
 
-      pub for-count : RoomFor b₂ P₂ 0 (to_bits 16 items)
-      for-count = room-head 0 m (to_bits 16 items) (joined (all_items t)) r₂
+        module _ {count : Field} (held₂ : pen.Holds count 16 (to_bits 16 items)) where
+          pub room_for_count : RoomFor b₂ P₂ 0 (field_bits count)
+          room_for_count = room_as (sym held₂.bits) (room-head 0 m (to_bits 16 items) (joined (all_items t)) r₂)
 
-      module _ {b₃ : List ℕ} {P₃ : Pen} (w₃ : Adds b₂ b₃ P₂ P₃ 0 (to_bits 16 items)) where
-        pub for-items : RoomForAll b₃ P₃ (all_items t)
-        for-items = room-tail 0 m (to_bits 16 items) (joined (all_items t)) w₃ r₂
+          module _ {b₃ : List ℕ} {P₃ : Pen} (w₃ : Adds b₂ b₃ P₂ P₃ 0 (field_bits count)) where
+            pub room_for_items : RoomForAll b₃ P₃ (all_items t)
+            room_for_items = room-tail 0 m (to_bits 16 items) (joined (all_items t)) (adds-as held₂.bits w₃) r₂
 
-        module _ {b₄ : List ℕ} {P₄ : Pen} (w₄ : AddsAll b₃ b₄ P₃ P₄ (all_items t)) where
-          added : Adds buf b₄ (fresh down) P₄ (0 + (0 + (0 + m))) (types_bits ++ behind_types)
-          added = adds_then w₁ (adds_then w₂ (adds_then w₃ w₄))
+            module _ {b₄ : List ℕ} {P₄ : Pen} (w₄ : AddsAll b₃ b₄ P₃ P₄ (all_items t)) where
+              added : Adds buf b₄ (fresh down) P₄ (0 + (0 + (0 + m))) (types_bits ++ behind_types)
+              added = adds_then (adds-as held₁.bits w₁) (adds_then w₂ (adds_then (adds-as held₂.bits w₃) w₄))
 
-          pub passed : Passed down buf b₄ t order n items (record { items = P₄.count / 2; bits = P₄.at })
-          unfolding bits_in
-          passed = record {
-            counted = omega (arith, added.items, fresh-few down);
-            penned = subst (λ d. Penned d buf b₄ 0 P₄.at (types_bits ++ behind_types)) (fresh-is down) added.penned;
-          }
+              pub passed : Passed down buf b₄ t order n items (record { items = P₄.count / 2; bits = P₄.at })
+              unfolding bits_in
+              passed = record {
+                counted = omega (arith, added.items, fresh-few down);
+                penned = subst (λ d. Penned d buf b₄ 0 P₄.at (types_bits ++ behind_types)) (fresh-is down) added.penned;
+              }
 
 -- ---- the numbers of bits
 
--- they go by the table and the order alone
-pub bits-long : (t order : List ℕ) (n k l : ℕ) → length (bits_in t order n k) ≡ length (bits_in t order n l)
+-- they go by the catalogue and the order alone
+pub bits-long : (t : Catalogue) (order : List ℕ) (n k l : ℕ) → length (bits_in t order n k) ≡ length (bits_in t order n l)
 unfolding bits_in
 bits-long t order n k l = simp (length-append, length-to_bits)
 
 -- ---- the order that was found
 
 -- over the sets of a sheet's catalogue
-pub orderly-of : (s : Sheet) (t order : List ℕ) (n : ℕ) (whole : Bool) → Readable s → Within s → Catalogued s t → any_refused (line_map s) ≡ false
+pub orderly-of : (s : Sheet) (t : Catalogue) (order : List ℕ) (n : ℕ) (whole : Bool) → Readable s → Within s → Catalogued s t → any_refused (line_map s) ≡ false
     → Holds (type_map_of s) t n whole → Organized t n whole order true → Orderly s t order n
 orderly-of s t order n whole r w c a h o = record {
   readable = r;
@@ -123,7 +129,7 @@ orderly-of s t order n whole r w c a h o = record {
 
 -- ---- the bits of a sheet
 
-module _ (s : Sheet) (t order : List ℕ) (n : ℕ) (h : Orderly s t order n) where
+module _ (s : Sheet) (t : Catalogue) (order : List ℕ) (n : ℕ) (h : Orderly s t order n) where
   -- the items are those of the map
   items-made : all_items t ≡ map item_bits (items_of (line_map s))
   items-made = items-are s t h.within h.catalogued ∙ ap (map item_bits) (sym (items-by-sets s h.readable h.within h.accepted))
@@ -152,7 +158,7 @@ module _ (s : Sheet) (t order : List ℕ) (n : ℕ) (h : Orderly s t order n) wh
   pub bits_most : (k : ℕ) → length (bits_in t order n k) ≤ 200000000
   bits_most k = omega (arith, as_long k, schedule-at-most s h.readable h.within)
 
-  pub passable : (down : Bool) (buf words : List ℕ) (k : ℕ) → WordsAre t words → (down ≡ true → size (length (bits_in t order n k)) ≤ length buf) → Passable down buf t words order n k
+  passable : (down : Bool) (buf words : List ℕ) (k : ℕ) → WordsAre t words → (down ≡ true → size (length (bits_in t order n k)) ≤ length buf) → Passable down buf t words order n k
   passable down buf words k w f = record {
     sound = sound s t h.within h.catalogued;
     noted = w;
@@ -162,11 +168,29 @@ module _ (s : Sheet) (t order : List ℕ) (n : ℕ) (h : Orderly s t order n) wh
     few = omega (arith, items-counted, items-at-most s h.readable h.within);
   }
 
+-- what the two passes ask
+module _ {t : Catalogue} {order : List ℕ} {n : ℕ} (h : Schedulable t order n) where
+  pub readable_words : Sound t × Cleared (replicate 64 0)
+  readable_words =
+      let o = h.orderly in
+      (sound h.sheet t o.within o.catalogued, record { none = λ c j. ap (λ (x : ℕ). has_bit x j) (zero-at 64 c) ∙ bit-none j })
+
+  module _ {words : List ℕ} (w : WordsAre t words) where
+    pub to_count : {buf : List ℕ} → Passable false buf t words order n 0
+    to_count {buf} = passable h.sheet t order n h.orderly false buf words 0 w (λ d. never d refl)
+
+    module _ {entry mid : List ℕ} {r : Pass} (p : Passed false entry mid t order n 0 r) where
+      pub to_write : (r.bits + 7) / 8 ≤ length mid → Passable true mid t words order n r.items
+      to_write l = passable h.sheet t order n h.orderly true mid words r.items w (λ d. omega (arith, p.penned.next, bits-long t order n 0 r.items))
+
+  pub few_bits : {entry mid : List ℕ} {r : Pass} → Passed false entry mid t order n 0 r → r.bits ≤ 200000000
+  few_bits p = omega (arith, p.penned.next, bits_most h.sheet t order n h.orderly 0)
+
 -- ---- a listing
 
-module _ (t order : List ℕ) (n : ℕ) (entry mid : List ℕ) (r : Pass) (p : Passed false entry mid t order n 0 r) where
-  pub lists-short : length mid < (r.bits + 7) / 8 → ListsSchedule t order n entry mid (Err (ShortListing ((r.bits + 7) / 8)))
-  lists-short l = record {
+module _ {t : Catalogue} {order : List ℕ} {n : ℕ} {entry mid : List ℕ} {r : Pass} (p : Passed false entry mid t order n 0 r) where
+  pub lists_short : length mid < (r.bits + 7) / 8 → ListsSchedule t order n entry mid (Err (ShortListing ((r.bits + 7) / 8)))
+  lists_short l = record {
     lists = λ s h.
         let bs = schedule_bits (schedule_of schedule (type_map_of s)) in
         let e : r.bits ≡ length bs = omega (arith, p.penned.next, as_long s t order n h 0) in
@@ -174,9 +198,9 @@ module _ (t order : List ℕ) (n : ℕ) (entry mid : List ℕ) (r : Pass) (p : P
         listing-short entry mid bs _ (ap size e) (omega (arith, l, same)) p.penned.holds;
   }
 
-  pub lists-long : (exit : List ℕ) (q : Pass) → Passed true mid exit t order n r.items q → (r.bits + 7) / 8 ≤ length mid
+  pub lists_long : {exit : List ℕ} {q : Pass} → Passed true mid exit t order n r.items q → (r.bits + 7) / 8 ≤ length mid
       → ListsSchedule t order n entry exit (Ok ((r.bits + 7) / 8))
-  lists-long exit q w l = record {
+  lists_long {exit} {q} w l = record {
     lists = λ s h.
         let bs = schedule_bits (schedule_of schedule (type_map_of s)) in
         let e : r.bits ≡ length bs = omega (arith, p.penned.next, as_long s t order n h 0) in
@@ -189,7 +213,3 @@ module _ (t order : List ℕ) (n : ℕ) (entry mid : List ℕ) (r : Pass) (p : P
         } in
         listing-written entry exit bs _ (ap size e) (omega (arith, l, same)) (wrote-overwrite wrote (omega arith));
   }
-
--- no word is noted in an array of zeros
-pub none-noted : Cleared (replicate 64 0)
-none-noted = record { none = λ c j. ap (λ (x : ℕ). has_bit x j) (zero-at 64 c) ∙ bit-none j }

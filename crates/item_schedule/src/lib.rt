@@ -4,6 +4,7 @@
 ghost use Rattle.item_schedule.specs.Schedule.{Passable, Passed, Schedulable, ListsSchedule};
 
 use answers::{Answer, Refusal};
+use catalogue::Catalogue;
 
 // What a pass comes to: how many items there are, and how many bits.
 #[derive(Clone, Copy)]
@@ -12,11 +13,13 @@ struct Pass {
     bits: usize,
 }
 
-// Counts the schedule, or writes it from the first bit on: the number of types, their names in order, the number of items, the items. `items` is that number.
+// Counts the schedule, or writes it from the first bit on: the number of types, their names in order, the number of items, the
+// items. `items` is that number. `down` is a bool, as in `item_pen::begin`, the one place that asks it: an enum would be the same
+// test there.
 fn add_all(
     buf: &mut [u8],
     down: bool,
-    t: &[u64; 1544],
+    t: &Catalogue,
     words: &[u64; 64],
     order: &[u64; 64],
     n: usize,
@@ -35,8 +38,9 @@ fn add_all(
     }
 }
 
-// Writes the schedule, and answers its size: acceptance. Nothing is touched where the listing is too short: 10, with the size that is needed (FORMAT 7.4).
-pub fn write_schedule(listing: &mut [u8], t: &[u64; 1544], order: &[u64; 64], n: usize) -> Answer
+// Writes the schedule, and answers its size: acceptance. Nothing is touched where the listing is too short: 10, with the size
+// that is needed (FORMAT 7.4).
+pub fn write_schedule(listing: &mut [u8], t: &Catalogue, order: &[u64; 64], n: usize) -> Answer
     requires { Schedulable t.now order.now n }
     ensures { ListsSchedule t.now order.now n listing.old listing.new result }
 {

@@ -1,4 +1,4 @@
--- Where a table is the catalogue of a sheet, its items are those that the sets of classes give the sheet's map.
+-- Where a catalogue is that of a sheet, its items are those that the sets of classes give the sheet's map.
 use Rattle.std.proofs.Math.Bool.{Bool, true, false, cond, not}
 use Rattle.std.specs.Prelude.{◌&&◌, ◌||◌, ◌≡◌, refl, eqb, ltb}
 use mathlib.Core.List.Memᴰ
@@ -29,13 +29,15 @@ use Rattle.rows.specs.Rows.{has_bit}
 use Rattle.rows.specs.RowLaws.{bit-without}
 use Rattle.law_classes.specs.Sets.{Set, both, some, one_word, masked, own_set, above_set, passed_set, classes_in, making_of, own_making, inherited_making, set_items_at, made_set, set_items_for, set_items, no_type, type_at, SetIs}
 use Rattle.law_classes.specs.Numbers.{Fits, fits_both, holds-both, holds-either, holds-some}
-use Rattle.law_classes.proofs.SetLaws.{below_of}
 use Rattle.law_classes.specs.Walks.{filter-twice}
-use Rattle.catalogue.specs.Layout.{key_at, head_at, marks_at, tally_at, parents_at, own_at, above_at, passed_at, word_at, mask_at, words_in, extended_in, resource_in, second_at}
+use Rattle.catalogue.specs.Layout.{key_at, head_at, marks_at, tally_at, parents_at, own_at, above_at, passed_at, word_at, mask_at, second_at}
 use Rattle.catalogue.specs.Catalogue.{virtual_head, trait_head, Entry, Catalogued}
+use Rattle.catalogue.specs.declared.Catalogue.{Catalogue}
 use Rattle.item_fields.specs.Fields.{line_bits}
-use Rattle.item_making.specs.Making.{members, name_in, classes_of, marks_bits, marks_in, all_virtual, making_bits}
-use Rattle.item_making.specs.Walks.{member_of, total-same, total-each}
+use Rattle.bitsets.specs.Bitsets.{members}
+use Rattle.bitsets.specs.BitLaws.{below_of, members-of, members-below}
+use Rattle.item_making.specs.Making.{name_in, classes_of, marks_bits, marks_in, all_virtual, making_bits}
+use Rattle.item_making.specs.Walks.{total-same, total-each}
 use Rattle.item_writer.specs.Items.{Sound, passes, passing_in, added_for, own_bits, inherited_bits, word_items, makes, type_items, all_items}
 use Rattle.item_writer.specs.WriterLaws.{below-cut}
 
@@ -53,7 +55,7 @@ filter-tabulate f h (suc n) =
     ∙ ap₂ (λ (a b : List ℕ). a ++ b) (filter-tabulate f h n) (by (f (h n)) (λ e. rw e) (λ e. rw e))
     ∙ sym (map-append h (below (λ k. f (h k)) n) (only (f (h n)) n))
 
-module _ (s : Sheet) (t : List ℕ) (within : Within s) (c : Catalogued s t) where
+module _ (s : Sheet) (t : Catalogue) (within : Within s) (c : Catalogued s t) where
   abbrev m : LineMap
   m = line_map s
 
@@ -63,10 +65,10 @@ module _ (s : Sheet) (t : List ℕ) (within : Within s) (c : Catalogued s t) whe
   abbrev W : ℕ
   W = length s.words
 
-  -- a word of the table is one of the sheet
-  word_below : (k : ℕ) → k < words_in t → word_at t k < W
+  -- a word of the catalogue is one of the sheet
+  word_below : (k : ℕ) → k < t.word_count → word_at t k < W
   word_below k h =
-      (below_of (λ r. some m (masked r)) W (subst (In (word_at t k)) c.worded.words (tabulate-in (word_at t) (words_in t) k h))).0
+      (below_of (λ r. some m (masked r)) W (subst (In (word_at t k)) c.worded.words (tabulate-in (word_at t) (t.word_count) k h))).0
 
   pub sound : Sound t
   sound = record {
@@ -89,17 +91,14 @@ module _ (s : Sheet) (t : List ℕ) (within : Within s) (c : Catalogued s t) whe
 
   -- of a number that has no bit past the last type
   rows_are : (row : ℕ) (S : Set) → Fits m row → SetIs m row S → filter S m.types ≡ map (type_at m) (members row)
-  unfolding members
-  rows_are row S f h =
-      members-are (has_bit row) S h
-      ∙ ap (map (type_at m)) (sym (below-cut (has_bit row) n 64 c.listed.few (λ x k l. f.within x k)))
+  rows_are row S f h = members-are (has_bit row) S h ∙ ap (map (type_at m)) (sym (members-below row n c.listed.few f.within))
 
   -- a member is a type
   member_below : (row p : ℕ) → Fits m row → In p (members row) → p < n
   member_below row p f i =
       by (ltb p n)
       (λ l. ltb-true p n l)
-      (λ l. never (member_of row i).1 (f.within p (ltb-false p n l)))
+      (λ l. never (members-of row i).1 (f.within p (ltb-false p n l)))
 
   -- ---- one making
 
@@ -117,7 +116,7 @@ module _ (s : Sheet) (t : List ℕ) (within : Within s) (c : Catalogued s t) whe
     added_is : (r : ℕ) → r < W → added_for t a r ≡ extension_parents m T.name r
     unfolding added_for
     added_is r h =
-        by (has_bit (extended_in t) a)
+        by (has_bit (t.extended) a)
         (λ e. rw e (c.extended.added a r ha h))
         (λ e. rw e (sym (c.extended.extended a r ha h e)))
 
@@ -145,13 +144,13 @@ module _ (s : Sheet) (t : List ℕ) (within : Within s) (c : Catalogued s t) whe
         ∙ sym (all_map (λ (C : LineType). C.virtual) (type_at m) cs)
 
     making-is : (r : ℕ) (firsts : List Name) (cs : List ℕ) → r < W → ((p : ℕ) → In p cs → p < n)
-        → making_bits t a r (firsts ++ ((resource_in t ∷ []) ∷ added_for t a r)) cs ≡ item_bits (making_of m T r (map (type_at m) cs) firsts)
+        → making_bits t a r (firsts ++ ((t.resource ∷ []) ∷ added_for t a r)) cs ≡ item_bits (making_of m T r (map (type_at m) cs) firsts)
     unfolding making_bits making_of item_bits
     making-is r firsts cs hr h =
         let bits : Name → Bool → List Name → ℕ → List Bool → List Bool =
         λ x v ps k ms. false ∷ name_bits x ++ (to_bits 8 r ++ (v ∷ counted_bits 5 parent_bits ps ++ (to_bits 9 k ++ ms))) in
         let v = virtual_head (head_at t a) && all_virtual t cs in
-        let ps = firsts ++ ((resource_in t ∷ []) ∷ added_for t a r) in
+        let ps = firsts ++ ((t.resource ∷ []) ∷ added_for t a r) in
         let Cs = map (type_at m) cs in
         ap₂ (λ (x : Name) (b : Bool). bits x b ps (marks_in t cs) (each (marks_bits t) cs)) (name-is a ha) (ap₂ (λ x y. x && y) (entry a ha).is_virtual (virtual_is cs h))
         ∙ ap₂ (λ (w : ℕ) (l : List Name). bits T.name (T.virtual && all (λ (C : LineType). C.virtual) Cs) (firsts ++ ((w ∷ []) ∷ l)) (marks_in t cs) (each (marks_bits t) cs)) c.listed.resource_word (added_is r hr)
@@ -171,7 +170,7 @@ module _ (s : Sheet) (t : List ℕ) (within : Within s) (c : Catalogued s t) whe
         ap₂ (λ (x : Name) (b : Bool). true ∷ name_bits x ++ (b ∷ trait_head (head_at t a) ∷ to_bits 8 r)) (entry a ha).name (entry a ha).is_virtual
         ∙ ap (λ (b : Bool). true ∷ name_bits T.name ++ (T.virtual ∷ b ∷ to_bits 8 r)) (entry a ha).is_trait
 
-    module _ (k : ℕ) (hk : k < words_in t) where
+    module _ (k : ℕ) (hk : k < t.word_count) where
       abbrev r : ℕ
       r = word_at t k
 
@@ -247,7 +246,7 @@ module _ (s : Sheet) (t : List ℕ) (within : Within s) (c : Catalogued s t) whe
           (λ j.
           by (ltb p n)
           (λ l. ltb-true p n l)
-          (λ l. never (and_left (has_bit x p) _ (sym (bit-without x y p) ∙ (member_of (bit_xor x (bit_and x y)) j).1)) (f.within p (ltb-false p n l))))
+          (λ l. never (and_left (has_bit x p) _ (sym (bit-without x y p) ∙ (members-of (bit_xor x (bit_and x y)) j).1)) (f.within p (ltb-false p n l))))
           (Memᴰ.append_cases (members (bit_and x y)) i)
 
       inherited-is : inherited_bits t a r (mask_at t k) ≡ item_bits (inherited_making m T r)
@@ -281,7 +280,7 @@ module _ (s : Sheet) (t : List ℕ) (within : Within s) (c : Catalogued s t) whe
     abbrev made : ℕ → Bool
     made q = some m (both (made_set m T) (masked q))
 
-    makes-is : (k : ℕ) → k < words_in t → makes t a k ≡ made (word_at t k)
+    makes-is : (k : ℕ) → k < t.word_count → makes t a k ≡ made (word_at t k)
     unfolding made_set
     makes-is k h =
         let row = bit_or (own_at t a) (above_at t a) in
@@ -299,9 +298,9 @@ module _ (s : Sheet) (t : List ℕ) (within : Within s) (c : Catalogued s t) whe
         and_both (any-in (masked q) x.1 (and_right (made_set m T x.0) (masked q x.0) x.2)) e)
 
     -- the words with a making, by their places
-    words_are : map (word_at t) (below (makes t a) (words_in t)) ≡ below made W
+    words_are : map (word_at t) (below (makes t a) (t.word_count)) ≡ below made W
     words_are =
-        let K = words_in t in
+        let K = t.word_count in
         let G : ℕ → Bool = λ q. some m (masked q) in
         ap (map (word_at t)) (below-same (makes t a) (λ k. made (word_at t k)) K makes-is)
         ∙ sym (filter-tabulate made (word_at t) K)
@@ -314,8 +313,8 @@ module _ (s : Sheet) (t : List ℕ) (within : Within s) (c : Catalogued s t) whe
     pub type-is : type_items t a ≡ map item_bits (set_items_for W m T)
     unfolding type_items set_items_for
     type-is =
-        each_same (word_items t a) (λ k. map item_bits (set_items_at m T (word_at t k))) (below (makes t a) (words_in t)) (λ k i. word-is k (below_of (makes t a) (words_in t) i).0)
-        ∙ sym (each_map (λ q. map item_bits (set_items_at m T q)) (word_at t) (below (makes t a) (words_in t)))
+        each_same (word_items t a) (λ k. map item_bits (set_items_at m T (word_at t k))) (below (makes t a) (t.word_count)) (λ k i. word-is k (below_of (makes t a) (t.word_count) i).0)
+        ∙ sym (each_map (λ q. map item_bits (set_items_at m T q)) (word_at t) (below (makes t a) (t.word_count)))
         ∙ ap (each (λ q. map item_bits (set_items_at m T q))) words_are
         ∙ sym (map_each item_bits (set_items_at m T) (below made W))
 

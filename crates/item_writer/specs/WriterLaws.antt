@@ -1,12 +1,12 @@
 -- Laws of the sets that the writer walks, and of the items that it adds one after the other.
-use Rattle.std.specs.Prelude.{Bool, false, ◌&&◌, ◌||◌, not, ◌≡◌, refl, ℕ, zero, suc, ◌+◌, ◌*◌, ◌/◌, ◌%◌, ◌^◌, ◌≤◌, ◌<◌, ltb, length, get_or, drop, set, replicate}
-use Rattle.std.proofs.Math.Bool.{true, cond, or-false, and-false, and-true}
+use Rattle.std.specs.Prelude.{Bool, false, ◌&&◌, ◌||◌, not, ◌≡◌, refl, ℕ, zero, suc, ◌+◌, ◌*◌, ◌^◌, ◌≤◌, ◌<◌, ltb, length, get_or, drop, set, replicate}
+use Rattle.std.proofs.Math.Bool.{true, or-false, and-false, and-true}
 use mathlib.Core.List.Memᴰ
 use mathlib.Core.List.{List, [], ◌∷◌, ◌++◌, map, append-nil}
 use Rattle.std.proofs.Math.Path.{sym, ap, ap₂}
 use Rattle.std.proofs.Common.{◌∙◌, arith, length-set, get_or-set_same, get_or-set_other}
 use Rattle.std.proofs.Math.Decide.{dec_lt}
-use borrow.Author.Tests.{eq-eqb, ne_eqb, eqb-true, eqb-false, lt-ltb, le-ltb, ltb-true, ltb-false}
+use borrow.Author.Tests.{eq-eqb, ne_eqb, eqb-true, eqb-false, lt-ltb, le-ltb, ltb-true}
 use Rattle.std.specs.Int.Bits.{bit_and, bit_or, and_le_l}
 use Rattle.std.proofs.Math.Dec.{eqb}
 use Rattle.lists.specs.Lists.{In, any, each}
@@ -16,19 +16,17 @@ use Rattle.lists.specs.Places.{zero-at}
 use Rattle.definitions.specs.Records.{Name}
 use Rattle.definitions.specs.Comparisons.{dotted}
 use Rattle.ordering.specs.Lists.{only, below, below-same, below_one}
-use Rattle.rows.specs.Rows.{bit, has_bit}
-use Rattle.rows.specs.RowLaws.{bit-either, bit-one, bit-none, bit_is, one_shifted}
-use Rattle.law_classes.specs.Numbers.{bit-both, some-bit}
-use Rattle.law_classes.proofs.SetLaws.{below_of, in-below}
+use Rattle.rows.specs.Rows.{has_bit}
+use Rattle.rows.specs.RowLaws.{bit-one, bit-none}
 use Rattle.catalogue.specs.Layout.{key_at, head_at, parents_at, own_at, above_at, passed_at, word_at, mask_at, extension_key_at}
-use Rattle.catalogue.specs.Layout.{count_in, words_in, extensions_in, extended_in, resource_in}
 use Rattle.catalogue.specs.Catalogue.{added_in, parents_in}
-use Rattle.bitsets.specs.Bitsets.{Lowest, Rest, more}
-use Rattle.bitsets.specs.BitLaws.{bit-more}
+use Rattle.catalogue.specs.declared.Catalogue.{Catalogue}
+use Rattle.bitsets.specs.Bitsets.{members, Lowest, Rest, more}
+use Rattle.bitsets.specs.BitLaws.{bit-both, bit-more, some-bit, below_of, in-below, members-next, members-none}
 use Rattle.item_spread.specs.Spread.{United, WithIf}
 use Rattle.item_fields.specs.Fields.{line_bits}
-use Rattle.item_making.specs.Making.{members, name_in, first_in, classes_of, added, parents_of, making_bits, made_bits}
-use Rattle.item_making.specs.Walks.{members-next, members-none, from_next, from_end}
+use Rattle.item_making.specs.Making.{name_in, first_in, classes_of, added, parents_of, making_bits, made_bits}
+use Rattle.item_making.specs.Walks.{from_next, from_end}
 use Rattle.item_making.specs.MakingLaws.{classes-alone}
 use Rattle.item_writer.specs.declared.Site.{Site}
 use Rattle.item_writer.specs.Items.{Sound, some, passes, passing_in, added_for, own_bits, inherited_bits, RecordsAre, own_items, inherited_items, word_items, makes, type_items, all_items, PassingIs, CommonIs, WithRecord, WordsFill, Cleared, WordsAre}
@@ -49,20 +47,20 @@ unfolding members
 members-one c h = below-same (has_bit (2 ^ c)) (λ x. eqb c x) 64 (λ x l. bit-one c x) ∙ below_one 64 c h
 
 -- a set of one class is in order, whatever its dom
-pub classes-one : (t : List ℕ) (c : ℕ) → c < 64 → classes_of t (2 ^ c) ≡ c ∷ []
+pub classes-one : (t : Catalogue) (c : ℕ) → c < 64 → classes_of t (2 ^ c) ≡ c ∷ []
 classes-one t c h = classes-alone t (2 ^ c) c h (bit-one c)
 
 -- ---- the parents that pass a class on
 
-pub record PassingTo (t : List ℕ) (parents mask out left : ℕ) : Type 0 where
+pub record PassingTo (t : Catalogue) (parents mask out left : ℕ) : Type 0 where
   pub bits : (p : ℕ) → (has_bit out p || (has_bit left p && some (bit_and (passed_at t p) mask))) ≡ passes t parents mask p
 
-pub passing-none : (t : List ℕ) (parents mask : ℕ) → PassingTo t parents mask 0 parents
-passing-none t parents mask = record { bits = λ p. ap (λ b. b || passes t parents mask p) (bit-none p) }
+pub passing_none : (t : Catalogue) (parents mask : ℕ) → PassingTo t parents mask 0 parents
+passing_none t parents mask = record { bits = λ p. ap (λ b. b || passes t parents mask p) (bit-none p) }
 
-pub passing-more : (t : List ℕ) (parents mask out left k r next : ℕ) → Lowest left k → Rest left r → WithIf out k (bit_and (passed_at t k) mask) next
+pub passing_more : (t : Catalogue) (parents mask out left k r next : ℕ) → Lowest left k → Rest left r → WithIf out k (bit_and (passed_at t k) mask) next
     → PassingTo t parents mask out left → PassingTo t parents mask next r
-passing-more t parents mask out left k r next w d f h =
+passing_more t parents mask out left k r next w d f h =
     record {
       bits = λ p.
           let meets : ℕ → Bool = λ q. some (bit_and (passed_at t q) mask) in
@@ -76,8 +74,8 @@ passing-more t parents mask out left k r next w d f h =
           ∙ h.bits p;
     }
 
-pub passing-all : (t : List ℕ) (parents mask out left : ℕ) → left ≡ 0 → PassingTo t parents mask out left → PassingIs t parents mask out
-passing-all t parents mask out left e h =
+pub passing_all : (t : Catalogue) (parents mask out left : ℕ) → left ≡ 0 → PassingTo t parents mask out left → PassingIs t parents mask out
+passing_all t parents mask out left e h =
     record {
       bits = λ p.
           sym (or-false (has_bit out p))
@@ -86,27 +84,25 @@ passing-all t parents mask out left e h =
     }
 
 -- what all that are gone through pass on
-pub record CommonTo (t : List ℕ) (types out left : ℕ) : Type 0 where
+pub record CommonTo (t : Catalogue) (types out left : ℕ) : Type 0 where
   pub each : (p : ℕ) → has_bit types p ≡ true → has_bit left p ≡ false → (j : ℕ) → has_bit out j ≡ true → has_bit (passed_at t p) j ≡ true
 
-pub common-none : (t : List ℕ) (types out : ℕ) → CommonTo t types out types
-common-none t types out = record { each = λ p h n. never h n }
-
-pub common-more : (t : List ℕ) (types out left k r x : ℕ) → Lowest left k → Rest left r → x ≡ passed_at t k → CommonTo t types out left → CommonTo t types (bit_and out x) r
-common-more t types out left k r x w d e h =
+pub common_more : (t : Catalogue) (types out left k r : ℕ) → Lowest left k → Rest left r → CommonTo t types out left → CommonTo t types (bit_and out (passed_at t k)) r
+common_more t types out left k r w d h =
     record {
       each = λ p i n j b.
+          let x = passed_at t k in
           let both = sym (bit-both out x j) ∙ b in
           by (eqb p k)
-          (λ q. ap (λ (y : ℕ). has_bit (passed_at t y) j) (eqb-true p k q) ∙ ap (λ (y : ℕ). has_bit y j) (sym e) ∙ and_right (has_bit out j) (has_bit x j) both)
+          (λ q. ap (λ (y : ℕ). has_bit (passed_at t y) j) (eqb-true p k q) ∙ and_right (has_bit out j) (has_bit x j) both)
           (λ q. h.each p i (sym (and-true (has_bit left p)) ∙ ap (λ b. has_bit left p && b) (sym (ap not q)) ∙ sym (d.bits k w p) ∙ n) j (and_left (has_bit out j) (has_bit x j) both));
     }
 
-pub common-all : (t : List ℕ) (types out left : ℕ) → left ≡ 0 → CommonTo t types out left → CommonIs t types out
-common-all t types out left e h = record { each = λ p i. h.each p i (ap (λ (x : ℕ). has_bit x p) e ∙ bit-none p) }
+pub common_all : (t : Catalogue) (types out left : ℕ) → left ≡ 0 → CommonTo t types out left → CommonIs t types out
+common_all t types out left e h = record { each = λ p i. h.each p i (ap (λ (x : ℕ). has_bit x p) e ∙ bit-none p) }
 
 -- where all pass a class of the mask on, each does
-pub all_pass : (t : List ℕ) (parents mask common : ℕ) → common < 2 ^ 64 → CommonIs t parents common → (bit_and common mask ≡ 0 → ⊥) → PassingIs t parents mask parents
+pub all_pass : (t : Catalogue) (parents mask common : ℕ) → common < 2 ^ 64 → CommonIs t parents common → (bit_and common mask ≡ 0 → ⊥) → PassingIs t parents mask parents
 unfolding has_bit
 all_pass t parents mask common small c n =
     let x = bit_and common mask in
@@ -123,47 +119,25 @@ all_pass t parents mask common small c n =
 
 -- ---- the records of a type and a word
 
-pub record-skipped : (t : List ℕ) (records e key : ℕ) → (extension_key_at t e ≡ key → ⊥) → WithRecord t records e key records
-record-skipped t records e key n =
-    record { bits = λ i. sym (rw (ne_eqb (extension_key_at t e) key n) (ap (λ b. has_bit records i || b) (and-false (eqb e i)) ∙ or-false (has_bit records i))) }
-
-pub record-taken : (t : List ℕ) (records e key : ℕ) → extension_key_at t e ≡ key → WithRecord t records e key (more records e)
-record-taken t records e key q =
+pub record_taken : (t : Catalogue) (records e key : ℕ) → extension_key_at t e ≡ key → WithRecord t records e key (more records e)
+record_taken t records e key q =
     record { bits = λ i. bit-more records e i ∙ ap (λ b. has_bit records i || b) (sym (rw (eq-eqb (extension_key_at t e) key q) (and-true (eqb e i)))) }
 
 -- those below e with the key
-pub record RecordsTo (t : List ℕ) (key out e : ℕ) : Type 0 where
+pub record RecordsTo (t : Catalogue) (key out e : ℕ) : Type 0 where
   pub bits : (i : ℕ) → has_bit out i ≡ (ltb i e && eqb (extension_key_at t i) key)
 
-pub records-none : (t : List ℕ) (key : ℕ) → RecordsTo t key 0 0
-records-none t key = record { bits = λ i. bit-none i ∙ sym (ap (λ b. b && eqb (extension_key_at t i) key) (le-ltb i 0 (omega arith))) }
+pub records_none : (t : Catalogue) (key : ℕ) → RecordsTo t key 0 0
+records_none t key = record { bits = λ i. bit-none i ∙ sym (ap (λ b. b && eqb (extension_key_at t i) key) (le-ltb i 0 (omega arith))) }
 
-pub records-more : (t : List ℕ) (key out e r : ℕ) → WithRecord t out e key r → RecordsTo t key out e → RecordsTo t key r (e + 1)
-records-more t key out e r w h =
-    record {
-      bits = λ i.
-          w.bits i
-          ∙ ap (λ b. b || (eqb e i && eqb (extension_key_at t e) key)) (h.bits i)
-          ∙ by (eqb e i)
-          (λ q.
-          let z = eqb-true e i q in
-          rw (q, le-ltb i e (omega arith), lt-ltb i (e + 1) (omega arith)) (ap (λ (x : ℕ). eqb (extension_key_at t x) key) z))
-          (λ q.
-          let z = eqb-false e i q in
-          rw (q, or-false (ltb i e && eqb (extension_key_at t i) key))
-          (by (ltb i e)
-          (λ l. let y = ltb-true i e l in rw (l, lt-ltb i (e + 1) (omega arith)))
-          (λ l. let y = ltb-false i e l in rw (l, le-ltb i (e + 1) (omega arith)))));
-    }
-
-module _ (t : List ℕ) (a word : ℕ) (sound : Sound t) where
+module _ (t : Catalogue) (a word : ℕ) (sound : Sound t) where
   abbrev key : ℕ
   key = key_at t a * 256 + word
 
-  pub records-all : (out e : ℕ) → extensions_in t ≤ e → e ≤ extensions_in t → has_bit (extended_in t) a ≡ true → RecordsTo t key out e → RecordsAre t a word out
+  pub records_all : (out e : ℕ) → t.extension_count ≤ e → e ≤ t.extension_count → has_bit (t.extended) a ≡ true → RecordsTo t key out e → RecordsAre t a word out
   unfolding added added_for added_in members
-  records-all out e l u x h =
-      let n = extensions_in t in
+  records_all out e l u x h =
+      let n = t.extension_count in
       let k : (i : ℕ) → has_bit out i ≡ true → i < n = λ i p. omega (arith, ltb-true i e (and_left (ltb i e) _ (sym (h.bits i) ∙ p))) in
       let m : members out ≡ below (λ i. eqb (extension_key_at t i) key) n =
       below-cut (has_bit out) n 64 (omega (arith, sound.records)) (λ i p q. h.bits i ∙ ap (λ b. b && eqb (extension_key_at t i) key) (le-ltb i e (omega arith)))
@@ -173,73 +147,58 @@ module _ (t : List ℕ) (a word : ℕ) (sound : Sound t) where
         added = ap (each (parents_in t)) m ∙ sym (rw x);
       }
 
-  pub records-empty : has_bit (extended_in t) a ≡ false → RecordsAre t a word 0
-  unfolding added added_for
-  records-empty x =
-      record {
-        recorded = record { place = λ i p. never p (bit-none i); few = λ i p. never p (bit-none i) };
-        added = ap (each (parents_in t)) (members-none 0 refl) ∙ sym (rw x);
-      }
-
--- ---- bits as remainders
-
-pub has-not : (x a : ℕ) → x / 2 ^ a % 2 ≡ 0 → has_bit x a ≡ false
-unfolding has_bit
-has-not x a e = ne_eqb (bit x a) 1 (λ q. absurd (omega (arith, q, e, bit_is x a)))
-
-pub has-so : (x a : ℕ) → (x / 2 ^ a % 2 ≡ 0 → ⊥) → has_bit x a ≡ true
-unfolding has_bit
-has-so x a n = eq-eqb (bit x a) 1 (omega (arith, bit_is x a, not-zero (x / 2 ^ a % 2) n))
-  where
-    not-zero : (y : ℕ) → (y ≡ 0 → ⊥) → 0 < y
-    not-zero zero f = absurd (f refl)
-    not-zero (suc y) f = omega arith
+pub records-empty : (t : Catalogue) (a word : ℕ) → has_bit t.extended a ≡ false → RecordsAre t a word 0
+unfolding added added_for
+records-empty t a word x =
+    record {
+      recorded = record { place = λ i p. never p (bit-none i); few = λ i p. never p (bit-none i) };
+      added = ap (each (parents_in t)) (members-none 0 refl) ∙ sym (rw x);
+    }
 
 -- ---- what is made for a site
 
-module _ (t : List ℕ) (s : Site) (r : RecordsAre t s.place s.word s.records) where
-  pub own-made : (c x : ℕ) → c < 64 → x ≡ 2 ^ c → made_bits t s.place (record { word = s.word; records = s.records; firsts = x; classes = x; inherited = false }) ≡ own_bits t s.place s.word c
-  unfolding made_bits own_bits parents_of first_in
-  own-made c x h e =
+module _ (t : Catalogue) (s : Site) (r : RecordsAre t s.place s.word s.records) where
+  pub own-made : (c : ℕ) → c < 64 → made_bits t s.place (record { word = s.word; records = s.records; firsts = more 0 c; classes = more 0 c; inherited = false }) ≡ own_bits t s.place s.word c
+  unfolding made_bits own_bits parents_of first_in more
+  own-made c h =
       ap₂ (λ (ps : List Name) (cs : List ℕ). making_bits t s.place s.word ps cs)
-      (ap₂ (λ (l : List ℕ) (k : List Name). map (name_in t) l ++ ((resource_in t ∷ []) ∷ k)) (ap members e ∙ members-one c h) r.added)
-      (ap (classes_of t) e ∙ classes-one t c h)
+      (ap₂ (λ (l : List ℕ) (k : List Name). map (name_in t) l ++ ((t.resource ∷ []) ∷ k)) (members-one c h) r.added)
+      (classes-one t c h)
 
-  pub inherited-made : (mask f x : ℕ) → PassingIs t (parents_at t s.place) mask f → x ≡ bit_and (above_at t s.place) mask
-      → made_bits t s.place (record { word = s.word; records = s.records; firsts = f; classes = x; inherited = true }) ≡ inherited_bits t s.place s.word mask
+  pub inherited-made : (mask f : ℕ) → PassingIs t (parents_at t s.place) mask f
+      → made_bits t s.place (record { word = s.word; records = s.records; firsts = f; classes = bit_and (above_at t s.place) mask; inherited = true }) ≡ inherited_bits t s.place s.word mask
   unfolding made_bits inherited_bits parents_of first_in members passing_in
-  inherited-made mask f x p e =
-      ap₂ (λ (ps : List Name) (cs : List ℕ). making_bits t s.place s.word ps cs)
-      (ap₂ (λ (l : List ℕ) (k : List Name). map (λ p. dotted (name_in t p) s.word) l ++ ((resource_in t ∷ []) ∷ k))
-      (below-same (has_bit f) (passes t (parents_at t s.place) mask) 64 (λ q l. p.bits q)) r.added)
-      (ap (classes_of t) e)
+  inherited-made mask f p =
+      ap₂ (λ (l : List ℕ) (k : List Name). making_bits t s.place s.word (map (λ p. dotted (name_in t p) s.word) l ++ ((t.resource ∷ []) ∷ k)) (classes_of t (bit_and (above_at t s.place) mask)))
+      (below-same (has_bit f) (passes t (parents_at t s.place) mask) 64 (λ q l. p.bits q))
+      r.added
 
 -- one own resource after the other
-pub own-next : (t : List ℕ) (s : Site) (left k r : ℕ) → Lowest left k → Rest left r → own_items t s left ≡ (own_bits t s.place s.word k ∷ []) ++ own_items t s r
+pub own-next : (t : Catalogue) (s : Site) (left k r : ℕ) → Lowest left k → Rest left r → own_items t s left ≡ (own_bits t s.place s.word k ∷ []) ++ own_items t s r
 unfolding own_items
 own-next t s left k r w d = ap (map (own_bits t s.place s.word)) (members-next left k r w d)
 
-pub own-none : (t : List ℕ) (s : Site) (left : ℕ) → left ≡ 0 → own_items t s left ≡ []
+pub own-none : (t : Catalogue) (s : Site) (left : ℕ) → left ≡ 0 → own_items t s left ≡ []
 unfolding own_items
 own-none t s left e = ap (map (own_bits t s.place s.word)) (members-none left e)
 
 -- the inherited one, or none
-module _ (t : List ℕ) (s : Site) (mask above : ℕ) (e : above ≡ above_at t s.place) where
-  pub inherited-not : bit_and above mask ≡ 0 → inherited_items t s mask ≡ []
+module _ (t : Catalogue) (s : Site) (mask : ℕ) where
+  pub inherited-not : bit_and (above_at t s.place) mask ≡ 0 → [] ≡ inherited_items t s mask
   unfolding inherited_items
-  inherited-not z = rw (← e, eq-eqb (bit_and above mask) 0 z)
+  inherited-not z = rw (eq-eqb (bit_and (above_at t s.place) mask) 0 z)
 
-  pub inherited-so : (bit_and above mask ≡ 0 → ⊥) → inherited_items t s mask ≡ inherited_bits t s.place s.word mask ∷ []
+  pub inherited-so : (bit_and (above_at t s.place) mask ≡ 0 → ⊥) → inherited_bits t s.place s.word mask ∷ [] ≡ inherited_items t s mask
   unfolding inherited_items
-  inherited-so n = ap (λ (x : ℕ). cond (eqb (bit_and x mask) 0) [] (inherited_bits t s.place s.word mask ∷ [])) (sym e) ∙ rw (ne_eqb (bit_and above mask) 0 n)
+  inherited-so n = rw (ne_eqb (bit_and (above_at t s.place) mask) 0 n)
 
 -- the items of a type and a word, part by part
-pub word-parts : (t : List ℕ) (a k word mask own records : ℕ) → word ≡ word_at t k → mask ≡ mask_at t k → own ≡ own_at t a →
-    own_items t (record { place = a; word = word; records = records }) (bit_and own mask)
-    ++ (inherited_items t (record { place = a; word = word; records = records }) mask ++ (line_bits (key_at t a) (head_at t a) word ∷ []))
+pub word-parts : (t : Catalogue) (a k records : ℕ) →
+    own_items t (record { place = a; word = word_at t k; records = records }) (bit_and (own_at t a) (mask_at t k))
+    ++ (inherited_items t (record { place = a; word = word_at t k; records = records }) (mask_at t k) ++ (line_bits (key_at t a) (head_at t a) (word_at t k) ∷ []))
     ≡ word_items t a k
 unfolding own_items inherited_items word_items
-word-parts t a k word mask own records p q o = rw (p, q, o)
+word-parts t a k records = refl
 
 -- ---- the words of a type
 
@@ -248,7 +207,10 @@ any-agree : (f g : ℕ → Bool) (l : List ℕ) → ((x : ℕ) → In x l → f 
 any-agree f g [] h = refl
 any-agree f g (x ∷ l) h = ap₂ (λ a b. a || b) (h x (Memᴰ.head refl)) (any-agree f g l (λ y i. h y (Memᴰ.tail i)))
 
-module _ (t words : List ℕ) (a made set : ℕ) (sound : Sound t) (ws : WordsAre t words) (is : made ≡ bit_or (own_at t a) (above_at t a)) (most : made < 2 ^ 64) (u : United made words set) where
+module _ (t : Catalogue) (words : List ℕ) (a set : ℕ) (sound : Sound t) (ws : WordsAre t words) (most : bit_or (own_at t a) (above_at t a) < 2 ^ 64) (u : United (bit_or (own_at t a) (above_at t a)) words set) where
+  abbrev made : ℕ
+  made = bit_or (own_at t a) (above_at t a)
+
   -- a class in a mask
   met : (k : ℕ) → any (has_bit (mask_at t k)) (members made) ≡ some (bit_and made (mask_at t k))
   unfolding has_bit members
@@ -268,47 +230,47 @@ module _ (t words : List ℕ) (a made set : ℕ) (sound : Sound t) (ws : WordsAr
       rw e (any-in (has_bit (mask_at t k)) (in-below (has_bit made) 64 b.1 (and_left (has_bit made b.0) _ y)) (and_right (has_bit made b.0) _ y)))
 
   -- the words of the set are those with a making
-  set-bits : (k : ℕ) → has_bit set k ≡ (ltb k (words_in t) && makes t a k)
+  set-bits : (k : ℕ) → has_bit set k ≡ (ltb k (t.word_count) && makes t a k)
   unfolding members
   set-bits k =
       u.bits k
-      ∙ by (ltb k (words_in t))
+      ∙ by (ltb k (t.word_count))
       (λ l. rw l (any-agree (λ c. has_bit (get_or words c 0) k) (has_bit (mask_at t k)) (members made) (λ c i. ws.bits c k (below_of (has_bit made) 64 i).0 ∙ rw l)
-      ∙ met k ∙ ap (λ (y : ℕ). some (bit_and y (mask_at t k))) is))
+      ∙ met k))
       (λ l. rw l (any_none (λ c. has_bit (get_or words c 0) k) (members made) (λ c i. ws.bits c k (below_of (has_bit made) 64 i).0 ∙ rw l)))
 
-  pub set-within : (k : ℕ) → has_bit set k ≡ true → k < words_in t
-  set-within k e = ltb-true k (words_in t) (and_left (ltb k (words_in t)) (makes t a k) (sym (set-bits k) ∙ e))
+  pub set-within : (k : ℕ) → has_bit set k ≡ true → k < t.word_count
+  set-within k e = ltb-true k (t.word_count) (and_left (ltb k (t.word_count)) (makes t a k) (sym (set-bits k) ∙ e))
 
   pub type-words : each (word_items t a) (members set) ≡ type_items t a
   unfolding type_items members
   type-words =
       ap (each (word_items t a))
-      (below-cut (has_bit set) (words_in t) 64 sound.words (λ k p q. set-bits k ∙ ap (λ b. b && makes t a k) (le-ltb k (words_in t) p))
-      ∙ below-same (has_bit set) (makes t a) (words_in t) (λ k p. set-bits k ∙ ap (λ b. b && makes t a k) (lt-ltb k (words_in t) p)))
+      (below-cut (has_bit set) (t.word_count) 64 sound.words (λ k p q. set-bits k ∙ ap (λ b. b && makes t a k) (le-ltb k (t.word_count) p))
+      ∙ below-same (has_bit set) (makes t a) (t.word_count) (λ k p. set-bits k ∙ ap (λ b. b && makes t a k) (lt-ltb k (t.word_count) p)))
 
-pub words-next : (t : List ℕ) (a left k r : ℕ) → Lowest left k → Rest left r → each (word_items t a) (members left) ≡ word_items t a k ++ each (word_items t a) (members r)
+pub words-next : (t : Catalogue) (a left k r : ℕ) → Lowest left k → Rest left r → each (word_items t a) (members left) ≡ word_items t a k ++ each (word_items t a) (members r)
 words-next t a left k r w d = ap (each (word_items t a)) (members-next left k r w d)
 
-pub words-none : (t : List ℕ) (a left : ℕ) → left ≡ 0 → each (word_items t a) (members left) ≡ []
+pub words-none : (t : Catalogue) (a left : ℕ) → left ≡ 0 → each (word_items t a) (members left) ≡ []
 words-none t a left e = ap (each (word_items t a)) (members-none left e)
 
 -- ---- one type after the other
 
-unfoldable pub types_from : List ℕ → ℕ → List (List Bool)
-types_from t a = each (type_items t) (drop a (tabulate (λ a. a) (count_in t)))
+unfoldable pub types_from : Catalogue → ℕ → List (List Bool)
+types_from t a = each (type_items t) (drop a (tabulate (λ a. a) (t.count)))
 
-pub types-all : (t : List ℕ) → types_from t 0 ≡ all_items t
+pub types-all : (t : Catalogue) → types_from t 0 ≡ all_items t
 unfolding types_from all_items
 types-all t = refl
 
-pub types-next : (t : List ℕ) (a : ℕ) → a < count_in t → types_from t a ≡ type_items t a ++ types_from t (a + 1)
+pub types-next : (t : Catalogue) (a : ℕ) → a < t.count → types_from t a ≡ type_items t a ++ types_from t (a + 1)
 unfolding types_from
-types-next t a h = from_next (type_items t) (λ a. a) (count_in t) a h
+types-next t a h = from_next (type_items t) (λ a. a) (t.count) a h
 
-pub types-end : (t : List ℕ) (a : ℕ) → count_in t ≤ a → types_from t a ≡ []
+pub types-end : (t : Catalogue) (a : ℕ) → t.count ≤ a → types_from t a ≡ []
 unfolding types_from
-types-end t a h = from_end (type_items t) (λ a. a) (count_in t) a h
+types-end t a h = from_end (type_items t) (λ a. a) (t.count) a h
 
 -- ---- the words of each type
 
@@ -317,37 +279,31 @@ pub record FillsTo (before : List ℕ) (types k : ℕ) (now' : List ℕ) (left :
   pub long : length now' ≡ length before
   pub bits : (c j : ℕ) → c < 64 → (has_bit (get_or now' c 0) j || (eqb k j && has_bit left c)) ≡ (has_bit (get_or before c 0) j || (eqb k j && has_bit types c))
 
-pub fills-none : (before : List ℕ) (types k : ℕ) → FillsTo before types k before types
-fills-none before types k = record { long = refl; bits = λ c j h. refl }
-
-pub fills-more : (before : List ℕ) (types k : ℕ) (w : List ℕ) (left p r : ℕ) → 64 ≤ length before → k < 64 → Lowest left p → Rest left r → FillsTo before types k w left
-    → FillsTo before types k (set w p (bit_or (get_or w p 0) (1 * 2 ^ k % 2 ^ 64))) r
-fills-more before types k w left p r room few l d h =
+pub fills_more : (before : List ℕ) (types k : ℕ) (w : List ℕ) (left p r : ℕ) → 64 ≤ length before → Lowest left p → Rest left r → FillsTo before types k w left
+    → FillsTo before types k (set w p (more (get_or w p 0) k)) r
+fills_more before types k w left p r room l d h =
     record {
       long = length-set w p _ ∙ h.long;
       bits = λ c j q.
           by (eqb c p)
           (λ e.
           let z = eqb-true c p e in
-          let one : has_bit (1 * 2 ^ k % 2 ^ 64) j ≡ eqb k j = ap (λ (x : ℕ). has_bit x j) (one_shifted k few) ∙ bit-one k j in
           let there : has_bit left c ≡ true = ap (has_bit left) z ∙ l.there in
           let gone : has_bit r c ≡ false = d.bits p l c ∙ ap₂ (λ a b. a && not b) there e in
-          let new : get_or (set w p (bit_or (get_or w p 0) (1 * 2 ^ k % 2 ^ 64))) c 0 ≡ bit_or (get_or w c 0) (1 * 2 ^ k % 2 ^ 64) =
-          ap (λ (i : ℕ). get_or (set w p (bit_or (get_or w p 0) (1 * 2 ^ k % 2 ^ 64))) i 0) z
-          ∙ get_or-set_same w p _ 0 (omega (arith, h.long, l.place))
-          ∙ ap (λ (i : ℕ). bit_or (get_or w i 0) (1 * 2 ^ k % 2 ^ 64)) (sym z) in
+          let new : get_or (set w p (more (get_or w p 0) k)) c 0 ≡ more (get_or w c 0) k =
+          ap (λ (i : ℕ). get_or (set w p (more (get_or w p 0) k)) i 0) z ∙ get_or-set_same w p _ 0 (omega (arith, h.long, l.place)) ∙ ap (λ (i : ℕ). more (get_or w i 0) k) (sym z) in
           ap₂ (λ (x : ℕ) b. has_bit x j || (eqb k j && b)) new gone
-          ∙ ap₂ (λ a b. a || b) (bit-either (get_or w c 0) (1 * 2 ^ k % 2 ^ 64) j) (and-false (eqb k j))
+          ∙ ap₂ (λ a b. a || b) (bit-more (get_or w c 0) k j) (and-false (eqb k j))
           ∙ or-false _
-          ∙ ap (λ b. has_bit (get_or w c 0) j || b) (one ∙ sym (and-true (eqb k j)) ∙ ap (λ b. eqb k j && b) (sym there))
+          ∙ ap (λ b. has_bit (get_or w c 0) j || b) (sym (and-true (eqb k j)) ∙ ap (λ b. eqb k j && b) (sym there))
           ∙ h.bits c j q)
           (λ e.
           let same : has_bit r c ≡ has_bit left c = d.bits p l c ∙ ap (λ b. has_bit left c && not b) e ∙ and-true (has_bit left c) in
           ap₂ (λ (x : ℕ) b. has_bit x j || (eqb k j && b)) (get_or-set_other w p c _ 0 (eqb-false c p e)) same ∙ h.bits c j q);
     }
 
-pub fills-all : (before : List ℕ) (types k : ℕ) (w : List ℕ) (left : ℕ) → left ≡ 0 → FillsTo before types k w left → WordsFill before types k w
-fills-all before types k w left e h =
+pub fills_all : (before : List ℕ) (types k : ℕ) (w : List ℕ) (left : ℕ) → left ≡ 0 → FillsTo before types k w left → WordsFill before types k w
+fills_all before types k w left e h =
     record {
       long = h.long;
       bits = λ c j q.
@@ -357,32 +313,8 @@ fills-all before types k w left e h =
     }
 
 -- the first k words are noted
-pub record WordsTo (t words : List ℕ) (k : ℕ) : Type 0 where
+pub record WordsTo (t : Catalogue) (words : List ℕ) (k : ℕ) : Type 0 where
   pub bits : (c j : ℕ) → c < 64 → has_bit (get_or words c 0) j ≡ (ltb j k && has_bit (mask_at t j) c)
-
-pub words-start : (t words : List ℕ) → Cleared words → WordsTo t words 0
-words-start t words h = record { bits = λ c j q. h.none c j ∙ sym (ap (λ b. b && has_bit (mask_at t j) c) (le-ltb j 0 (omega arith))) }
-
-pub words_more : (t before after : List ℕ) (k mask : ℕ) → mask ≡ mask_at t k → WordsFill before mask k after → WordsTo t before k → WordsTo t after (k + 1)
-words_more t before after k mask m w h =
-    record {
-      bits = λ c j q.
-          w.bits c j q
-          ∙ ap (λ b. b || (eqb k j && has_bit mask c)) (h.bits c j q)
-          ∙ by (eqb k j)
-          (λ e.
-          let z = eqb-true k j e in
-          rw (e, le-ltb j k (omega arith), lt-ltb j (k + 1) (omega arith)) (ap (λ (x : ℕ). has_bit x c) (m ∙ ap (mask_at t) z)))
-          (λ e.
-          let z = eqb-false k j e in
-          rw (e, or-false (ltb j k && has_bit (mask_at t j) c))
-          (by (ltb j k)
-          (λ l. let y = ltb-true j k l in rw (l, lt-ltb j (k + 1) (omega arith)))
-          (λ l. let y = ltb-false j k l in rw (l, le-ltb j (k + 1) (omega arith)))));
-    }
-
-pub words-all : (t words : List ℕ) (k : ℕ) → k ≡ words_in t → WordsTo t words k → WordsAre t words
-words-all t words k e h = record { bits = λ c j q. h.bits c j q ∙ ap (λ (n : ℕ). ltb j n && has_bit (mask_at t j) c) e }
 
 pub cleared : (n : ℕ) → Cleared (replicate n 0)
 cleared n = record { none = λ c j. ap (λ (x : ℕ). has_bit x j) (zero-at n c) ∙ bit-none j }

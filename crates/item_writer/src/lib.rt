@@ -1,12 +1,14 @@
-// The items of a map, out of its catalogue, added to a pen: of a type and a word, of a type, of all types in name order (FORMAT 5.3).
+// The items of a map, out of its catalogue, added to a pen: of a type and a word, of a type, of all types in name order (FORMAT
+// 5.3).
 #![tactic(auto)]
 
-ghost use Rattle.std.specs.Prelude.{[], ◌≡◌, ◌≤◌, ◌<◌, length};
-ghost use Rattle.catalogue.specs.Layout.{parents_at, count_in, words_in};
+ghost use Rattle.std.specs.Prelude.{◌≤◌, ◌<◌, length};
+ghost use Rattle.catalogue.specs.Layout.{parents_at};
 ghost use Rattle.item_pen.specs.Pen.{RoomForAll, AddsAll};
 ghost use Rattle.item_writer.specs.Items.{Sound, PassingIs, CommonIs, WithRecord, RecordsAre, Sited, own_items, inherited_items, word_items, type_items, all_items};
 ghost use Rattle.item_writer.specs.Items.{WordsFill, Cleared, WordsAre};
 
+use catalogue::Catalogue;
 use item_making::Making;
 use item_pen::Pen;
 
@@ -19,29 +21,32 @@ pub struct Site {
 }
 
 // The parents that pass a class of the mask on (FORMAT 4.4).
-fn passing(t: &[u64; 1544], parents: u64, mask: u64) -> u64
+#[tactic(auto, using(crate::specs::WriterLaws::passing_none, crate::specs::WriterLaws::passing_more, crate::specs::WriterLaws::passing_all))]
+fn passing(t: &Catalogue, parents: u64, mask: u64) -> u64
     ensures { PassingIs t.now parents mask result }
 {
     let mut out: u64 = 0;
     for p in bitsets::members(parents) {
-        out = item_spread::with_if(out, p, catalogue::passed_at(t, p) & mask);
+        out = item_spread::with_if(out, p, t.passed[p] & mask);
     }
     out
 }
 
 // What all types of a set pass on.
-fn common_of(t: &[u64; 1544], types: u64) -> u64
+#[tactic(auto, using(crate::specs::WriterLaws::common_more, crate::specs::WriterLaws::common_all))]
+fn common_of(t: &Catalogue, types: u64) -> u64
     ensures { CommonIs t.now types result }
 {
-    let mut out: u64 = 18446744073709551615;
+    let mut out = u64::MAX;
     for p in bitsets::members(types) {
-        out = out & catalogue::passed_at(t, p);
+        out &= t.passed[p];
     }
     out
 }
 
 // The parents that pass a class of the mask on: all of them where there is one that all pass on.
-fn passing_of(t: &[u64; 1544], parents: u64, mask: u64, common: u64) -> u64
+#[tactic(auto, using(crate::specs::WriterLaws::all_pass))]
+fn passing_of(t: &Catalogue, parents: u64, mask: u64, common: u64) -> u64
     requires { CommonIs t.now parents common }
     ensures { PassingIs t.now parents mask result }
 {
@@ -52,43 +57,43 @@ fn passing_of(t: &[u64; 1544], parents: u64, mask: u64, common: u64) -> u64
 }
 
 // The records, with the one at e if it has the key.
-fn with_record(t: &[u64; 1544], records: u64, e: usize, key: u64) -> u64
+#[tactic(auto, using(crate::specs::WriterLaws::record_taken))]
+fn with_record(t: &Catalogue, records: u64, e: usize, key: u64) -> u64
     requires { e < 32 }
     ensures { WithRecord t.now records e key result }
 {
-    if catalogue::extension_key_at(t, e) != key {
+    if t.extension_keys[e] != key {
         return records;
     }
     bitsets::with_one(records, e)
 }
 
 // The extension records of a type and a word (FORMAT 4.5).
-fn records_of(t: &[u64; 1544], a: usize, word: u64) -> u64
-    requires { Sound t.now × (a < count_in t.now) × (word < 256) }
+#[tactic(auto, using(crate::specs::WriterLaws::records_none, crate::specs::WriterLaws::records_all))]
+fn records_of(t: &Catalogue, a: usize, word: u64) -> u64
+    requires { Sound t.now × (a < t.now.count) × (word < 256) }
     ensures { RecordsAre t.now a word result }
 {
-    if (catalogue::extended_in(t) >> a) % 2 == 0 {
+    if !bitsets::has(t.extended, a) {
         return 0;
     }
-    let key = catalogue::key_at(t, a) * 256 + word;
-    let count = catalogue::extensions_in(t) as usize;
+    let key = t.keys[a] * 256 + word;
     let mut out: u64 = 0;
-    for e in 0..count {
+    for e in 0..t.extension_count {
         out = with_record(t, out, e, key);
     }
     out
 }
 
 // The own resources of a type and a word, by ascending class (FORMAT 4.3, 5.3).
-fn add_own(buf: &mut [u8], pen: Pen, t: &[u64; 1544], site: Site, own: u64) -> Pen
+fn add_own(buf: &mut [u8], pen: Pen, t: &Catalogue, site: Site, own: u64) -> Pen
     requires sited { Sited t.now site }
     requires room_for_all { RoomForAll buf.old pen (own_items t.now site own) }
     ensures { AddsAll buf.old buf.new pen result (own_items t.now site own) }
 {
-    let one: u64 = 1;
     let mut to = pen;
     for c in bitsets::members(own) {
-        let class = one << c;
+        let class = bitsets::with_one(0, c);
         let m = Making {
             word: site.word,
             records: site.records,
@@ -102,47 +107,40 @@ fn add_own(buf: &mut [u8], pen: Pen, t: &[u64; 1544], site: Site, own: u64) -> P
 }
 
 // The inherited resource of a type and a word, if there is a class from above (FORMAT 4.4).
-fn add_inherited(
-    buf: &mut [u8],
-    pen: Pen,
-    t: &[u64; 1544],
-    site: Site,
-    mask: u64,
-    common: u64,
-) -> Pen
+fn add_inherited(buf: &mut [u8], pen: Pen, t: &Catalogue, site: Site, mask: u64, common: u64) -> Pen
     requires sited { Sited t.now site × CommonIs t.now (parents_at t.now site.place) common }
     requires room_for_all { RoomForAll buf.old pen (inherited_items t.now site mask) }
     ensures { AddsAll buf.old buf.new pen result (inherited_items t.now site mask) }
 {
-    let classes = catalogue::above_at(t, site.place) & mask;
+    let classes = t.above[site.place] & mask;
     if classes == 0 {
         return pen;
     }
-    let firsts = passing_of(t, catalogue::parents_at(t, site.place), mask, common);
+    let firsts = passing_of(t, t.parents[site.place], mask, common);
     let m = Making {
         word: site.word,
         records: site.records,
-        firsts: firsts,
-        classes: classes,
+        firsts,
+        classes,
         inherited: true,
     };
     item_making::create_synthetic_resource(buf, pen, t, site.place, m)
 }
 
 // The items of a type and the k-th word: own resources, the inherited one, the extension line (FORMAT 5.3).
-fn add_word(buf: &mut [u8], pen: Pen, t: &[u64; 1544], a: usize, k: usize, common: u64) -> Pen
-    requires sound { Sound t.now × (a < count_in t.now) × (k < words_in t.now) × CommonIs t.now (parents_at t.now a) common }
+fn add_word(buf: &mut [u8], pen: Pen, t: &Catalogue, a: usize, k: usize, common: u64) -> Pen
+    requires sound { Sound t.now × (a < t.now.count) × (k < t.now.word_count) × CommonIs t.now (parents_at t.now a) common }
     requires room_for_all { RoomForAll buf.old pen (word_items t.now a k) }
     ensures { AddsAll buf.old buf.new pen result (word_items t.now a k) }
 {
-    let word = catalogue::word_at(t, k);
-    let mask = catalogue::mask_at(t, k);
+    let word = t.words[k];
+    let mask = t.masks[k];
     let site = Site {
         place: a,
-        word: word,
+        word,
         records: records_of(t, a, word),
     };
-    let to = add_own(buf, pen, t, site, catalogue::own_at(t, a) & mask);
+    let to = add_own(buf, pen, t, site, t.own[a] & mask);
     let then = add_inherited(buf, to, t, site, mask, common);
     item_making::extension_line(buf, then, t, a, word)
 }
@@ -152,32 +150,29 @@ fn fill_word(words: &mut [u64], types: u64, k: usize)
     requires { (64 ≤ length words.old) × (k < 64) }
     ensures { WordsFill words.old types k words.new }
 {
-    let one: u64 = 1;
-    let bit = one << k;
     for c in bitsets::members(types) {
-        words[c] = words[c] | bit;
+        words[c] = bitsets::with_one(words[c], k);
     }
 }
 
 // For each type the set of the words in whose masks it is.
-pub fn fill_words(t: &[u64; 1544], words: &mut [u64])
+pub fn fill_words(t: &Catalogue, words: &mut [u64])
     requires { Sound t.now × (64 ≤ length words.old) × Cleared words.old }
     ensures { WordsAre t.now words.new }
 {
-    let count = catalogue::word_count_in(t) as usize;
-    for k in 0..count {
-        fill_word(words, catalogue::mask_at(t, k), k);
+    for k in 0..t.word_count {
+        fill_word(words, t.masks[k], k);
     }
 }
 
 // The items of a type: its words with a making, ascending (FORMAT 5.3).
-fn add_type(buf: &mut [u8], pen: Pen, t: &[u64; 1544], words: &[u64], a: usize) -> Pen
-    requires sound { Sound t.now × (a < count_in t.now) × (64 ≤ length words.now) × WordsAre t.now words.now }
+fn add_type(buf: &mut [u8], pen: Pen, t: &Catalogue, words: &[u64], a: usize) -> Pen
+    requires sound { Sound t.now × (a < t.now.count) × (64 ≤ length words.now) × WordsAre t.now words.now }
     requires room_for_all { RoomForAll buf.old pen (type_items t.now a) }
     ensures { AddsAll buf.old buf.new pen result (type_items t.now a) }
 {
-    let common = common_of(t, catalogue::parents_at(t, a));
-    let made = catalogue::own_at(t, a) | catalogue::above_at(t, a);
+    let common = common_of(t, t.parents[a]);
+    let made = t.own[a] | t.above[a];
     let noted = item_spread::united(made, words);
     let mut to = pen;
     for k in bitsets::members(noted) {
@@ -187,14 +182,13 @@ fn add_type(buf: &mut [u8], pen: Pen, t: &[u64; 1544], words: &[u64], a: usize) 
 }
 
 // The items of all types, in name order (FORMAT 5.3).
-pub fn add_items(buf: &mut [u8], pen: Pen, t: &[u64; 1544], words: &[u64]) -> Pen
+pub fn add_items(buf: &mut [u8], pen: Pen, t: &Catalogue, words: &[u64]) -> Pen
     requires sound { Sound t.now × (64 ≤ length words.now) × WordsAre t.now words.now }
     requires room_for_all { RoomForAll buf.old pen (all_items t.now) }
     ensures { AddsAll buf.old buf.new pen result (all_items t.now) }
 {
-    let count = catalogue::count_in(t) as usize;
     let mut to = pen;
-    for a in 0..count {
+    for a in 0..t.count {
         to = add_type(buf, to, t, words, a);
     }
     to

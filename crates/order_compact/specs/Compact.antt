@@ -1,9 +1,14 @@
--- What the steps that fill the table leave in it, out of a draft.
-use Rattle.std.specs.Prelude.{List, ◌≡◌, ℕ, ◌+◌, ◌*◌, ◌%◌, ◌≤◌, ◌<◌, length}
+-- What the steps that fill the compact form leave in it, out of a draft.
+use Rattle.std.specs.Prelude.{List, ◌≡◌, ℕ, ◌+◌, ◌*◌, ◌≤◌, ◌<◌, get_or}
 use Rattle.bitsets.specs.Bitsets.{Lowest}
+use Rattle.ordering.specs.Reading as reading
+use Rattle.ordering.specs.Reading.{Parent, how_many}
+use Rattle.ordering.specs.declared.Parents.{Parents}
+use Rattle.order_table.specs.Keys.{first_of, second_of}
 use Rattle.sheet_draft.specs.Draft.{key_at, parent_count_at, parent_at}
-use Rattle.order_table.specs.Form.{number_of, type_in, listing_in, types_in}
+use Rattle.sheet_draft.specs.declared.Draft.{Draft}
 use Rattle.catalogue.specs.Layout.{looked}
+use Rattle.catalogue.specs.declared.Catalogue.{Catalogue}
 use Rattle.order_parents.specs.Parents.{row_of, KeysOf}
 
 -- The place of the one type of a set; n where there is none.
@@ -12,28 +17,41 @@ pub record PlaceIs (types n r : ℕ) : Type 0 where
   pub some : 0 < types → Lowest types r
 
 -- The keys of the names and of the parents are keys of two words.
-pub record Drafts (d entries : List ℕ) (n : ℕ) : Type 0 where
+pub record Drafts (d : Draft) (entries : List ℕ) (n : ℕ) : Type 0 where
   pub few : n ≤ 64
   pub name : (a : ℕ) → a < n → key_at d (row_of entries a) < 65536
   pub parents : (a : ℕ) → a < n → KeysOf d (row_of entries a)
 
--- A listed parent: its key, and the place of the type that has it, one of n.
-pub record ParentIs (t : List ℕ) (key n x : ℕ) : Type 0 where
-  pub place : PlaceIs (looked t key) n (number_of x)
-  pub name : x % 65536 ≡ key
+-- Type a: the words of its key, and how many parents it lists.
+pub record TypeIs (key count : ℕ) (l : Parents) (a : ℕ) : Type 0 where
+  pub first : get_or l.firsts a 0 ≡ first_of key
+  pub second : get_or l.seconds a 0 ≡ second_of key
+  pub many : how_many l a ≡ count
 
--- Type a and its first k parents, out of a row; what stood of the types before it is there still.
-pub record TypePut (t d : List ℕ) (row a n k : ℕ) (old new : List ℕ) : Type 0 where
-  pub long : length new ≡ length old
-  pub types : types_in new ≡ types_in old
-  pub others : (b : ℕ) → b < a → type_in new b ≡ type_in old b
-  pub earlier : (i : ℕ) → i < 8 * a → listing_in new i ≡ listing_in old i
-  pub type : type_in new a ≡ parent_count_at d row * 65536 + key_at d row
-  pub parents : (j : ℕ) → j < k → ParentIs t (parent_at d row j) n (listing_in new (8 * a + j))
+-- A listed parent: the words of its key, and the place of the type that has it, one of n.
+pub record ParentIs (t : Catalogue) (key n : ℕ) (q : Parent) : Type 0 where
+  pub first : q.first ≡ first_of key
+  pub second : q.second ≡ second_of key
+  pub place : PlaceIs (looked t key) n q.place
+
+-- What stands of the types before type a is there still.
+pub record KeptBefore (a : ℕ) (old new : Parents) : Type 0 where
+  pub count : new.count ≡ old.count
+  pub self_word : new.self_word ≡ old.self_word
+  pub firsts : (b : ℕ) → b < a → get_or new.firsts b 0 ≡ get_or old.firsts b 0
+  pub seconds : (b : ℕ) → b < a → get_or new.seconds b 0 ≡ get_or old.seconds b 0
+  pub counts : (b : ℕ) → b < a → how_many new b ≡ how_many old b
+  pub parents : (i : ℕ) → i < 8 * a → reading.parent_at new i ≡ reading.parent_at old i
+
+-- Type a and its first k parents, out of a row.
+pub record TypePut (t : Catalogue) (d : Draft) (row a n k : ℕ) (old new : Parents) : Type 0 where
+  pub kept : KeptBefore a old new
+  pub type : TypeIs (key_at d row) (parent_count_at d row) new a
+  pub parents : (j : ℕ) → j < k → ParentIs t (parent_at d row j) n (reading.parent_at new (8 * a + j))
 
 -- The first b of n types; w is the number of the word `self`.
-pub record Stands (t d entries : List ℕ) (n w b : ℕ) (l : List ℕ) : Type 0 where
-  pub long : length l ≡ 577
-  pub types : types_in l ≡ n * 65536 + w * 256
-  pub type : (a : ℕ) → a < b → type_in l a ≡ parent_count_at d (row_of entries a) * 65536 + key_at d (row_of entries a)
-  pub parents : (a k : ℕ) → a < b → k < parent_count_at d (row_of entries a) → ParentIs t (parent_at d (row_of entries a) k) n (listing_in l (8 * a + k))
+pub record Stands (t : Catalogue) (d : Draft) (entries : List ℕ) (n w b : ℕ) (l : Parents) : Type 0 where
+  pub count : l.count ≡ n
+  pub self_word : l.self_word ≡ w
+  pub type : (a : ℕ) → a < b → TypeIs (key_at d (row_of entries a)) (parent_count_at d (row_of entries a)) l a
+  pub parents : (a k : ℕ) → a < b → k < parent_count_at d (row_of entries a) → ParentIs t (parent_at d (row_of entries a) k) n (reading.parent_at l (8 * a + k))

@@ -11,12 +11,14 @@ use Rattle.sheet_keys.specs.Keys.{name_of_key}
 use Rattle.sheet_draft.specs.Draft.{key_at, type_in}
 use Rattle.sheet_draft.specs.Drafted.{Drafted}
 use Rattle.catalogue.specs.Catalogue.{Listed}
+use Rattle.catalogue.specs.declared.Catalogue.{Catalogue}
+use Rattle.sheet_draft.specs.declared.Draft.{Draft}
 use Rattle.order_parents.specs.Parents.{row_of}
 use Rattle.order_parents.specs.SheetLaws.{ByName, key-within, type-within, rows-count, row-at, prepared-of, rows_of}
 use Rattle.order_compact.specs.Compact.{Drafts}
 use Rattle.order_compact.specs.Reading.{Drawn}
 
-module _ (s : Sheet) (bs : List Bool) (d entries : List ℕ) (n : ℕ) (r : Drafted s bs d n) (size : length entries ≡ 64) (o : ByName s bs d entries n) where
+module _ (s : Sheet) (bs : List Bool) (d : Draft) (entries : List ℕ) (n : ℕ) (r : Drafted s bs d n) (size : length entries ≡ 64) (o : ByName s bs d entries n) where
   pub names_of : (a : ℕ) → a < n → (type_at (type_map_of s) a).name ≡ name_of_key (key_at d (row_of entries a))
   unfolding type_in
   names_of a h = ap (λ (T : TypeInfo). T.name) (row-at s bs d entries n r size o a h)
@@ -34,7 +36,7 @@ module _ (s : Sheet) (bs : List Bool) (d entries : List ℕ) (n : ℕ) (r : Draf
         parents = p.keys;
       }
 
-  pub drawn-of : (t : List ℕ) → line.Within s → Listed s t → Within (type_map_of s) → Drawn (type_map_of s) t d entries n (type_map_of s).self
+  pub drawn-of : (t : Catalogue) → line.Within s → Listed s t → Within (type_map_of s) → Drawn (type_map_of s) t d entries n (type_map_of s).self
   drawn-of t w l e = record {
     rows = rows_of s bs d entries n r size o t ((type_map_of s).self * 256) w l refl;
     names = names_of;

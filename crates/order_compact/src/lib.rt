@@ -1,21 +1,23 @@
-// The compact form of a map out of its draft, in a lent table.
+// The compact form of a map, out of its draft.
 #![tactic(auto)]
 
-ghost use Rattle.std.specs.Prelude.{◌≡◌, ◌≤◌, ◌<◌, length};
+ghost use Rattle.std.specs.Prelude.{◌≤◌, ◌<◌};
 ghost use Rattle.sheet_draft.specs.Draft.{key_at, parent_count_at};
 ghost use Rattle.catalogue.specs.Layout.{looked};
 ghost use Rattle.order_parents.specs.Parents.{KeysOf};
-ghost use Rattle.order_table.specs.Form.{form_of};
 ghost use Rattle.order_compact.specs.Compact.{PlaceIs, Drafts, TypePut};
 ghost use Rattle.order_compact.specs.Reading.{Compacts};
 
-// The place of the type that has a key; `count` where none has it (FORMAT 1.5). It is a number of the table, which has no other mark for
-// none.
-fn place_of(t: &[u64; 1544], key: u64, count: usize) -> usize
+use catalogue::Catalogue;
+use ordering::Parents;
+use sheet_draft::Draft;
+
+// The place of the type that has a key; `count` where none has it (FORMAT 1.5), as the column of places has it.
+fn place_of(t: &Catalogue, key: u64, count: usize) -> usize
     requires { (key < 65536) × (count ≤ 64) }
     ensures { PlaceIs (looked t.now key) count result × (result ≤ 64) }
 {
-    let types = catalogue::type_of(t, key);
+    let types = t.type_of(key);
     if types == 0 {
         return count;
     }
@@ -23,17 +25,17 @@ fn place_of(t: &[u64; 1544], key: u64, count: usize) -> usize
 }
 
 // Type a, which is in a row of the draft: its name and the parents that it lists.
-fn put_type(l: &mut [u64; 577], t: &[u64; 1544], d: &[u64; 704], row: usize, a: usize, count: usize)
-    requires l_len { length l.old ≡ 577 }
-    requires a_bound { (a < 64) × (count ≤ 64) × (key_at d.now row < 65536) }
+#[tactic(auto, using(crate::specs::FillLaws::type_start, crate::specs::FillLaws::type_more))]
+fn put_type(l: &mut Parents, t: &Catalogue, d: &Draft, row: usize, a: usize)
+    requires bounds { (a < 64) × (l.old.count ≤ 64) × (key_at d.now row < 65536) }
     requires keys_of { KeysOf d.now row }
-    ensures { TypePut t.now d.now row a count (parent_count_at d.now row) l.old l.new }
+    ensures { TypePut t.now d.now row a l.old.count (parent_count_at d.now row) l.old l.new }
 {
-    let many = sheet_draft::parent_count_at(d, row);
-    let name = sheet_draft::key_at(d, row);
-    order_table::put_type(l, a, name, many);
+    let count = l.count;
+    let many = d.parent_count(row);
+    order_table::put_type(l, a, d.keys[row], many);
     for k in 0..many {
-        let key = sheet_draft::parent_at(d, row, k);
+        let key = d.parent(row, k);
         let place = place_of(t, key, count);
         order_table::put_parent(l, 8 * a + k, key, place);
     }
@@ -41,20 +43,20 @@ fn put_type(l: &mut [u64; 577], t: &[u64; 1544], d: &[u64; 704], row: usize, a: 
 
 // The compact form of the map that the draft has; the catalogue has the names of its types.
 pub fn fill(
-    l: &mut [u64; 577],
-    t: &[u64; 1544],
-    d: &[u64; 704],
+    l: &mut Parents,
+    t: &Catalogue,
+    d: &Draft,
     entries: &[u64; 64],
     count: usize,
     self_word: u8,
 )
-    requires l_len { length l.old ≡ 577 }
-    requires drafts { Drafts d.now entries.now count }
-    ensures { Compacts t.now d.now entries.now count self_word (form_of l.new) }
+    requires { Drafts d.now entries.now count }
+    ensures { Compacts t.now d.now entries.now count self_word l.new }
 {
-    order_table::put_types(l, count, self_word);
+    l.count = count;
+    l.self_word = self_word;
     for a in 0..count {
         let row = (entries[a] % 64) as usize;
-        put_type(l, t, d, row, a, count);
+        put_type(l, t, d, row, a);
     }
 }

@@ -13,6 +13,7 @@ use Rattle.bits.specs.Writing.{put, Wrote}
 use Rattle.bits.specs.WriteLaws.{length-put, put-pack}
 use Rattle.catalogue.specs.Layout.{key_at}
 use Rattle.catalogue.specs.Catalogue.{name_of_key}
+use Rattle.catalogue.specs.declared.Catalogue.{Catalogue}
 use Rattle.item_pen.specs.declared.Pen.{Pen}
 use Rattle.item_pen.specs.Pen.{fresh, RoomFor, Adds}
 use Rattle.item_pen.specs.PenLaws.{adds_then, room-head, room-tail}
@@ -24,25 +25,24 @@ use Rattle.order_listing.specs.Listing.{Listing}
 use Rattle.order_listing.specs.Order.{name_of, names_in, names_bits, order_in}
 
 -- the bits from the i-th name on
-abbrev pub names_from : List ℕ → List ℕ → ℕ → ℕ → List Bool
+abbrev pub names_from : Catalogue → List ℕ → ℕ → ℕ → List Bool
 names_from t order n i = each name_bits (drop i (tabulate (name_of t order) n))
 
-pub names-all : (t order : List ℕ) (n : ℕ) → names_bits t order n ≡ names_from t order n 0
+pub names-all : (t : Catalogue) (order : List ℕ) (n : ℕ) → names_bits t order n ≡ names_from t order n 0
 unfolding names_bits names_in
 names-all t order n = refl
 
-pub names-next : (t order : List ℕ) (n i key : ℕ) → key ≡ key_at t (get_or order i 0) → i < n → names_from t order n i ≡ name_bits (name_of_key key) ++ names_from t order n (i + 1)
-names-next t order n i key e h =
-    from_next name_bits (name_of t order) n i h ∙ ap (λ (k : ℕ). name_bits (name_of_key k) ++ names_from t order n (i + 1)) (sym e)
+pub names-next : (t : Catalogue) (order : List ℕ) (n i : ℕ) → i < n → names_from t order n i ≡ name_bits (name_of t order i) ++ names_from t order n (i + 1)
+names-next t order n i h = from_next name_bits (name_of t order) n i h
 
-pub names-end : (t order : List ℕ) (n i : ℕ) → n ≤ i → names_from t order n i ≡ []
+pub names-end : (t : Catalogue) (order : List ℕ) (n i : ℕ) → n ≤ i → names_from t order n i ≡ []
 names-end t order n i h = from_end name_bits (name_of t order) n i h
 
 -- ---- how many bits
 
-pub alone-long : (key : ℕ) → key % 256 ≡ 0 → 9 ≡ length (name_bits (name_of_key key))
+pub alone_long : (key : ℕ) → key % 256 ≡ 0 → 9 ≡ length (name_bits (name_of_key key))
 unfolding name_bits
-alone-long key e = sym (rw (name-alone key e, length-append (to_bits 8 (key / 256)) (false ∷ []), length-to_bits 8))
+alone_long key e = sym (rw (name-alone key e, length-append (to_bits 8 (key / 256)) (false ∷ []), length-to_bits 8))
 
 pub paired_long : (key : ℕ) → (key % 256 ≡ 0 → ⊥) → 17 ≡ length (name_bits (name_of_key key))
 unfolding name_bits
@@ -50,32 +50,32 @@ paired_long key e =
     sym (rw (name-paired key e, length-append (to_bits 8 (key / 256)) (true ∷ to_bits 8 (key % 256 - 1)), length-to_bits 8 (key / 256), length-to_bits 8 (key % 256 - 1)))
 
 -- the first i names
-pub record SizeTo (t order : List ℕ) (i bits : ℕ) : Type 0 where
+pub record SizeTo (t : Catalogue) (order : List ℕ) (i bits : ℕ) : Type 0 where
   pub size : bits ≡ length (names_bits t order i)
   pub most : bits ≤ 17 * i
 
-pub size_none : (t order : List ℕ) → SizeTo t order 0 0
+pub size_none : (t : Catalogue) (order : List ℕ) → SizeTo t order 0 0
 unfolding names_bits names_in tabulate
 size_none t order = record { size = refl; most = omega arith }
 
-pub size-more : (t order : List ℕ) (i bits key x : ℕ) → key ≡ key_at t (get_or order i 0) → x ≡ length (name_bits (name_of_key key)) → x ≤ 17 → SizeTo t order i bits → SizeTo t order (i + 1) (bits + x)
+pub size_more : (t : Catalogue) (order : List ℕ) (i bits x : ℕ) → x ≡ length (name_bits (name_of t order i)) → x ≤ 17 → SizeTo t order i bits → SizeTo t order (i + 1) (bits + x)
 unfolding names_bits names_in
-size-more t order i bits key x e f h p = record {
+size_more t order i bits x f h p = record {
   size =
-      ap₂ (λ (a b : ℕ). a + b) p.size (f ∙ ap (λ (k : ℕ). length (name_bits (name_of_key k))) e)
+      ap₂ (λ (a b : ℕ). a + b) p.size f
       ∙ sym (length-append (each name_bits (tabulate (name_of t order) i)) (name_bits (name_of t order i)))
       ∙ sym (ap length (each_next name_bits (name_of t order) i));
   most = omega (arith, p.most);
 }
 
 key-size : (key : ℕ) → (x : ℕ) × (x ≡ length (name_bits (name_of_key key))) × (x ≤ 17)
-key-size key = by (eqb (key % 256) 0) (λ e. (9, alone-long key (eqb-true (key % 256) 0 e), omega arith)) (λ e. (17, paired_long key (eqb-false (key % 256) 0 e), omega arith))
+key-size key = by (eqb (key % 256) 0) (λ e. (9, alone_long key (eqb-true (key % 256) 0 e), omega arith)) (λ e. (17, paired_long key (eqb-false (key % 256) 0 e), omega arith))
 
-pub names-most : (t order : List ℕ) (n : ℕ) → length (names_bits t order n) ≤ 17 * n
+pub names-most : (t : Catalogue) (order : List ℕ) (n : ℕ) → length (names_bits t order n) ≤ 17 * n
 names-most t order zero = let p = size_none t order in omega (arith, p.size, p.most)
 names-most t order (suc n) =
     let k = key-size (key_at t (get_or order n 0)) in
-    let p = size-more t order n (length (names_bits t order n)) (key_at t (get_or order n 0)) k.0 refl k.1 k.2 (record { size = refl; most = names-most t order n }) in
+    let p = size_more t order n (length (names_bits t order n)) k.0 k.1 k.2 (record { size = refl; most = names-most t order n }) in
     let e : length (names_bits t order (suc n)) ≡ length (names_bits t order (n + 1)) = ap (λ (x : ℕ). length (names_bits t order x)) (sym (add-one n)) in
     omega (arith, e, p.size, p.most)
 
@@ -91,14 +91,14 @@ wrote-overwrite {a} {b} {q} {bs} w h = rw (length-pack_to (size (length bs)) bs)
 
 -- ---- all of it
 
-pub order-parts : (t order : List ℕ) (n : ℕ) → order_in t order n ≡ to_bits 7 n ++ names_bits t order n
+pub order-parts : (t : Catalogue) (order : List ℕ) (n : ℕ) → order_in t order n ≡ to_bits 7 n ++ names_bits t order n
 unfolding order_in order_bits names_bits names_in
 order-parts t order n = ap (λ (k : ℕ). to_bits 7 k ++ each name_bits (tabulate (name_of t order) n)) (length-tabulate (name_of t order) n)
 
-pub order-long : (t order : List ℕ) (n : ℕ) → length (order_in t order n) ≡ 7 + length (names_bits t order n)
+pub order-long : (t : Catalogue) (order : List ℕ) (n : ℕ) → length (order_in t order n) ≡ 7 + length (names_bits t order n)
 order-long t order n = ap length (order-parts t order n) ∙ length-append (to_bits 7 n) (names_bits t order n) ∙ ap (λ (k : ℕ). k + length (names_bits t order n)) (length-to_bits 7 n)
 
-module _ (buf t order : List ℕ) (n : ℕ) (small : n ≤ 64) (h : length (order_in t order n) ≤ 8 * length buf) where
+module _ (buf : List ℕ) (t : Catalogue) (order : List ℕ) (n : ℕ) (small : n ≤ 64) (h : length (order_in t order n) ≤ 8 * length buf) where
   room : RoomFor buf (fresh true) 0 (to_bits 7 n ++ names_bits t order n)
   room =
       let k : length (to_bits 7 n ++ names_bits t order n) ≡ length (order_in t order n) = ap length (sym (order-parts t order n)) in

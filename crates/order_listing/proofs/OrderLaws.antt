@@ -11,11 +11,12 @@ use Rattle.definitions.specs.Packing.{order_bits}
 use Rattle.ordering.specs.Reading.{type_at}
 use Rattle.catalogue.specs.Layout.{key_at}
 use Rattle.catalogue.specs.Catalogue.{name_of_key, Listed}
+use Rattle.catalogue.specs.declared.Catalogue.{Catalogue}
 use Rattle.order_parents.specs.SheetLaws.{line-count, line_at}
 use Rattle.order_rounds.specs.Organized.{Holds, Organized}
 use Rattle.order_listing.specs.Order.{name_of, names_in, order_in, Placed}
 
-module _ (s : Sheet) (t order : List ℕ) (n : ℕ) (whole : Bool) (l : Listed s t) (h : Holds (type_map_of s) t n whole) (o : Organized t n whole order true) where
+module _ (s : Sheet) (t : Catalogue) (order : List ℕ) (n : ℕ) (whole : Bool) (l : Listed s t) (h : Holds (type_map_of s) t n whole) (o : Organized t n whole order true) where
   pub placed_of : Placed order n
   placed_of = let few : n ≤ 64 = omega (arith, h.count, h.within.most) in record { few = few; place = λ i k. omega (arith, o.within refl i k) }
 

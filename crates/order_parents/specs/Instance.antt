@@ -1,5 +1,5 @@
 -- A draft, a catalogue and the map that they are of, computed: type `b` inherits `a`. The numbers of `a` and `b` are 2 and 3.
-use Rattle.std.specs.Prelude.{Bool, false, ◌&&◌, List, [], ◌∷◌, ◌++◌, ◌≡◌, refl, ℕ, zero, suc, ◌+◌, ◌*◌, ◌^◌, ◌<◌, ltb, replicate}
+use Rattle.std.specs.Prelude.{Bool, false, ◌&&◌, List, [], ◌∷◌, ◌≡◌, refl, ℕ, zero, suc, ◌+◌, ◌*◌, ◌^◌, ◌<◌, ltb, replicate}
 use Rattle.std.proofs.Common.{sym, ap, ◌∙◌, not-suc-le-zero, arith, ne_eqb, le-ltb}
 use Rattle.rows.specs.Rows.{has_bit}
 use Rattle.rows.specs.RowLaws.{bit-one, bit-none}
@@ -8,7 +8,9 @@ use Rattle.definitions.specs.Comparisons.{same_name, elem_name}
 use Rattle.definitions.specs.Map.{TypeMap}
 use Rattle.ordering.specs.Lists.{tab}
 use Rattle.ordering.specs.Reading.{type_at}
-use Rattle.catalogue.specs.Layout.{parents_at, looked}
+use Rattle.catalogue.specs.Layout.{parents_at, looked, blank}
+use Rattle.catalogue.specs.declared.Catalogue.{Catalogue}
+use Rattle.sheet_draft.specs.declared.Draft.{Draft}
 use Rattle.sheet_keys.specs.Keys.{name_of_key}
 use Rattle.sheet_draft.specs.Draft.{parent_count_at, parent_at}
 use Rattle.order_parents.specs.Parents.{row_of, KeysOf, Prepared}
@@ -21,15 +23,15 @@ abbrev pub pair : TypeMap
 pair = record { resource = 0; self = 1; types = typed 2 [] ∷ typed 3 ((2 ∷ []) ∷ []) ∷ []; extensions = [] }
 
 -- row 0 is `b`, with one parent, row 1 is `a`
-abbrev pub draft : List ℕ
-draft = 768 ∷ 512 ∷ replicate 62 0 ++ (1 ∷ replicate 127 0 ++ (512 ∷ []))
+abbrev pub draft : Draft
+draft = record { keys = 768 ∷ 512 ∷ []; heads = 1 ∷ []; places = []; parents = 512 ∷ [] }
 
 abbrev pub entries : List ℕ
 entries = (512 * 64 + 1) ∷ (768 * 64) ∷ replicate 62 0
 
 -- the sets of their first words, and of those of one word
-abbrev pub names : List ℕ
-names = replicate 1026 0 ++ (1 ∷ 2 ∷ replicate 252 0 ++ (3 ∷ []))
+abbrev pub names : Catalogue
+names = record blank { firsts = 0 ∷ 0 ∷ 1 ∷ 2 ∷ []; seconds = 3 ∷ [] }
 
 pub below_two : (P : ℕ → Type 0) → P 0 → P 1 → (a : ℕ) → a < 2 → P a
 below_two P x y zero h = x
@@ -74,8 +76,8 @@ pair-prepared = record {
     only (suc k) l = absurd (omega arith)
 
 -- the sets of their parents
-abbrev pub sets : List ℕ
-sets = replicate 257 0 ++ (1 ∷ [])
+abbrev pub sets : Catalogue
+sets = record blank { parents = 0 ∷ 1 ∷ [] }
 
 pub pair-sets : ParentSets pair sets
 unfolding has_bit

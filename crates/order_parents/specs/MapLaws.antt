@@ -21,6 +21,8 @@ use Rattle.law_classes.specs.Numbers.{place-of}
 use Rattle.sheet_keys.specs.Keys.{name_of_key}
 use Rattle.sheet_draft.specs.Draft.{parent_count_at, parent_at}
 use Rattle.catalogue.specs.Layout.{parents_at, looked}
+use Rattle.catalogue.specs.declared.Catalogue.{Catalogue}
+use Rattle.sheet_draft.specs.declared.Draft.{Draft}
 use Rattle.order_parents.specs.Parents.{known_key, row_of, keys_in, ParentsPut}
 use Rattle.order_parents.specs.Known.{known, all_known, ParentSets, Childed, Looks, Rows}
 use Rattle.order_parents.specs.declared.Found.{Found}
@@ -55,7 +57,7 @@ self-key key w =
     let z = eqb-false (key % 256) 0 e in
     rw (e, and-false (eqb (key / 256) w)) (ne_eqb key (w * 256) (λ x. z (omega arith))))
 
-module _ (m : TypeMap) (t : List ℕ) (own key : ℕ) (l : Looks m t key) (s : own ≡ m.self * 256) where
+module _ (m : TypeMap) (t : Catalogue) (own key : ℕ) (l : Looks m t key) (s : own ≡ m.self * 256) where
   declared-key : not (eqb (looked t key) 0) ≡ any (λ (T : TypeInfo). same_name (name_of_key key) T.name) m.types
   unfolding has_bit
   declared-key =
@@ -80,7 +82,7 @@ module _ (m : TypeMap) (t : List ℕ) (own key : ℕ) (l : Looks m t key) (s : o
 
 -- ---- all types
 
-module _ (m : TypeMap) (d entries : List ℕ) (n own : ℕ) (old new : List ℕ) (r : Found) (w : Rows m d entries n own old) (q : ParentsPut d entries own n old new r) where
+module _ (m : TypeMap) (d : Draft) (entries : List ℕ) (n own : ℕ) (old new : Catalogue) (r : Found) (w : Rows m d entries n own old) (q : ParentsPut d entries own n old new r) where
   -- the parents of one type
   looks-at : (a b : ℕ) → a < n → b < length m.types → any (λ key. has_bit (looked old key) b) (keys_in d (row_of entries a)) ≡ elem_name (type_at m b).name (type_at m a).parents
   unfolding keys_in
@@ -132,8 +134,8 @@ module _ (m : TypeMap) (d entries : List ℕ) (n own : ℕ) (old new : List ℕ)
       ∙ all-tab-same (λ a. a) (λ a. all (known_key old own) (keys_in d (row_of entries a))) (type_at m) (λ (T : TypeInfo). all (known m) T.parents) n known_at
       ∙ ap (all (λ (T : TypeInfo). all (known m) T.parents)) types_are
 
--- the sets stay where the parents in the table do
-pub sets-kept : (m : TypeMap) (t u : List ℕ) → ((a : ℕ) → a < length m.types → parents_at u a ≡ parents_at t a) → ParentSets m t → ParentSets m u
+-- the sets stay where the parents in the catalogue do
+pub sets-kept : (m : TypeMap) (t u : Catalogue) → ((a : ℕ) → a < length m.types → parents_at u a ≡ parents_at t a) → ParentSets m t → ParentSets m u
 sets-kept m t u e p = record {
   most = λ a h. rw (e a h) (p.most a h);
   bits = λ a b h k. ap (λ (x : ℕ). has_bit x b) (e a h) ∙ p.bits a b h k;

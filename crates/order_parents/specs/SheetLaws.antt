@@ -1,4 +1,5 @@
--- What the parents ask of the draft and the catalogue follows from what these are of a sheet; and what was put, in the catalogue's words.
+-- What the parents ask of the draft and the catalogue follows from what these are of a sheet; and what was put, in the
+-- catalogue's words.
 use Rattle.std.specs.Prelude.{Bool, true, false, ◌&&◌, cond, List, [], ◌∷◌, map, ◌≡◌, refl, ℕ, zero, suc, ◌+◌, ◌*◌, ◌-◌, ◌/◌, ◌%◌, ◌≤◌, ◌<◌, eqb, ltb, get_or, take}
 use Rattle.std.proofs.Math.Bool.{and-true}
 use mathlib.Core.List.Memᴰ
@@ -30,11 +31,13 @@ use Rattle.sheet_draft.specs.Draft.{parent_count_at, parent_at, type_in, types_i
 use Rattle.sheet_draft.specs.Drafted.{Drafted}
 use Rattle.catalogue.specs.Layout.{parents_at, first_at, second_at, looked}
 use Rattle.catalogue.specs.Catalogue.{first_is, second_is, Listed}
+use Rattle.catalogue.specs.declared.Catalogue.{Catalogue}
+use Rattle.sheet_draft.specs.declared.Draft.{Draft}
 use Rattle.order_parents.specs.Parents.{row_of, Prepared}
 use Rattle.order_parents.specs.Known.{Looks, Rows, ParentSets, Childed}
 
 -- the types of the draft by name, by the entries
-abbrev pub ByName : Sheet → List Bool → List ℕ → List ℕ → ℕ → Type 0
+abbrev pub ByName : Sheet → List Bool → Draft → List ℕ → ℕ → Type 0
 ByName s bs d entries n =
     map (λ e. type_in (length s.words) bs d (e % 64)) (take n entries) ≡ sort (λ (T U : TypeInfo). name_before T.name U.name) (types_in (length s.words) bs d n)
 
@@ -101,7 +104,7 @@ key-within W key n = record {
 }
 
 -- a key is looked up right in the catalogue of the names
-pub looks-of : (s : Sheet) (t : List ℕ) (key : ℕ) → Within s → Listed s t → KeyWithin (length s.words) key → Looks (type_map_of s) t key
+pub looks-of : (s : Sheet) (t : Catalogue) (key : ℕ) → Within s → Listed s t → KeyWithin (length s.words) key → Looks (type_map_of s) t key
 unfolding looked
 looks-of s t key w l k = record {
   most = omega (arith, and_le_r (first_at t (key / 256)) (second_at t (key % 256)), second_fits.most);
@@ -140,7 +143,7 @@ looks-of s t key w l k = record {
 
 -- ---- the draft
 
-module _ (s : Sheet) (bs : List Bool) (d entries : List ℕ) (n : ℕ) (r : Drafted s bs d n) (size : length entries ≡ 64) (o : ByName s bs d entries n) where
+module _ (s : Sheet) (bs : List Bool) (d : Draft) (entries : List ℕ) (n : ℕ) (r : Drafted s bs d n) (size : length entries ≡ 64) (o : ByName s bs d entries n) where
   abbrev row_type : ℕ → TypeInfo
   row_type e = type_in (length s.words) bs d (e % 64)
 
@@ -177,7 +180,7 @@ module _ (s : Sheet) (bs : List Bool) (d entries : List ℕ) (n : ℕ) (r : Draf
     };
   }
 
-  pub rows_of : (t : List ℕ) (own : ℕ) → Within s → Listed s t → own ≡ (type_map_of s).self * 256 → Rows (type_map_of s) d entries n own t
+  pub rows_of : (t : Catalogue) (own : ℕ) → Within s → Listed s t → own ≡ (type_map_of s).self * 256 → Rows (type_map_of s) d entries n own t
   rows_of t own w l e = record {
     few = r.few;
     count = sym rows-count;
@@ -189,7 +192,7 @@ module _ (s : Sheet) (bs : List Bool) (d entries : List ℕ) (n : ℕ) (r : Draf
 -- ---- what was put, in the catalogue's words
 
 module _ (s : Sheet) where
-  pub set_is : (t : List ℕ) → ParentSets (type_map_of s) t → (a : ℕ) → a < length (line_map s).types
+  pub set_is : (t : Catalogue) → ParentSets (type_map_of s) t → (a : ℕ) → a < length (line_map s).types
       → SetIs (line_map s) (parents_at t a) (λ (P : LineType). (lines.type_at (line_map s) a).inherits P.name)
   unfolding line_type_of
   set_is t p a h b k =
@@ -197,7 +200,7 @@ module _ (s : Sheet) where
       let i : b < length (type_map_of s).types = omega (arith, line-count s) in
       p.bits a b l i ∙ sym (ap₂ (λ (T P : LineType). T.inherits P.name) (line_at s a l) (line_at s b i))
 
-  pub set-fits : (t : List ℕ) → ParentSets (type_map_of s) t → (a : ℕ) → a < length (line_map s).types → Fits (line_map s) (parents_at t a)
+  pub set-fits : (t : Catalogue) → ParentSets (type_map_of s) t → (a : ℕ) → a < length (line_map s).types → Fits (line_map s) (parents_at t a)
   set-fits t p a h =
       let l : a < length (type_map_of s).types = omega (arith, line-count s) in
       record { most = p.most a l; within = λ b k. p.within a b l (omega (arith, line-count s)) }

@@ -1,11 +1,14 @@
 // The parents of each type as a set, out of the draft: bit b is the type at place b in name order.
 #![tactic(auto)]
 
-ghost use Rattle.std.specs.Prelude.{◌&&◌, not, ◌≡◌, ◌<◌, eqb, length};
+ghost use Rattle.std.specs.Prelude.{◌&&◌, not, ◌≡◌, eqb};
 ghost use Rattle.order_parents.specs.Parents.{KeysOf, Prepared, ParentsOf, ParentsPut};
 
-// A set of parents; and whether each name that was listed for it is that of a declared type, and not `self`. The set has the declared
-// parents also where some name is not.
+use catalogue::Catalogue;
+use sheet_draft::Draft;
+
+// A set of parents; and whether each name that was listed for it is that of a declared type, and not `self`. The set has the
+// declared parents also where some name is not.
 #[derive(Clone, Copy)]
 pub struct Found {
     pub set: u64,
@@ -20,15 +23,15 @@ fn is_known(place: u64, key: u64, own: u64) -> bool
 }
 
 // The parents of the type in a row of the draft; `own` is the key of the name `self`.
-fn parents_of(t: &[u64; 1544], d: &[u64; 704], row: usize, own: u64) -> Found
+fn parents_of(t: &Catalogue, d: &Draft, row: usize, own: u64) -> Found
     requires { KeysOf d.now row }
     ensures { ParentsOf t.now d.now row own result }
 {
     let mut set: u64 = 0;
     let mut whole = true;
-    for k in 0..sheet_draft::parent_count_at(d, row) {
-        let key = sheet_draft::parent_at(d, row, k);
-        let place = catalogue::type_of(t, key);
+    for k in 0..d.parent_count(row) {
+        let key = d.parent(row, k);
+        let place = t.type_of(key);
         set |= place;
         whole &= is_known(place, key, own);
     }
@@ -38,13 +41,12 @@ fn parents_of(t: &[u64; 1544], d: &[u64; 704], row: usize, own: u64) -> Found
 // The parents of each type into the catalogue. The answer has the types that are a parent, and whether each listed parent is
 // declared, and none is `self`: without that there is no order (FORMAT 3.2).
 pub fn put_parents(
-    t: &mut [u64; 1544],
-    d: &[u64; 704],
+    t: &mut Catalogue,
+    d: &Draft,
     entries: &[u64; 64],
     count: usize,
     own: u64,
 ) -> Found
-    requires t_len { length t.old ≡ 1544 }
     requires prepared { Prepared d.now entries.now count }
     ensures { ParentsPut d.now entries.now own count t.old t.new result }
 {
@@ -53,7 +55,7 @@ pub fn put_parents(
     for a in 0..count {
         let row = (entries[a] % 64) as usize;
         let found = parents_of(t, d, row, own);
-        catalogue::put_parents(t, a, found.set);
+        t.parents[a] = found.set;
         set |= found.set;
         whole &= found.whole;
     }

@@ -9,7 +9,6 @@ use Rattle.lists.specs.Lists.{In, any, all, place_of}
 use Rattle.lists.specs.Tests.{by, never, not_so, and_left, and_right, and_both, any_of, any-not, any_none, all_in, all_of}
 use Rattle.lists.specs.Appending.{any-map, all_map}
 use Rattle.lists.specs.Places.{get_d-in}
-use Rattle.lists.specs.Tabulating.{tabulate, get_d_tabulate}
 use Rattle.rows.specs.Rows.{has_bit}
 use Rattle.definitions.specs.Records.{Name, TypeInfo}
 use Rattle.definitions.specs.Comparisons.{same_name}
@@ -25,6 +24,7 @@ use Rattle.parent_laws.specs.Earlier.{at-below, parent-earlier, all-below}
 use Rattle.law_classes.specs.Numbers.{place-of}
 use Rattle.item_spread.specs.Spread.{Ordered}
 use Rattle.catalogue.specs.Layout.{parents_at}
+use Rattle.catalogue.specs.declared.Catalogue.{Catalogue}
 use Rattle.order_parents.specs.Known.{known, all_known}
 use Rattle.order_rounds.specs.Rounds.{SetsFor, Sets, Placed}
 use Rattle.order_rounds.specs.Organized.{Holds, Asked, Organized}
@@ -69,7 +69,7 @@ module _ (m : TypeMap) (k : all_known m ≡ true) where
 
 -- ---- the sets are those of the compact form
 
-module _ (m : TypeMap) (t : List ℕ) (n : ℕ) (h : Holds m t n true) where
+module _ (m : TypeMap) (t : Catalogue) (n : ℕ) (h : Holds m t n true) where
   abbrev p : Parents
   p = compact_of m
 
@@ -151,11 +151,11 @@ module _ (m : TypeMap) (w : Within m) (e : has_order m ≡ true) where
 
 -- ---- what the order answers
 
-holds-true : (t : List ℕ) (n : ℕ) (w : Bool) → w ≡ true → (m : TypeMap) → Holds m t n w → Holds m t n true
+holds-true : (t : Catalogue) (n : ℕ) (w : Bool) → w ≡ true → (m : TypeMap) → Holds m t n w → Holds m t n true
 holds-true t n w z m h = record { within = h.within; count = h.count; sets = h.sets; known = sym z ∙ h.known }
 
 -- a parent that is not known leaves no order
-pub none_found : (t : List ℕ) (n : ℕ) (w : Bool) (order : List ℕ) → w ≡ false → length order ≡ 64 → Organized t n w order false
+pub none_found : (t : Catalogue) (n : ℕ) (w : Bool) (order : List ℕ) → w ≡ false → length order ≡ 64 → Organized t n w order false
 none_found t n w order z l = record {
   long = l;
   found = λ m h. sym (not_so (λ e. never (order-known m h.within e) (sym h.known ∙ z)));
@@ -166,13 +166,13 @@ none_found t n w order z l = record {
 }
 
 -- the same of what is asked, where each is
-asked-true : (t : List ℕ) (n : ℕ) (w : Bool) → w ≡ true → Asked t n w → Asked t n true
+asked-true : (t : Catalogue) (n : ℕ) (w : Bool) → w ≡ true → Asked t n w → Asked t n true
 asked-true t n w z a = record { map = a.map; holds = holds-true t n w z a.map a.holds }
 
-pub some-sets : (t : List ℕ) (n : ℕ) (w : Bool) → w ≡ true → Asked t n w → Sets t n
+pub some-sets : (t : Catalogue) (n : ℕ) (w : Bool) → w ≡ true → Asked t n w → Sets t n
 some-sets t n w z a = record { compact = compact_of a.map; right = sets-for a.map t n (holds-true t n w z a.map a.holds) }
 
-module _ (t : List ℕ) (n : ℕ) (order : List ℕ) (r : ℕ) (a : Asked t n true) (q : Placed t n order r) where
+module _ (t : Catalogue) (n : ℕ) (order : List ℕ) (r : ℕ) (a : Asked t n true) (q : Placed t n order r) where
   found-is : (m : TypeMap) → Holds m t n true → eqb r n ≡ has_order m
   found-is m h =
       let s = sets-for m t n h in
@@ -208,7 +208,7 @@ module _ (t : List ℕ) (n : ℕ) (order : List ℕ) (r : ℕ) (a : Asked t n tr
     unfolding final
     has_all b h = let s = right in rw whole (count-full one one.count (size ∙ sym s.count) b (omega (arith, s.count)))
 
-    ordered-is : Ordered order n (tabulate (parents_at t) 64)
+    ordered-is : Ordered order n t.parents
     ordered-is =
         let s = right in
         record {
@@ -216,13 +216,12 @@ module _ (t : List ℕ) (n : ℕ) (order : List ℕ) (r : ℕ) (a : Asked t n tr
           few = s.few;
           place = λ i h. omega (arith, place-in i h, s.few);
           before = λ i b h k f.
-              let g : has_bit (parents_at t (get_or order i 0)) b ≡ true = ap (λ (x : ℕ). has_bit x b) (sym (get_d_tabulate (parents_at t) 64 (get_or order i 0) 0 (omega (arith, place-in i h, s.few)))) ∙ f in
-              let x = any_of (λ (y : Parent). eqb y.place b) (listed one (get_or order i 0)) (sym (s.bits (get_or order i 0) b (place-in i h)) ∙ g) in
+              let x = any_of (λ (y : Parent). eqb y.place b) (listed one (get_or order i 0)) (sym (s.bits (get_or order i 0) b (place-in i h)) ∙ f) in
               let z = parent-earlier one s.no_self i (omega (arith, size)) x.0 (subst (λ (y : ℕ). In x.0 (listed one y)) (sym (at i h)) x.1) in
               ap₂ elem (sym (eqb-true x.0.place b x.2)) (sym (take-take i n order (omega arith)) ∙ ap (take i) whole) ∙ z;
         }
 
-pub organized : (t : List ℕ) (n : ℕ) (w : Bool) (order : List ℕ) (r : ℕ) → w ≡ true → Asked t n w → Placed t n order r → Organized t n w order (eqb r n)
+pub organized : (t : Catalogue) (n : ℕ) (w : Bool) (order : List ℕ) (r : ℕ) → w ≡ true → Asked t n w → Placed t n order r → Organized t n w order (eqb r n)
 organized t n w order r z a q =
     let b = asked-true t n w z a in
     record {

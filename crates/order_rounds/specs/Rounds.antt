@@ -8,6 +8,7 @@ use Rattle.ordering.specs.Reading.{Parent, listed}
 use Rattle.ordering.specs.Rounds.{lists_self, final}
 use Rattle.ordering.specs.declared.Parents.{Parents}
 use Rattle.catalogue.specs.Layout.{parents_at}
+use Rattle.catalogue.specs.declared.Catalogue.{Catalogue}
 
 -- Whether each type of a set is in a list.
 unfoldable pub all_listed_in : ℕ → List ℕ → Bool
@@ -18,7 +19,7 @@ pub record AllPlaced (types : ℕ) (out : List ℕ) : Type 0 where
   pub there : (b : ℕ) → has_bit types b ≡ true → elem b out ≡ true
 
 -- Those of the types whose parents are all placed (FORMAT 3.4).
-pub record ReadyIn (t : List ℕ) (types : ℕ) (out : List ℕ) (r : ℕ) : Type 0 where
+pub record ReadyIn (t : Catalogue) (types : ℕ) (out : List ℕ) (r : ℕ) : Type 0 where
   pub bits : (a : ℕ) → has_bit r a ≡ (has_bit types a && all_listed_in (parents_at t a) out)
 
 -- A child more of each type of a set.
@@ -32,7 +33,7 @@ pub record Childless (children : List ℕ) : Type 0 where
   pub none : (b : ℕ) → b < 64 → ◌≡◌ {A = ℕ} (get_or children b 0) 0
 
 -- The children of the first n types stand in the list; r has those without parents.
-pub record ChildrenPut (t : List ℕ) (n : ℕ) (children : List ℕ) (r : ℕ) : Type 0 where
+pub record ChildrenPut (t : Catalogue) (n : ℕ) (children : List ℕ) (r : ℕ) : Type 0 where
   pub long : length children ≡ 64
   pub bits : (b c : ℕ) → b < 64 → has_bit (get_or children b 0) c ≡ (ltb c n && has_bit (parents_at t c) b)
   pub free : (a : ℕ) → has_bit r a ≡ (ltb a n && eqb (parents_at t a) 0)
@@ -44,7 +45,7 @@ pub record Appended (old new : List ℕ) (n types r : ℕ) : Type 0 where
   pub taken : take r new ≡ take n old ++ members types
 
 -- The sets are the parents that a compact form lists, of which none is `self`.
-pub record SetsFor (p : Parents) (t : List ℕ) (n : ℕ) : Type 0 where
+pub record SetsFor (p : Parents) (t : Catalogue) (n : ℕ) : Type 0 where
   pub few : n ≤ 64
   pub count : p.count ≡ n
   pub most : (a : ℕ) → a < n → parents_at t a < 2 ^ 64
@@ -52,12 +53,12 @@ pub record SetsFor (p : Parents) (t : List ℕ) (n : ℕ) : Type 0 where
   pub no_self : lists_self p ≡ false
 
 -- They are those of some map.
-pub record Sets (t : List ℕ) (n : ℕ) : Type 0 where
+pub record Sets (t : Catalogue) (n : ℕ) : Type 0 where
   pub compact : Parents
   pub right : SetsFor compact t n
 
 -- What all rounds place stands in the order.
-pub record Placed (t : List ℕ) (n : ℕ) (order : List ℕ) (r : ℕ) : Type 0 where
+pub record Placed (t : Catalogue) (n : ℕ) (order : List ℕ) (r : ℕ) : Type 0 where
   pub long : length order ≡ 64
   pub places : (p : Parents) → SetsFor p t n → take r order ≡ final p
   pub count : (p : Parents) → SetsFor p t n → r ≡ length (final p)

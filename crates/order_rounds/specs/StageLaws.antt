@@ -24,6 +24,7 @@ use Rattle.ordering.specs.Rounds.{settled, is_ready, free, next, round, placed, 
 use Rattle.ordering.specs.declared.Parents.{Parents}
 use Rattle.item_spread.specs.Spread.{United}
 use Rattle.catalogue.specs.Layout.{parents_at}
+use Rattle.catalogue.specs.declared.Catalogue.{Catalogue}
 use Rattle.order_rounds.specs.Rounds.{all_listed_in, AllPlaced, ReadyIn, ChildrenPut, Appended, SetsFor}
 
 -- a set with a number in it has a member
@@ -53,7 +54,7 @@ appended-placed old new n types r m a = record {
       ap (elem b) a.taken ∙ elem-right b (take n old) (members types) (any-in (eqb b) (in_members types l h) (eq-eqb b b refl));
 }
 
-module _ (p : Parents) (t : List ℕ) (n : ℕ) where
+module _ (p : Parents) (t : Catalogue) (n : ℕ) where
   -- after k rounds: the order, the types that are ready now, and those that wait
   pub record Stage (k size : ℕ) (order : List ℕ) (ready waiting : ℕ) : Type 0 where
     pub many : size ≡ length (placed p k)

@@ -1,5 +1,5 @@
 -- The steps of the loops.
-use Rattle.std.specs.Prelude.{Bool, true, false, ◌&&◌, ◌||◌, not, List, [], ◌∷◌, ◌++◌, ◌≡◌, refl, ℕ, zero, suc, ◌+◌, ◌-◌, ◌≤◌, ◌<◌, eqb, ltb, length, get_or, take, set}
+use Rattle.std.specs.Prelude.{Bool, true, false, ◌&&◌, ◌||◌, not, List, [], ◌∷◌, ◌++◌, ◌≡◌, refl, ℕ, zero, suc, ◌+◌, ◌≤◌, ◌<◌, eqb, ltb, length, get_or, take, set}
 use Rattle.std.proofs.Math.Bool.{or-false, or-true, and-true, and-false}
 use Rattle.std.proofs.Common.{append-nil, append_assoc, sym, ap, ap₂, ◌∙◌, add-one, arith, length-set, take-suc-set, get_or-set_same, get_or-set_other}
 use borrow.Author.Tests.{eq-eqb, ne_eqb, eqb-true, eqb-false, lt-ltb, le-ltb}
@@ -10,6 +10,7 @@ use Rattle.bitsets.specs.Bitsets.{members, more, less, Lowest, Rest}
 use Rattle.bitsets.specs.BitLaws.{bit-more, bit-less, rest-is, in_members, members-of, members-next, members-none}
 use Rattle.ordering.specs.Lists.{elem}
 use Rattle.catalogue.specs.Layout.{parents_at}
+use Rattle.catalogue.specs.declared.Catalogue.{Catalogue}
 use Rattle.order_rounds.specs.Rounds.{all_listed_in, AllPlaced, ReadyIn, ChildAdded, Childless, ChildrenPut, Appended}
 
 -- a number that stands at none of the first n places
@@ -18,13 +19,6 @@ elem-none x [] zero h = refl
 elem-none x [] (suc n) h = refl
 elem-none x (y ∷ l) zero h = refl
 elem-none x (y ∷ l) (suc n) h = or-false-both (ne_eqb x y (λ e. h 0 (omega arith) (sym e))) (elem-none x l n (λ i k. h (suc i) (omega arith)))
-
--- one place more from above
-pub none-lower : (l : List ℕ) (x j n : ℕ) → 0 < j → ((i : ℕ) → j ≤ i → i < n → get_or l i 0 ≡ x → ⊥) → (get_or l (j - 1) 0 ≡ x → ⊥) → (i : ℕ) → j - 1 ≤ i → i < n → get_or l i 0 ≡ x → ⊥
-none-lower l x j n p h k i a b e =
-    by (eqb i (j - 1))
-    (λ q. k (ap (λ (y : ℕ). get_or l y 0) (sym (eqb-true i (j - 1) q)) ∙ e))
-    (λ q. let z = eqb-false i (j - 1) q in h i (omega (arith, z)) b e)
 
 -- ---- the types without parents, and the children of each
 
@@ -92,7 +86,7 @@ module _ (old : List ℕ) (parents a : ℕ) where
         ∙ p.bits b c h;
   }
 
-module _ (t : List ℕ) where
+module _ (t : Catalogue) where
   pub children-none : (l : List ℕ) → Childless l → ChildrenPut t 0 l 0
   children-none l p = record {
     long = p.long;
@@ -100,11 +94,11 @@ module _ (t : List ℕ) where
     free = λ a. bit-none a ∙ sym (rw (le-ltb a 0 (omega arith)));
   }
 
-  more-children : (n : ℕ) (l new : List ℕ) (r x : ℕ) → x ≡ parents_at t n → ChildAdded l new x n → ChildrenPut t n l r → (b c : ℕ) → b < 64
+  more-children : (n : ℕ) (l new : List ℕ) (r : ℕ) → ChildAdded l new (parents_at t n) n → ChildrenPut t n l r → (b c : ℕ) → b < 64
       → has_bit (get_or new b 0) c ≡ (ltb c (n + 1) && has_bit (parents_at t c) b)
-  more-children n l new r x e a p b c h =
+  more-children n l new r a p b c h =
       a.bits b c h
-      ∙ ap₂ (λ (d y : Bool). d || (y && eqb n c)) (p.bits b c h) (ap (λ (y : ℕ). has_bit y b) e)
+      ∙ ap (λ (d : Bool). d || (has_bit (parents_at t n) b && eqb n c)) (p.bits b c h)
       ∙ by (eqb n c)
       (λ q.
       let z = eqb-true n c q in
@@ -118,26 +112,26 @@ module _ (t : List ℕ) where
       ∙ or-false (ltb c n && has_bit (parents_at t c) b)
       ∙ ap (λ (d : Bool). d && has_bit (parents_at t c) b) (sym (ltb-step c n ∙ ap (λ (d : Bool). ltb c n || d) q ∙ or-false (ltb c n))))
 
-  pub children-yes : (n : ℕ) (l new : List ℕ) (r x y : ℕ) → x ≡ parents_at t n → x ≡ 0 → ChildAdded l new x n → y ≡ more r n → ChildrenPut t n l r → ChildrenPut t (n + 1) new y
-  children-yes n l new r x y e z a g p = record {
+  pub children-yes : (n : ℕ) (l new : List ℕ) (r y : ℕ) → parents_at t n ≡ 0 → ChildAdded l new (parents_at t n) n → y ≡ more r n → ChildrenPut t n l r → ChildrenPut t (n + 1) new y
+  children-yes n l new r y z a g p = record {
     long = a.long ∙ p.long;
-    bits = more-children n l new r x e a p;
+    bits = more-children n l new r a p;
     free = λ a.
         ap (λ (k : ℕ). has_bit k a) g
         ∙ bit-more r n a
         ∙ ap (λ (b : Bool). b || eqb n a) (p.free a)
-        ∙ one_more (ltb a n) (eqb n a) (eqb (parents_at t a) 0) (λ q. ap (λ (k : ℕ). eqb (parents_at t k) 0) (sym (eqb-true n a q)) ∙ eq-eqb _ _ (sym e ∙ z))
+        ∙ one_more (ltb a n) (eqb n a) (eqb (parents_at t a) 0) (λ q. ap (λ (k : ℕ). eqb (parents_at t k) 0) (sym (eqb-true n a q)) ∙ eq-eqb _ _ z)
         ∙ ap (λ (b : Bool). b && eqb (parents_at t a) 0) (sym (ltb-step a n));
   }
 
-  pub children-no : (n : ℕ) (l new : List ℕ) (r x y : ℕ) → x ≡ parents_at t n → (x ≡ 0 → ⊥) → ChildAdded l new x n → y ≡ r → ChildrenPut t n l r → ChildrenPut t (n + 1) new y
-  children-no n l new r x y e z a g p = record {
+  pub children-no : (n : ℕ) (l new : List ℕ) (r y : ℕ) → (parents_at t n ≡ 0 → ⊥) → ChildAdded l new (parents_at t n) n → y ≡ r → ChildrenPut t n l r → ChildrenPut t (n + 1) new y
+  children-no n l new r y z a g p = record {
     long = a.long ∙ p.long;
-    bits = more-children n l new r x e a p;
+    bits = more-children n l new r a p;
     free = λ a.
         ap (λ (k : ℕ). has_bit k a) g
         ∙ p.free a
-        ∙ one_less (ltb a n) (eqb n a) (eqb (parents_at t a) 0) (λ q. ap (λ (k : ℕ). eqb (parents_at t k) 0) (sym (eqb-true n a q)) ∙ ne_eqb _ _ (λ w. z (e ∙ w)))
+        ∙ one_less (ltb a n) (eqb n a) (eqb (parents_at t a) 0) (λ q. ap (λ (k : ℕ). eqb (parents_at t k) 0) (sym (eqb-true n a q)) ∙ ne_eqb _ _ z)
         ∙ ap (λ (b : Bool). b && eqb (parents_at t a) 0) (sym (ltb-step a n));
   }
 
@@ -160,7 +154,7 @@ others-in parents last out h =
     let m = members-of (less parents last) i in
     all_in (λ c. elem c out) e (in_members parents m.0 (and_left (has_bit parents b) (not (has_bit last b)) (sym (bit-less parents last b) ∙ m.1)))))
 
-module _ (t : List ℕ) (types : ℕ) (out : List ℕ) where
+module _ (t : Catalogue) (types : ℕ) (out : List ℕ) where
   abbrev is_one : ℕ → Bool
   is_one a = all_listed_in (parents_at t a) out
 

@@ -1,5 +1,5 @@
 -- How the compact form reads a type map.
-use Rattle.std.specs.Prelude.{Bool, true, false, ◌&&◌, List, [], map, ◌≡◌, ℕ, ◌+◌, ◌*◌, ◌≤◌, ◌<◌, eqb, ltb, length, get_or}
+use Rattle.std.specs.Prelude.{Bool, true, false, ◌&&◌, List, [], map, ◌≡◌, ℕ, ◌+◌, ◌*◌, ◌≤◌, ◌<◌, eqb, ltb, length, get_or, replicate}
 use Rattle.lists.specs.Lists.{all, repeats, place_of}
 use Rattle.definitions.specs.Records.{Name, domain, TypeInfo}
 use Rattle.definitions.specs.Comparisons.{same_name}
@@ -9,6 +9,19 @@ use Rattle.ordering.specs.Lists.{tab, tab-length}
 use Rattle.ordering.specs.declared.Parents.{Parents}
 
 -- ---- the compact form by itself
+
+-- the form of no types
+unfoldable pub blank : Parents
+blank = record {
+  count = 0;
+  self_word = 0;
+  firsts = replicate 64 0;
+  seconds = replicate 64 0;
+  counts = replicate 64 0;
+  places = replicate 512 0;
+  parent_firsts = replicate 512 0;
+  parent_seconds = replicate 512 0;
+}
 
 -- a listed parent: the place of the type that it names, and its words
 pub record Parent : Type 0 where

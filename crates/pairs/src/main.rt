@@ -8,23 +8,36 @@ ghost use Rattle.std.specs.Prelude.{◌<◌, ◌≤◌, IfOk};
 ghost use Rattle.annotations.specs.Reading.{Held};
 
 use annotations::AnnotationInfo;
-use rows::Row;
-use std::io;
+use std::fmt::Display;
 use std::io::{BufReader, BufWriter, Read, Write};
+use std::{fmt, io};
 
-fn row_of(high: u8, low: u8) -> Row {
-    Row {
-        a: u64::from(high) * 256 + u64::from(low),
-        b: 0,
-        c: 0,
-        d: 0,
+// An annotation as a line holds it.
+#[derive(Clone, Copy)]
+struct Numbers<'a>(&'a AnnotationInfo);
+
+impl fmt::Display for Numbers<'_> {
+    fn fmt<W: fmt::Write>(&self, f: &mut fmt::Formatter<W>) -> fmt::Result {
+        let x = self.0;
+        write!(f, "{} {} {}", x.kind, x.tag, x.count)?;
+        for (word, dom) in x.words.iter().zip(x.doms.iter()).take(x.count) {
+            write!(f, " {word} {}", dom.a)?;
+        }
+        Ok(())
     }
 }
 
-fn read_three<R: Read>(input: &mut R) -> io::Result<[u8; 3]> {
-    let mut three = [0u8; 3];
-    console::read_full(input, &mut three)?;
-    Ok(three)
+// The same, or `none`.
+#[derive(Clone, Copy)]
+struct Part(Option<AnnotationInfo>);
+
+impl fmt::Display for Part {
+    fn fmt<W: fmt::Write>(&self, f: &mut fmt::Formatter<W>) -> fmt::Result {
+        match &self.0 {
+            Some(x) => Numbers(x).fmt(f),
+            None => f.write_str("none"),
+        }
+    }
 }
 
 fn read_resources<R: Read>(
@@ -40,9 +53,9 @@ fn read_resources<R: Read>(
     let mut words = [0u8; 15];
     let mut doms = [none; 15];
     for i in 0..count {
-        let three = read_three(input)?;
-        words[i] = three[0];
-        doms[i] = row_of(three[1], three[2]);
+        let [word, high, low]: [u8; 3] = console::read_padded(input)?;
+        words[i] = word;
+        doms[i].a = u64::from(u16::from_be_bytes([high, low]));
     }
     Ok(AnnotationInfo {
         kind,
@@ -57,70 +70,61 @@ fn read_resources<R: Read>(
 fn read_annotation<R: Read>(input: &mut R, head: [u8; 3]) -> io::Result<AnnotationInfo>
     ensures { IfOk result (λ x. Held x) }
 {
-    let kind = head[0].min(6);
-    let count = head[2].min(15);
-    read_resources(input, kind, head[1], usize::from(count))
+    let [kind, tag, count] = head;
+    read_resources(input, kind.min(6), tag, usize::from(count.min(15)))
 }
 
-fn print_number<W: Write>(out: &mut W, n: u64) -> io::Result<()> {
-    write!(out, " {n}")
+// Two annotations that can be compared.
+#[derive(Clone, Copy)]
+struct Pair {
+    x: AnnotationInfo,
+    y: AnnotationInfo,
+    ghost first: { Held x },
+    ghost second: { Held y },
 }
 
-fn print_resource<W: Write>(out: &mut W, word: u8, doms: Row) -> io::Result<()> {
-    print_number(out, u64::from(word))?;
-    print_number(out, doms.a)
-}
-
-fn print_annotation<W: Write>(out: &mut W, x: AnnotationInfo) -> io::Result<()> {
-    print_number(out, u64::from(x.kind))?;
-    print_number(out, u64::from(x.tag))?;
-    print_number(out, x.count as u64)?;
-    let words = x.words;
-    let doms = x.doms;
-    for (w, d) in words.iter().zip(doms.iter()).take(x.count) {
-        print_resource(out, *w, *d)?;
-    }
-    Ok(())
-}
-
-fn print_part<W: Write>(out: &mut W, part: Option<AnnotationInfo>) -> io::Result<()> {
-    match part {
-        Some(x) => print_annotation(out, x),
-        None => write!(out, " none"),
+impl Pair {
+    fn answer<W: Write>(&self, out: &mut W) -> io::Result<()> {
+        let shared = Part(annotations::intersection(self.x, self.y));
+        let rest = Part(annotations::difference(self.x, self.y));
+        writeln!(out, " {shared} | {rest}")?;
+        out.flush()
     }
 }
 
-fn print_both<W: Write>(out: &mut W, x: AnnotationInfo, y: AnnotationInfo) -> io::Result<()>
-    requires { Held x × Held y }
-{
-    let shared = annotations::intersection(x, y);
-    print_part(out, shared)?;
-    write!(out, " |")?;
-    let rest = annotations::difference(x, y);
-    print_part(out, rest)?;
-    writeln!(out)
+// The pairs of an input, each read when it is asked for.
+#[derive(Drop)]
+struct Pairs<R: Read + Drop> {
+    input: R,
 }
 
-// The next pair, if there is one.
-fn answer<R: Read, W: Write>(input: &mut R, out: &mut W) -> io::Result<bool> {
-    let Some(head) = console::read_array(input)? else {
-        return Ok(false);
-    };
-    let x = read_annotation(input, head)?;
-    let second = read_three(input)?;
-    let y = read_annotation(input, second)?;
-    print_both(out, x, y)?;
-    out.flush()?;
-    Ok(true)
+impl<R: Read + Drop> Pairs<R> {
+    // None where the input ends before a pair; what it lacks within one counts as 0.
+    fn read_next(&mut self) -> io::Result<Option<Pair>> {
+        let Some(head) = console::read_array(&mut self.input)? else {
+            return Ok(None);
+        };
+        let x = read_annotation(&mut self.input, head)?;
+        let head = console::read_padded(&mut self.input)?;
+        let y = read_annotation(&mut self.input, head)?;
+        Ok(Some(Pair { x, y }))
+    }
+}
+
+impl<R: Read + Drop> Iterator for Pairs<R> {
+    type Item = io::Result<Pair>;
+
+    fn next(&mut self) -> Option<io::Result<Pair>> {
+        self.read_next().transpose()
+    }
 }
 
 fn main(rt: HostRuntime) -> io::Result<()> {
-    let mut input = BufReader::new(rt.alloc(), rt.reader())?;
+    let input = BufReader::new(rt.alloc(), rt.reader())?;
     let mut out = BufWriter::new(rt.alloc(), io::writer(&rt))?;
-    for _ in 0..1000000000u64 {
-        if !answer(&mut input, &mut out)? {
-            break;
-        }
+    let pairs = Pairs { input };
+    for pair in pairs.take(console::MANY) {
+        pair?.answer(&mut out)?;
     }
     out.flush()
 }

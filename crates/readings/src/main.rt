@@ -13,10 +13,23 @@ use std::io::{BufReader, BufWriter, Read, Write};
 // The most bytes of standard input.
 const MOST: u64 = 65536;
 
-// What stands behind the length of a sheet: its refusal, or also those of the damaged sheet, or what the order program prints.
-const ALONE: u8 = 0;
+// What is asked for a sheet: its refusal, or also those of the damaged sheet, or what the order program prints.
+#[derive(Clone, Copy)]
+enum Mode {
+    Alone,
+    Damaged,
+    Printed,
+}
 
-const PRINTED: u8 = 2;
+impl From<u8> for Mode {
+    fn from(byte: u8) -> Mode {
+        match byte {
+            0 => Mode::Alone,
+            2 => Mode::Printed,
+            _ => Mode::Damaged,
+        }
+    }
+}
 
 // A listing of one byte is too short or is filled: neither 8 nor 10 is asked for here.
 fn refusal(sheet: &[u8]) -> usize {
@@ -60,44 +73,71 @@ fn print_all_flipped<W: Write>(out: &mut W, sheet: &mut [u8]) -> io::Result<()> 
     Ok(())
 }
 
-// One record: by its mode what the order program prints, or the sheet's refusal, and where it is asked for those of the
-// damaged sheet.
-fn answer<W: Write>(alloc: Global, out: &mut W, mut sheet: Vec<u8>, mode: u8) -> io::Result<()> {
-    if mode == PRINTED {
-        return printing::print_order(alloc, out, sheet.as_slice());
-    }
-    print(out, sheet.as_slice())?;
-    if mode != ALONE {
-        write!(out, " ")?;
-        print_cut(out, sheet.as_slice())?;
-        write!(out, " ")?;
-        print_all_flipped(out, sheet.as_mut_slice())?;
-    }
-    writeln!(out)
+// A sheet, and what is asked for it.
+#[derive(Drop)]
+struct Record {
+    mode: Mode,
+    sheet: Vec<u8>,
 }
 
-// The next record of standard input, answered: two bytes for the length of its sheet, its mode, and the sheet. Whether there was
-// one.
-fn answer_next<R: Read, W: Write>(alloc: Global, input: &mut R, out: &mut W) -> io::Result<bool> {
-    let Some(head) = console::read_array(input)? else {
-        return Ok(false);
-    };
-    let [high, low, mode]: [u8; 3] = head;
-    let size = console::two([high, low]);
-    let Some(sheet) = console::read_part(alloc, input, size, size)? else {
-        return Ok(false);
-    };
-    answer(alloc, out, sheet, mode)?;
-    Ok(true)
+impl Record {
+    fn answer<W: Write>(&mut self, alloc: Global, out: &mut W) -> io::Result<()> {
+        match self.mode {
+            Mode::Alone => {
+                print(out, self.sheet.as_slice())?;
+                writeln!(out)
+            }
+            Mode::Damaged => {
+                print(out, self.sheet.as_slice())?;
+                write!(out, " ")?;
+                print_cut(out, self.sheet.as_slice())?;
+                write!(out, " ")?;
+                print_all_flipped(out, self.sheet.as_mut_slice())?;
+                writeln!(out)
+            }
+            Mode::Printed => printing::print_order(alloc, out, self.sheet.as_slice()),
+        }
+    }
+}
+
+// The records of an input, each read when it is asked for: two bytes for the length of its sheet, its mode, and the sheet.
+#[derive(Drop)]
+struct Records<R: Read + Drop> {
+    alloc: Global,
+    input: R,
+}
+
+impl<R: Read + Drop> Records<R> {
+    // None where the input ends.
+    fn read_next(&mut self) -> io::Result<Option<Record>> {
+        let Some(head) = console::read_array(&mut self.input)? else {
+            return Ok(None);
+        };
+        let [high, low, mode]: [u8; 3] = head;
+        let size = console::two([high, low]);
+        let Some(sheet) = console::read_part(self.alloc, &mut self.input, size, size)? else {
+            return Ok(None);
+        };
+        let mode = Mode::from(mode);
+        Ok(Some(Record { mode, sheet }))
+    }
+}
+
+impl<R: Read + Drop> Iterator for Records<R> {
+    type Item = io::Result<Record>;
+
+    fn next(&mut self) -> Option<io::Result<Record>> {
+        self.read_next().transpose()
+    }
 }
 
 fn main(rt: HostRuntime) -> io::Result<()> {
-    let mut input = BufReader::new(rt.alloc(), rt.reader().take(MOST))?;
-    let mut out = BufWriter::new(rt.alloc(), io::writer(&rt))?;
-    for _ in 0..u64::MAX {
-        if !answer_next(rt.alloc(), &mut input, &mut out)? {
-            break;
-        }
+    let alloc = rt.alloc();
+    let input = BufReader::new(alloc, rt.reader().take(MOST))?;
+    let mut out = BufWriter::new(alloc, io::writer(&rt))?;
+    let records = Records { alloc, input };
+    for record in records.take(console::MANY) {
+        record?.answer(alloc, &mut out)?;
     }
     out.flush()
 }

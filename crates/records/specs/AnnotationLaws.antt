@@ -1,6 +1,6 @@
 -- Laws of annotations.
-use Rattle.std.specs.Prelude.{Bool, true, false, ◌&&◌, not, List, [], ◌∷◌, ◌++◌, map, ◌≡◌, refl, ℕ, zero, suc, ◌+◌, ◌<◌, eqb, leb, length, get_or, set}
-use Rattle.std.proofs.Common.{arith, le-leb}
+use Rattle.std.specs.Prelude.{Bool, true, false, ◌&&◌, not, List, [], ◌∷◌, ◌++◌, map, ◌≡◌, refl, ℕ, zero, suc, ◌+◌, ◌<◌, eqb, leb, length, get_or, set, ◌⊎◌}
+use Rattle.std.proofs.Common.{arith, le-leb, inl, inr}
 use Rattle.std.proofs.lemmas.Bool.{lt-leb}
 use Rattle.lists.specs.Tabulating.{places-set, length-places}
 use Rattle.definitions.specs.Parse.{not_allowed, Parsed, done, refused, next, ◌>>=◌, pure, refuse, choose, field, allowed, between, counted}
@@ -11,6 +11,9 @@ use Rattle.fields.specs.Fields.{of_names}
 use Rattle.fields.specs.declared.Names.{Names}
 use Rattle.records.specs.Annotations.{resource_of, annotation_as, row_of_word, row_of_tag, rows_for, with_kind, annotation_of, zero_annotation, of_annotations}
 use Rattle.records.specs.declared.Annotation.{Annotation}
+use Rattle.records.specs.declared.Kind.{Kind}
+use Rattle.records.specs.declared.Kind.TheVariants.{MakeList, Associate, NestAssociate, Inherit, NoDerive}
+use Rattle.records.specs.Kinds.{number_of}
 use Rattle.records.specs.declared.Annotations.{Annotations}
 
 -- a resource is read like a name
@@ -78,7 +81,7 @@ annotation-rows W one_word bs = go (field 3 bs)
     go (refused r) = refl
 
 -- a kind with its rows
-pub with-kind-is : (kind : ℕ) (rows : Names) → annotation_of (with_kind kind rows) ≡ annotation_as kind (of_names rows)
+pub with-kind-is : (kind : Kind) (rows : Names) → annotation_of (with_kind kind rows) ≡ annotation_as (number_of kind) (of_names rows)
 unfolding annotation_of
 with-kind-is kind rows = refl
 
@@ -104,12 +107,15 @@ rows_none W (suc (suc (suc (suc zero)))) bs a b c d e = absurd (d refl)
 rows_none W (suc (suc (suc (suc (suc zero))))) bs a b c d e = absurd (e refl)
 rows_none W (suc (suc (suc (suc (suc (suc k)))))) bs a b c d e = refl
 
--- the kinds with names behind them
-pub rows_names : (W kind : ℕ) (bs : List Bool) → 0 < kind → kind < 5 → (kind ≡ 3 → ⊥) → rows_for W kind bs ≡ counted 4 0 15 (name W) bs
+-- and those with names behind them
+pub rows_names : (W : ℕ) (k : Kind) (bs : List Bool) → (k ≡ Associate) ⊎ ((k ≡ NestAssociate) ⊎ (k ≡ Inherit))
+    → rows_for W (number_of k) bs ≡ counted 4 0 15 (name W) bs
 unfolding rows_for
-rows_names W zero bs a b c = absurd (omega arith)
-rows_names W (suc zero) bs a b c = refl
-rows_names W (suc (suc zero)) bs a b c = refl
-rows_names W (suc (suc (suc zero))) bs a b c = absurd (c refl)
-rows_names W (suc (suc (suc (suc zero)))) bs a b c = refl
-rows_names W (suc (suc (suc (suc (suc k))))) bs a b c = absurd (omega arith)
+rows_names W k bs (inl e) = rw e refl
+rows_names W k bs (inr (inl e)) = rw e refl
+rows_names W k bs (inr (inr e)) = rw e refl
+
+pub rows_nothing : (W : ℕ) (k : Kind) (bs : List Bool) → (k ≡ MakeList) ⊎ (k ≡ NoDerive) → rows_for W (number_of k) bs ≡ done [] bs
+unfolding rows_for
+rows_nothing W k bs (inl e) = rw e refl
+rows_nothing W k bs (inr e) = rw e refl

@@ -7,6 +7,8 @@ use Rattle.definitions.specs.Records.{Resource, AnnotationOf, make_list, associa
 use Rattle.fields.specs.Fields.{of_names}
 use Rattle.fields.specs.declared.Names.{Names}
 use Rattle.records.specs.declared.Annotation.{Annotation}
+use Rattle.records.specs.declared.Kind.{Kind}
+use Rattle.records.specs.Kinds.{number_of}
 use Rattle.records.specs.declared.Annotations.{Annotations}
 
 -- a row is a word with what stands behind it: a resource with its dom, or a name
@@ -48,15 +50,15 @@ unfoldable pub rows_for : ℕ → ℕ → Parser (List (List ℕ))
 rows_for W kind =
     get_or (pure [] ∷ counted 4 0 15 (name W) ∷ counted 4 0 15 (name W) ∷ row_of_word W ∷ counted 4 0 15 (name W) ∷ row_of_tag ∷ []) kind (pure [])
 
-abbrev pub with_kind : ℕ → Names → Annotation
+abbrev pub with_kind : Kind → Names → Annotation
 with_kind kind rows = record { kind = kind; count = rows.count; words = rows.first; doms = rows.second }
 
 unfoldable pub annotation_of : Annotation → AnnotationOf Resource
-annotation_of a = annotation_as a.kind (of_names (record { count = a.count; first = a.words; second = a.doms }))
+annotation_of a = annotation_as (number_of a.kind) (of_names (record { count = a.count; first = a.words; second = a.doms }))
 
 -- what stands past the end of an array of annotations
 abbrev pub zero_annotation : Annotation
-zero_annotation = record { kind = 0; count = 0; words = []; doms = [] }
+zero_annotation = record { kind = Kind.MakeList; count = 0; words = []; doms = [] }
 
 unfoldable pub of_annotations : Annotations → List (AnnotationOf Resource)
 of_annotations t = places annotation_of zero_annotation t.items t.count

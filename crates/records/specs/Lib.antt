@@ -1,3 +1,4 @@
+pub mod Kinds
 pub mod Annotations
 pub mod Marks
 pub mod AnnotationLaws

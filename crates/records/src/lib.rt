@@ -6,19 +6,58 @@ ghost use Rattle.definitions.specs.Bits.{bits_of};
 ghost use Rattle.definitions.specs.Parse.{next, pure, repeat, counted};
 ghost use Rattle.definitions.specs.Reading.{annotation, mark};
 ghost use Rattle.bits.specs.Reading.{Addressable};
-ghost use Rattle.fields.specs.Fields.{of_parsed, of_field, of_names};
+ghost use Rattle.fields.specs.Fields.{of_parsed, of_field, bits_in, of_names};
+ghost use Rattle.records.specs.Kinds.{number_of};
 ghost use Rattle.records.specs.Annotations.{rows_for, with_kind, annotation_of, of_annotations};
 ghost use Rattle.records.specs.Marks.{mark_of, of_marks};
 
 use bits::Cursor;
-use fields::{Fault, Name, Names, Parsed};
+use fields::{Fault, Name, Names, Parsed, Sheet};
 
-// An annotation as read (01: 'a kind beside flat arrays'), the kinds numbered as in the sheet (FORMAT 2.7). An associate has
-// count words, each with its dom or 255; an Inherit has the two words of each name there; an Alias has its word, and a Derive
-// its tag, as its only word.
+// The kinds of annotations, in the order of their numbers (FORMAT 2.7).
+#[derive(Clone, Copy, PartialEq, Eq)]
+pub enum Kind {
+    MakeList,
+    Associate,
+    NestAssociate,
+    Alias,
+    Inherit,
+    Derive,
+    NoDerive,
+}
+
+// No TryFrom: who reads a kind tests the bounds of its number first (`read_between`), so the error would never come. No From for
+// the way back: `number` tells what the byte is.
+impl Kind {
+    // The kind of a number.
+    pub fn of(number: usize) -> Kind
+        requires { number ≤ 6 }
+        ensures { number_of result ≡ number }
+    {
+        match number {
+            0 => Kind::MakeList,
+            1 => Kind::Associate,
+            2 => Kind::NestAssociate,
+            3 => Kind::Alias,
+            4 => Kind::Inherit,
+            5 => Kind::Derive,
+            _ => Kind::NoDerive,
+        }
+    }
+
+    // Its number.
+    pub fn number(self) -> u8
+        ensures { result ≡ number_of self }
+    {
+        self as u8
+    }
+}
+
+// An annotation as read (01: 'a kind beside flat arrays'). An associate has count words, each with its dom or 255; an Inherit
+// has the two words of each name there; an Alias has its word, and a Derive its tag, as its only word.
 #[derive(Clone, Copy)]
 pub struct Annotation {
-    pub kind: usize,
+    pub kind: Kind,
     pub count: usize,
     pub words: [u8; 15],
     pub doms: [u8; 15],
@@ -56,20 +95,19 @@ fn one_row(word: Parsed<u8>) -> Parsed<Names>
 }
 
 // What follows the kind (FORMAT 2.7): the resources of an associate, the names of an Inherit, a word, a tag, or nothing.
-fn read_rows(s: &[u8], c: Cursor, limit: usize, kind: usize) -> Parsed<Names>
-    requires { Addressable s.now × (limit ≤ 255) }
-    ensures { of_parsed of_names (bits_of s.now) result ≡ rows_for limit kind (drop c.at (bits_of s.now)) }
+fn read_rows(s: Sheet, c: Cursor, kind: Kind) -> Parsed<Names>
+    ensures { of_parsed of_names (bits_in s.entry) result ≡ rows_for s.entry.words (number_of kind) (drop c.at (bits_in s.entry)) }
 {
     match kind {
-        1 | 2 | 4 => fields::read_names(s, c, limit, 0, 15),
-        3 => one_row(fields::read_word_field(s, c, limit)),
-        5 => one_row(fields::read_tag(s, c)),
-        _ => Ok((Names::new(), c)),
+        Kind::Associate | Kind::NestAssociate | Kind::Inherit => { fields::read_names(s, c, 0, 15) }
+        Kind::Alias => one_row(fields::read_word_field(s.bytes, c, s.words)),
+        Kind::Derive => one_row(fields::read_tag(s.bytes, c)),
+        Kind::MakeList | Kind::NoDerive => Ok((Names::new(), c)),
     }
 }
 
 // The annotation of a kind with the rows that were read.
-fn with_kind(kind: usize, rows: Names) -> Annotation
+fn with_kind(kind: Kind, rows: Names) -> Annotation
     ensures { result ≡ with_kind kind rows }
 {
     // Variables, since a field that is an array is not covered by a proof where it stands in a literal.
@@ -83,23 +121,24 @@ fn with_kind(kind: usize, rows: Names) -> Annotation
     }
 }
 
-// A NestAssociate does not stand in a two-word type (FORMAT 2.7).
-pub fn is_nested_in_two(kind: usize, single: bool) -> bool
-    ensures { result ≡ (eqb kind 2 && not single) }
+// A NestAssociate does not stand in a two-word type (FORMAT 2.7). `single`, here and above, says that the name of the type has
+// one word: a fact of the sheet, which the definitions take as a Bool too.
+pub fn is_nested_in_two(kind: Kind, single: bool) -> bool
+    ensures { result ≡ (eqb (number_of kind) 2 && not single) }
 {
-    kind == 2 && !single
+    kind == Kind::NestAssociate && !single
 }
 
 // An annotation: its kind, and what follows it. A NestAssociate in a two-word type is refused at its kind (FORMAT 2.7).
-pub fn read_annotation(s: &[u8], c: Cursor, limit: usize, single: bool) -> Parsed<Annotation>
-    requires { Addressable s.now × (limit ≤ 255) }
-    ensures { of_parsed annotation_of (bits_of s.now) result ≡ annotation limit single (drop c.at (bits_of s.now)) }
+pub fn read_annotation(s: Sheet, c: Cursor, single: bool) -> Parsed<Annotation>
+    ensures { of_parsed annotation_of (bits_in s.entry) result ≡ annotation s.entry.words single (drop c.at (bits_in s.entry)) }
 {
-    let (kind, next) = fields::read_between(s, c, 3, 0, 6)?;
+    let (number, next) = fields::read_between(s.bytes, c, 3, 0, 6)?;
+    let kind = Kind::of(number);
     if is_nested_in_two(kind, single) {
         return Err(Fault::NotAllowed);
     }
-    let (rows, end) = read_rows(s, next, limit, kind)?;
+    let (rows, end) = read_rows(s, next, kind)?;
     Ok((with_kind(kind, rows), end))
 }
 
@@ -108,7 +147,7 @@ impl Annotations {
         ensures { (of_annotations result ≡ []) × (result.count ≡ 0) }
     {
         let a = Annotation {
-            kind: 0,
+            kind: Kind::MakeList,
             count: 0,
             words: [255u8; 15],
             doms: [255u8; 15],
@@ -130,20 +169,14 @@ impl Annotations {
 }
 
 // n annotations: a loop of its own, as each kind of list has.
-fn read_each_annotation(
-    s: &[u8],
-    c: Cursor,
-    limit: usize,
-    single: bool,
-    n: usize,
-) -> Parsed<Annotations>
-    requires { Addressable s.now × (limit ≤ 255) × (n ≤ 12) }
-    ensures { of_parsed of_annotations (bits_of s.now) result ≡ repeat (annotation limit single) n (drop c.at (bits_of s.now)) }
+fn read_each_annotation(s: Sheet, c: Cursor, single: bool, n: usize) -> Parsed<Annotations>
+    requires { n ≤ 12 }
+    ensures { of_parsed of_annotations (bits_in s.entry) result ≡ repeat (annotation s.entry.words single) n (drop c.at (bits_in s.entry)) }
 {
     let mut next = c;
     let mut annotations = Annotations::new();
     for _ in 0..n {
-        let (annotation, end) = read_annotation(s, next, limit, single)?;
+        let (annotation, end) = read_annotation(s, next, single)?;
         annotations.push(annotation);
         next = end;
     }
@@ -151,12 +184,11 @@ fn read_each_annotation(
 }
 
 // The annotations of a type, at most 12 (FORMAT 2.6).
-pub fn read_annotations(s: &[u8], c: Cursor, limit: usize, single: bool) -> Parsed<Annotations>
-    requires { Addressable s.now × (limit ≤ 255) }
-    ensures { of_parsed of_annotations (bits_of s.now) result ≡ counted 4 0 12 (annotation limit single) (drop c.at (bits_of s.now)) }
+pub fn read_annotations(s: Sheet, c: Cursor, single: bool) -> Parsed<Annotations>
+    ensures { of_parsed of_annotations (bits_in s.entry) result ≡ counted 4 0 12 (annotation s.entry.words single) (drop c.at (bits_in s.entry)) }
 {
-    let (n, next) = fields::read_between(s, c, 4, 0, 12)?;
-    read_each_annotation(s, next, limit, single, n)
+    let (n, next) = fields::read_between(s.bytes, c, 4, 0, 12)?;
+    read_each_annotation(s, next, single, n)
 }
 
 pub fn read_mark(s: &[u8], c: Cursor) -> Parsed<Mark>

@@ -1,9 +1,9 @@
 -- Laws of words and rows.
-use Rattle.std.specs.Prelude.{Bool, true, false, ◌&&◌, ◌||◌, cond, List, [], ◌∷◌, map, ◌≡◌, refl, ℕ, zero, suc, ◌+◌, ◌-◌, ◌<◌, ◌≤◌, eqb, ltb, min, length, get_or, drop}
+use Rattle.std.specs.Prelude.{Bool, true, false, ◌&&◌, ◌||◌, cond, List, [], ◌∷◌, map, ◌≡◌, refl, ℕ, zero, suc, ◌+◌, ◌-◌, ◌<◌, eqb, ltb, length, get_or, drop, ◌⊎◌}
 use Rattle.std.specs.List.{range_with_len, list_any, list_all}
 use Rattle.std.proofs.Math.Bool.{and-true}
-use Rattle.std.proofs.Common.{sym, ap, ap₂, subst, ◌∙◌, arith, eq-eqb, ne_eqb, eqb-true, ltb-true, le-ltb}
-use Rattle.std.proofs.lemmas.Bool.{eqb-false, ltb-false}
+use Rattle.std.proofs.Common.{sym, ap, ap₂, subst, ◌∙◌, inl, inr, arith, eq-eqb, ne_eqb, eqb-true}
+use Rattle.std.proofs.lemmas.Bool.{eqb-false}
 use Rattle.lists.specs.Lists.{In, any, all, repeats, same_list, set_of}
 use Rattle.lists.specs.Tests.{by, same_test, and_left, and_right, and_both, any-in, any_of, all_in, all_of}
 use Rattle.lists.specs.Strict.{number-strict}
@@ -20,9 +20,12 @@ use Rattle.fields.specs.FieldLaws.{same-words}
 use Rattle.records.specs.AnnotationLaws.{length-of_annotations}
 use Rattle.records.specs.Annotations.{resource_of, word_of_rows, annotation_as, annotation_of, zero_annotation, of_annotations}
 use Rattle.records.specs.declared.Annotation.{Annotation}
+use Rattle.records.specs.declared.Kind.{Kind}
+use Rattle.records.specs.declared.Kind.TheVariants.{MakeList, Associate, NestAssociate, Alias, Inherit, Derive, NoDerive}
+use Rattle.records.specs.Kinds.{number_of}
 use Rattle.records.specs.declared.Annotations.{Annotations}
 use Rattle.repeats.specs.RangeLaws.{any-range, all-range}
-use Rattle.repeats.specs.Repeats.{words_of, row_at, rows_of, same_word, repeats_word, kind_in, same_content, repeats_in, type_repeats, same_type_name, same_extension_key}
+use Rattle.repeats.specs.Repeats.{words_of, row_at, rows_of, same_word, repeats_word, same_content, repeats_in, type_repeats, same_type_name, same_extension_key}
 
 pub length-words_of : (a : Annotation) → length (words_of a) ≡ a.count
 unfolding words_of
@@ -97,23 +100,46 @@ first-words a =
     ap (map (λ (u : Resource). u.word)) (map-tabulate resource_of (λ i. two_words (get_or a.words i 0) (get_or a.doms i 0)) a.count)
     ∙ map-tabulate (λ (u : Resource). u.word) (λ i. resource_of (two_words (get_or a.words i 0) (get_or a.doms i 0))) a.count
 
-pub twice-words : (a : Annotation) → repeats_word (annotation_of a) ≡ cond (eqb a.kind 1 || eqb a.kind 2) (repeats eqb (words_of a)) false
-unfolding repeats_word annotation_of annotation_as rows_of
-twice-words a = go a.kind
-  where
-    words : repeats same_word (map resource_of (rows_of a)) ≡ repeats eqb (words_of a)
-    words = sym (repeats-map eqb (λ (u : Resource). u.word) (map resource_of (rows_of a))) ∙ ap (repeats eqb) (first-words a)
+-- a word twice in an associate, and in no other annotation
+module _ (a : Annotation) where
+  rows-twice : repeats same_word (map resource_of (rows_of a)) ≡ repeats eqb (words_of a)
+  rows-twice = sym (repeats-map eqb (λ (u : Resource). u.word) (map resource_of (rows_of a))) ∙ ap (repeats eqb) (first-words a)
 
-    go : (k : ℕ) → repeats same_word (resources_of (annotation_as k (rows_of a))) ≡ cond (eqb k 1 || eqb k 2) (repeats eqb (words_of a)) false
-    go zero = refl
-    go (suc zero) = words
-    go (suc (suc zero)) = words
-    go (suc (suc (suc zero))) = refl
-    go (suc (suc (suc (suc zero)))) = refl
-    go (suc (suc (suc (suc (suc zero))))) = refl
-    go (suc (suc (suc (suc (suc (suc zero)))))) = refl
-    go (suc (suc (suc (suc (suc (suc (suc k))))))) =
-        rw (ne_eqb (suc (suc (suc (suc (suc (suc (suc k))))))) 1 (λ e. omega arith), ne_eqb (suc (suc (suc (suc (suc (suc (suc k))))))) 2 (λ e. omega arith))
+  of-kind : (k : Kind) → Bool
+  of-kind MakeList = false
+  of-kind Associate = repeats eqb (words_of a)
+  of-kind NestAssociate = repeats eqb (words_of a)
+  of-kind Alias = false
+  of-kind Inherit = false
+  of-kind Derive = false
+  of-kind NoDerive = false
+
+  by-kind : (k : Kind) → repeats same_word (resources_of (annotation_as (number_of k) (rows_of a))) ≡ of-kind k
+  unfolding annotation_as of-kind
+  by-kind MakeList = refl
+  by-kind Associate = rows-twice
+  by-kind NestAssociate = rows-twice
+  by-kind Alias = refl
+  by-kind Inherit = refl
+  by-kind Derive = refl
+  by-kind NoDerive = refl
+
+  twice-is : repeats_word (annotation_of a) ≡ of-kind a.kind
+  unfolding repeats_word annotation_of rows_of
+  twice-is = by-kind a.kind
+
+  pub twice-words : (a.kind ≡ Associate) ⊎ (a.kind ≡ NestAssociate) → repeats_word (annotation_of a) ≡ repeats eqb (words_of a)
+  unfolding of-kind
+  twice-words (inl e) = twice-is ∙ ap of-kind e
+  twice-words (inr e) = twice-is ∙ ap of-kind e
+
+  pub twice-none : (a.kind ≡ MakeList) ⊎ ((a.kind ≡ Alias) ⊎ ((a.kind ≡ Inherit) ⊎ ((a.kind ≡ Derive) ⊎ (a.kind ≡ NoDerive)))) → repeats_word (annotation_of a) ≡ false
+  unfolding of-kind
+  twice-none (inl e) = twice-is ∙ ap of-kind e
+  twice-none (inr (inl e)) = twice-is ∙ ap of-kind e
+  twice-none (inr (inr (inl e))) = twice-is ∙ ap of-kind e
+  twice-none (inr (inr (inr (inl e)))) = twice-is ∙ ap of-kind e
+  twice-none (inr (inr (inr (inr e)))) = twice-is ∙ ap of-kind e
 
 pub same_row : (a b : Annotation) (i : ℕ) →
     same_list eqb (row_at a i) (row_at b i) ≡ (eqb (get_or a.words i 0) (get_or b.words i 0) && eqb (get_or a.doms i 0) (get_or b.doms i 0))
@@ -147,40 +173,36 @@ same-sets xs ys =
 
 -- ---- equality of annotations
 
-kind-of : (k : ℕ) (rows : List (List ℕ)) → kind_of (annotation_as k rows) ≡ kind_in k
-unfolding annotation_as kind_in
-kind-of zero rows = refl
-kind-of (suc zero) rows = refl
-kind-of (suc (suc zero)) rows = refl
-kind-of (suc (suc (suc zero))) rows = refl
-kind-of (suc (suc (suc (suc zero)))) rows = refl
-kind-of (suc (suc (suc (suc (suc zero))))) rows = refl
-kind-of (suc (suc (suc (suc (suc (suc zero)))))) rows = refl
-kind-of (suc (suc (suc (suc (suc (suc (suc k))))))) rows = rw (le-ltb (suc (suc (suc (suc (suc (suc (suc k))))))) 6 (omega arith))
+kind-of : (k : Kind) (rows : List (List ℕ)) → kind_of (annotation_as (number_of k) rows) ≡ number_of k
+unfolding annotation_as
+kind-of MakeList rows = refl
+kind-of Associate rows = refl
+kind-of NestAssociate rows = refl
+kind-of Alias rows = refl
+kind-of Inherit rows = refl
+kind-of Derive rows = refl
+kind-of NoDerive rows = refl
 
-pub kind-least : (k : ℕ) → min k 6 ≡ kind_in k
-unfolding kind_in
-kind-least k = by (ltb k 6) (λ e. rw e (omega (arith, ltb-true k 6 e))) (λ e. rw e (omega (arith, ltb-false k 6 e)))
+-- a number is that of one kind
+same-kind : (k j : Kind) → number_of k ≡ number_of j → k ≡ j
+same-kind k j e = sym (back k) ∙ ap kind_at e ∙ back j
+  where
+    kind_at : ℕ → Kind
+    kind_at n = get_or (MakeList ∷ Associate ∷ NestAssociate ∷ Alias ∷ Inherit ∷ Derive ∷ []) n NoDerive
 
-as-kind : (k : ℕ) (rows : List (List ℕ)) → annotation_as k rows ≡ annotation_as (kind_in k) rows
-unfolding annotation_as kind_in
-as-kind zero rows = refl
-as-kind (suc zero) rows = refl
-as-kind (suc (suc zero)) rows = refl
-as-kind (suc (suc (suc zero))) rows = refl
-as-kind (suc (suc (suc (suc zero)))) rows = refl
-as-kind (suc (suc (suc (suc (suc zero))))) rows = refl
-as-kind (suc (suc (suc (suc (suc (suc zero)))))) rows = refl
-as-kind (suc (suc (suc (suc (suc (suc (suc k))))))) rows = rw (le-ltb (suc (suc (suc (suc (suc (suc (suc k))))))) 6 (omega arith))
+    back : (k : Kind) → kind_at (number_of k) ≡ k
+    back MakeList = refl
+    back Associate = refl
+    back NestAssociate = refl
+    back Alias = refl
+    back Inherit = refl
+    back Derive = refl
+    back NoDerive = refl
 
-kind-most : (k : ℕ) → kind_in k ≤ 6
-unfolding kind_in
-kind-most k = by (ltb k 6) (λ e. rw e (omega (arith, ltb-true k 6 e))) (λ e. rw e (omega arith))
-
-same-content : (a b : Annotation) (k : ℕ) → k ≤ 6 →
-    same_list (same_list eqb) (content_of (annotation_as k (rows_of a))) (content_of (annotation_as k (rows_of b))) ≡ same_content k a b
+same-content : (a b : Annotation) (k : Kind) →
+    same_list (same_list eqb) (content_of (annotation_as (number_of k) (rows_of a))) (content_of (annotation_as (number_of k) (rows_of b))) ≡ same_content k a b
 unfolding annotation_as same_content
-same-content a b k h = go k h
+same-content a b k = go k
   where
     sets : (same_list eqb (set_of ltb (map (λ (u : Resource). u.word) (map resource_of (rows_of a)))) (set_of ltb (map (λ (u : Resource). u.word) (map resource_of (rows_of b)))) && true)
         ≡ (all (λ w. any (eqb w) (words_of b)) (words_of a) && all (λ w. any (eqb w) (words_of a)) (words_of b))
@@ -189,33 +211,54 @@ same-content a b k h = go k h
     word : ((eqb (word_of_rows (rows_of a)) (word_of_rows (rows_of b)) && true) && true) ≡ eqb (word_of_rows (rows_of a)) (word_of_rows (rows_of b))
     word = and-true _ ∙ and-true _
 
-    go : (k : ℕ) → k ≤ 6 → same_list (same_list eqb) (content_of (annotation_as k (rows_of a))) (content_of (annotation_as k (rows_of b))) ≡ same_content k a b
-    go zero h = refl
-    go (suc zero) h = sets
-    go (suc (suc zero)) h = sets
-    go (suc (suc (suc zero))) h = word
-    go (suc (suc (suc (suc zero)))) h = refl
-    go (suc (suc (suc (suc (suc zero))))) h = word
-    go (suc (suc (suc (suc (suc (suc zero)))))) h = refl
-    go (suc (suc (suc (suc (suc (suc (suc k))))))) h = absurd (omega arith)
+    go : (k : Kind) → same_list (same_list eqb) (content_of (annotation_as (number_of k) (rows_of a))) (content_of (annotation_as (number_of k) (rows_of b))) ≡ same_content k a b
+    go MakeList = refl
+    go Associate = sets
+    go NestAssociate = sets
+    go Alias = word
+    go Inherit = refl
+    go Derive = word
+    go NoDerive = refl
 
-pub same-annotation : (a b : Annotation) → same_annotation (annotation_of a) (annotation_of b) ≡ (eqb (kind_in a.kind) (kind_in b.kind) && same_content (kind_in a.kind) a b)
-unfolding same_annotation annotation_of rows_of
-same-annotation a b =
-    ap₂ (λ (x y : ℕ). eqb x y && content) (kind-of a.kind (rows_of a)) (kind-of b.kind (rows_of b))
-    ∙ by (eqb (kind_in a.kind) (kind_in b.kind))
-    (λ e. ap (λ (t : Bool). eqb (kind_in a.kind) (kind_in b.kind) && t) (equal (eqb-true (kind_in a.kind) (kind_in b.kind) e)))
-    (λ e. rw e)
-  where
-    content : Bool
-    content = same_list (same_list eqb) (content_of (annotation_as a.kind (rows_of a))) (content_of (annotation_as b.kind (rows_of b)))
+module _ (a b : Annotation) where
+  content : Bool
+  content = same_list (same_list eqb) (content_of (annotation_as (number_of a.kind) (rows_of a))) (content_of (annotation_as (number_of b.kind) (rows_of b)))
 
-    equal : kind_in a.kind ≡ kind_in b.kind → content ≡ same_content (kind_in a.kind) a b
-    equal e =
-        ap₂ (λ (x y : AnnotationOf Resource). same_list (same_list eqb) (content_of x) (content_of y))
-        (as-kind a.kind (rows_of a))
-        (as-kind b.kind (rows_of b) ∙ ap (λ (k : ℕ). annotation_as k (rows_of b)) (sym e))
-        ∙ same-content a b (kind_in a.kind) (kind-most a.kind)
+  same-is : same_annotation (annotation_of a) (annotation_of b) ≡ (eqb (number_of a.kind) (number_of b.kind) && content)
+  unfolding same_annotation annotation_of rows_of content
+  same-is = ap₂ (λ (x y : ℕ). eqb x y && content) (kind-of a.kind (rows_of a)) (kind-of b.kind (rows_of b))
+
+  -- annotations of one kind are equal by their contents, and those of unlike kinds are not
+  pub same-annotation : a.kind ≡ b.kind → same_annotation (annotation_of a) (annotation_of b) ≡ same_content a.kind a b
+  unfolding content
+  same-annotation e =
+      same-is
+      ∙ ap
+      (λ (k : Kind).
+      eqb (number_of a.kind) (number_of k) && same_list (same_list eqb) (content_of (annotation_as (number_of a.kind) (rows_of a))) (content_of (annotation_as (number_of k) (rows_of b))))
+      (sym e)
+      ∙ rw (eq-eqb (number_of a.kind) (number_of a.kind) refl) (same-content a b a.kind)
+
+  pub unlike-kinds : (a.kind ≡ b.kind → ⊥) → same_annotation (annotation_of a) (annotation_of b) ≡ false
+  unlike-kinds h = same-is ∙ rw (ne_eqb (number_of a.kind) (number_of b.kind) (λ e. h (same-kind a.kind b.kind e)))
+
+-- the contents of one of several kinds
+module _ (k : Kind) (a b : Annotation) where
+  pub content-sets : (k ≡ Associate) ⊎ (k ≡ NestAssociate) →
+      same_content k a b ≡ (all (λ w. any (eqb w) (words_of b)) (words_of a) && all (λ w. any (eqb w) (words_of a)) (words_of b))
+  unfolding same_content
+  content-sets (inl e) = rw e
+  content-sets (inr e) = rw e
+
+  pub content-words : (k ≡ Alias) ⊎ (k ≡ Derive) → same_content k a b ≡ eqb (word_of_rows (rows_of a)) (word_of_rows (rows_of b))
+  unfolding same_content
+  content-words (inl e) = rw e
+  content-words (inr e) = rw e
+
+  pub content-none : (k ≡ MakeList) ⊎ (k ≡ NoDerive) → same_content k a b ≡ true
+  unfolding same_content
+  content-none (inl e) = rw e
+  content-none (inr e) = rw e
 
 pub only-word : (a : Annotation) → word_of_rows (rows_of a) ≡ cond (eqb a.count 0) 255 (get_or a.words 0 0)
 unfolding row_at
@@ -272,7 +315,7 @@ annotations-twice t =
     0
 
 -- MakeList, whatever the rows
-pub no_rows : (words doms : List ℕ) → annotation_of (record { kind = 0; count = 0; words = words; doms = doms }) ≡ annotation_of zero_annotation
+pub no_rows : (words doms : List ℕ) → annotation_of (record { kind = MakeList; count = 0; words = words; doms = doms }) ≡ annotation_of zero_annotation
 unfolding annotation_of annotation_as
 no_rows words doms = refl
 

@@ -1,5 +1,5 @@
 -- The words and the rows of an annotation as read.
-use Rattle.std.specs.Prelude.{Bool, true, ◌&&◌, ◌||◌, cond, List, ℕ, eqb, ltb, get_or}
+use Rattle.std.specs.Prelude.{Bool, true, ◌&&◌, ◌||◌, List, ℕ, eqb, get_or}
 use Rattle.lists.specs.Lists.{any, all, repeats, same_list}
 use Rattle.lists.specs.Tabulating.{tabulate}
 use Rattle.definitions.specs.Comparisons.{same_name}
@@ -9,6 +9,8 @@ use Rattle.definitions.specs.Records as records
 use Rattle.fields.specs.Fields.{two_words, of_names}
 use Rattle.records.specs.Annotations.{word_of_rows}
 use Rattle.records.specs.declared.Annotation.{Annotation}
+use Rattle.records.specs.declared.Kind.{Kind}
+use Rattle.records.specs.declared.Kind.TheVariants.{MakeList, Associate, NestAssociate, Alias, Inherit, Derive, NoDerive}
 
 unfoldable pub words_of : Annotation → List ℕ
 words_of a = tabulate (λ i. get_or a.words i 0) a.count
@@ -26,16 +28,15 @@ same_word u v = eqb u.word v.word
 unfoldable pub repeats_word : AnnotationOf Resource → Bool
 repeats_word a = repeats same_word (resources_of a)
 
--- from 6 on a kind is NoDerive
-unfoldable pub kind_in : ℕ → ℕ
-kind_in k = cond (ltb k 6) k 6
-
--- equality of two annotations of kind k
-unfoldable pub same_content : ℕ → Annotation → Annotation → Bool
-same_content k a b =
-    cond (eqb k 1 || eqb k 2) (all (λ w. any (eqb w) (words_of b)) (words_of a) && all (λ w. any (eqb w) (words_of a)) (words_of b))
-    (cond (eqb k 4) (same_list (same_list eqb) (rows_of a) (rows_of b))
-    (cond (eqb k 3 || eqb k 5) (eqb (word_of_rows (rows_of a)) (word_of_rows (rows_of b))) true))
+-- equality of two annotations of one kind (FORMAT 2.12)
+unfoldable pub same_content : Kind → Annotation → Annotation → Bool
+same_content MakeList a b = true
+same_content Associate a b = all (λ w. any (eqb w) (words_of b)) (words_of a) && all (λ w. any (eqb w) (words_of a)) (words_of b)
+same_content NestAssociate a b = all (λ w. any (eqb w) (words_of b)) (words_of a) && all (λ w. any (eqb w) (words_of a)) (words_of b)
+same_content Alias a b = eqb (word_of_rows (rows_of a)) (word_of_rows (rows_of b))
+same_content Inherit a b = same_list (same_list eqb) (rows_of a) (rows_of b)
+same_content Derive a b = eqb (word_of_rows (rows_of a)) (word_of_rows (rows_of b))
+same_content NoDerive a b = true
 
 -- what may not stand twice within a type: a word in an associate, an annotation (FORMAT 2.12)
 unfoldable pub repeats_in : List (AnnotationOf Resource) → Bool

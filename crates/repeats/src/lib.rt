@@ -2,13 +2,13 @@
 // equal if they have the same words (FORMAT 2.12).
 #![tactic(auto)]
 
-ghost use Rattle.std.specs.Prelude.{◌&&◌, ◌||◌, ◌≡◌, eqb, get_or, drop};
+ghost use Rattle.std.specs.Prelude.{◌&&◌, ◌≡◌, eqb, get_or, drop};
 ghost use Rattle.lists.specs.Lists.{any, all, repeats, same_list};
 ghost use Rattle.definitions.specs.Checks.{same_annotation};
 ghost use Rattle.records.specs.Annotations.{annotation_of, word_of_rows, zero_annotation, of_annotations};
-ghost use Rattle.repeats.specs.Repeats.{words_of, rows_of, row_at, repeats_word, kind_in, same_content, repeats_in};
+ghost use Rattle.repeats.specs.Repeats.{words_of, rows_of, row_at, repeats_word, same_content, repeats_in};
 
-use records::{Annotation, Annotations};
+use records::{Annotation, Annotations, Kind};
 
 // The byte at i; 0 past the array.
 fn byte_at(bytes: &[u8; 15], i: usize) -> u8
@@ -30,17 +30,14 @@ fn has_word_twice(a: Annotation) -> bool
     (0..a.count).any(|i| has_word_from(&a, byte_at(&a.words, i), i + 1))
 }
 
-fn is_associate(kind: usize) -> bool
-    ensures { result ≡ (eqb kind 1 || eqb kind 2) }
-{
-    kind == 1 || kind == 2
-}
-
 // Whether a word stands twice within an associate, whatever the doms.
 pub fn repeats_word(a: Annotation) -> bool
     ensures { result ≡ repeats_word (annotation_of a) }
 {
-    is_associate(a.kind) && has_word_twice(a)
+    match a.kind {
+        Kind::Associate | Kind::NestAssociate => has_word_twice(a),
+        Kind::MakeList | Kind::Alias | Kind::Inherit | Kind::Derive | Kind::NoDerive => false,
+    }
 }
 
 // Whether each word of a is one of b.
@@ -63,18 +60,12 @@ fn is_same_rows(a: &Annotation, b: &Annotation) -> bool
     a.count == b.count && (0..a.count).all(|i| is_same_row(a, b, i))
 }
 
-// The word of the only row; 255 where there is none.
+// The word of the only row; 255 where there is none. No Option: an Alias and a Derive have their row whenever they are read, and
+// no other kind is asked.
 fn only_word(a: &Annotation) -> u8
     ensures { result ≡ word_of_rows (rows_of a.now) }
 {
     if a.count == 0 { 255 } else { a.words[0] }
-}
-
-// From 6 on a kind is NoDerive.
-fn kind_of(a: &Annotation) -> usize
-    ensures { result ≡ kind_in a.now.kind }
-{
-    a.kind.min(6)
 }
 
 // Whether two associates have the same words, in any order and whatever the doms.
@@ -84,41 +75,31 @@ fn is_same_set(a: &Annotation, b: &Annotation) -> bool
     is_within(a, b) && is_within(b, a)
 }
 
-// Whether two annotations of kind k are equal.
-fn is_same_content(k: usize, a: &Annotation, b: &Annotation) -> bool
-    ensures { result ≡ same_content k a.now b.now }
+// Whether two annotations of one kind are equal. It is the law's equality and no derived one: of associates it compares the words
+// as sets, and what an array has past its count does not matter.
+fn is_same_content(kind: Kind, a: &Annotation, b: &Annotation) -> bool
+    ensures { result ≡ same_content kind a.now b.now }
 {
-    if is_associate(k) {
-        return is_same_set(a, b);
+    match kind {
+        Kind::Associate | Kind::NestAssociate => is_same_set(a, b),
+        Kind::Inherit => is_same_rows(a, b),
+        Kind::Alias | Kind::Derive => only_word(a) == only_word(b),
+        Kind::MakeList | Kind::NoDerive => true,
     }
-    if k == 4 {
-        return is_same_rows(a, b);
-    }
-    if is_worded(k) {
-        return only_word(a) == only_word(b);
-    }
-    true
-}
-
-fn is_worded(kind: usize) -> bool
-    ensures { result ≡ (eqb kind 3 || eqb kind 5) }
-{
-    kind == 3 || kind == 5
 }
 
 // Whether two annotations are equal, which those of unlike kinds are not.
 pub fn is_same_annotation(a: Annotation, b: Annotation) -> bool
     ensures { result ≡ same_annotation (annotation_of a) (annotation_of b) }
 {
-    let k = kind_of(&a);
-    k == kind_of(&b) && is_same_content(k, &a, &b)
+    a.kind == b.kind && is_same_content(a.kind, &a, &b)
 }
 
 fn no_annotation() -> Annotation
     ensures { annotation_of result ≡ annotation_of zero_annotation }
 {
     Annotation {
-        kind: 0,
+        kind: Kind::MakeList,
         count: 0,
         words: [0u8; 15],
         doms: [0u8; 15],

@@ -113,7 +113,7 @@ pub fn alone(w: usize) -> Row
     }
 }
 
-// The first number from `from` on that stands in a row of 64; 64 where none does, so that one bound ends a caller's walk.
+// The first number from `from` on that stands in a row of 64; 64 where none does, as trailing_zeros answers for 0.
 pub fn next_type(types: u64, from: usize) -> usize
     requires { from ≤ 64 }
     ensures { NextBit types from result }
@@ -129,7 +129,8 @@ pub fn next_type(types: u64, from: usize) -> usize
     k
 }
 
-// The first number from `from` on that stands in the row; 256 where none does, so that one bound ends a caller's walk.
+// The first number from `from` on that stands in the row; 256 where none does. No Option: a walk has a bound of its own below 256,
+// and its one test of that ends it for both.
 pub fn next(r: Row, from: usize) -> usize
     requires { from ≤ 256 }
     ensures { Next r from result }

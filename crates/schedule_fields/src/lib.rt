@@ -125,6 +125,9 @@ pub fn rule_at(place: Place, w: usize) -> Rule
 
 // ---- where so many are left
 
+// These functions and those behind a flag stay apart, though each is one `if`: an `if` for all would be given both places, and
+// each pair would still be named by a function of its own, which is held to its own definition.
+
 // n names, and then the number of items.
 fn after_names(n: usize) -> Place
     ensures { Comes result (λ w. names_at w n) (names_left n) }

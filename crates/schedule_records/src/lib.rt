@@ -90,6 +90,7 @@ fn pass(
     let mut at = 0;
     let mut to = 0;
     let mut rule = schedule_fields::rule_at(place, w);
+    // No range: which field comes next each value says, and how many there are shows at the last.
     while rule.width != 0 {
         let n = in_form(reading, rule.width);
         let m = in_other_form(reading, rule.width, n);

@@ -17,6 +17,8 @@ use Rattle.schedule_fields.specs.declared.Rule.{Rule}
 use Rattle.schedule_fields.specs.Places.{RuleOf, width_of, least_of, most_of}
 use Rattle.fields.specs.declared.Fault.{Fault}
 use Rattle.schedule_walk.specs.declared.Entry.{Entry}
+use Rattle.schedule_walk.specs.declared.Sort.{Sort}
+use Rattle.schedule_walk.specs.Sorts.{number_of}
 use Rattle.schedule_walk.specs.Walking.{from, Runs, Stops, Has, Lacks, Reads, Gone, Goes, GoneItem, GoesItem, one, Anything, Many, named_values, NamedWord, listed_values, ManyParents, names_fields, name_bits, parent_bits, mark_bits, marks_bits, line_bits, made_bits, item_bits, names_bits}
 use Rattle.schedule_walk.specs.WalkingLaws.{field-stops, field-runs, field-then-stops, none_runs, then_runs, first_stops, then-stops, runs_as}
 
@@ -247,12 +249,12 @@ module _ (w : ℕ) (source : List ℕ) (p : ℕ) where
         unfolding made_fields
         made-rest s = then-stops g.runs (field-then-stops h (λ b. count_form) (field-then-stops k rest_form s))
 
-        pub made-gone : (q : ℕ) → Gone (rest_form c) listed_values (ManyParents c) (most_parents * parent_bits + marks_bits) source (head + 1 + 5) q
-            → GoneItem (made_fields w) (0 ∷ []) made_bits source p (record { at = q; sort = v; parents = c })
+        pub made-gone : (s : Sort) → number_of s ≡ v → (q : ℕ) → Gone (rest_form c) listed_values (ManyParents c) (most_parents * parent_bits + marks_bits) source (head + 1 + 5) q
+            → GoneItem (made_fields w) (0 ∷ []) made_bits source p (record { at = q; sort = s; parents = c })
         unfolding made_fields item_values
-        made-gone q t = record {
+        made-gone s e q t = record {
           x = synthesized g.x.0 g.x.1 (eqb v 1) t.x.0 t.x.1;
-          found = record { named = g.fine.0; sorted = sort-flag v h.few; counted = t.fine.0.0 };
+          found = record { named = g.fine.0; sorted = sort-flag v h.few ∙ sym e; counted = t.fine.0.0 };
           us = named_values g.x ++ (v ∷ c ∷ listed_values t.x);
           led =
               ap (λ (l : List ℕ). 0 ∷ l)
@@ -260,7 +262,6 @@ module _ (w : ℕ) (source : List ℕ) (p : ℕ) where
               ∙ ap₂ (λ (i j : ℕ). name_values g.x.0 ++ (g.x.1 ∷ i ∷ j ∷ listed_values t.x)) (sym (bit-flag v h.few)) (sym t.fine.0.0));
           runs = then_runs g.runs (field-runs h (λ b. count_form) (field-runs k rest_form t.runs));
           few = omega (arith, g.few, t.few);
-          sorted = omega (arith, h.few);
           counted = omega (arith, k.few);
         }
 
@@ -291,7 +292,7 @@ module _ (w : ℕ) (source : List ℕ) (p : ℕ) where
         line-word s = then-stops g.runs (field-then-stops h (λ b. trait_form) (field-then-stops k (λ n. word_fields w) s))
 
         pub line-gone : (q : ℕ) → Gone (word_fields w) one Anything 8 source (named + 1 + 1) q
-            → GoneItem (line_fields w) (1 ∷ []) line_bits source p (record { at = q; sort = 2; parents = 0 })
+            → GoneItem (line_fields w) (1 ∷ []) line_bits source p (record { at = q; sort = Sort.Line; parents = 0 })
         unfolding line_fields item_values
         line-gone q u = record {
           x = extension g.x (eqb v 1) (eqb t 1) u.x;
@@ -300,7 +301,6 @@ module _ (w : ℕ) (source : List ℕ) (p : ℕ) where
           led = ap₂ (λ (i j : ℕ). 1 ∷ name_values g.x ++ (i ∷ j ∷ u.x ∷ [])) (sym (bit-flag v h.few)) (sym (bit-flag t k.few));
           runs = then_runs g.runs (field-runs h (λ b. trait_form) (field-runs k (λ n. word_fields w) u.runs));
           few = omega (arith, g.few, u.few);
-          sorted = omega arith;
           counted = omega arith;
         }
 
@@ -323,7 +323,6 @@ module _ (w : ℕ) (source : List ℕ) (p : ℕ) where
       led = ap (λ (us : List ℕ). us ++ g.us) e ∙ g.led;
       runs = field-runs h lead_form (record { same = λ k. ap (λ (f : Fields). from f source (p + 1)) (same k) ∙ g.runs.same k });
       few = omega (arith, g.few);
-      sorted = g.sorted;
       counted = g.counted;
     }
     item-behind G same lead e bits l (Err f) s =

@@ -1,3 +1,4 @@
+pub mod Sorts
 pub mod Walking
 pub mod WalkingLaws
 pub mod FormLaws

@@ -15,6 +15,7 @@ use Rattle.fields.specs.Fields.{fault_of}
 use Rattle.schedule_fields.specs.declared.Rule.{Rule}
 use Rattle.schedule_values.specs.Meeting.{bits_within, most_bits, Met, Missed, Meets}
 use Rattle.schedule_walk.specs.declared.Entry.{Entry}
+use Rattle.schedule_walk.specs.Sorts.{number_of}
 
 -- ---- fields from a bit on
 
@@ -104,12 +105,11 @@ pub record Found (sort parents : ℕ) (x : Item) : Type 0 where
 -- An item behind the values `lead`, which are none or its lead bit.
 pub record GoneItem (F : Fields → Fields) (lead : List ℕ) (bits : ℕ) (source : List ℕ) (p : ℕ) (e : Entry) : Type 0 where
   pub x : Item
-  pub found : Found e.sort e.parents x
+  pub found : Found (number_of e.sort) e.parents x
   pub us : List ℕ
   pub led : lead ++ us ≡ item_values x
   pub runs : Runs F us source p e.at
   pub few : e.at ≤ p + bits
-  pub sorted : e.sort < 3
   pub counted : e.parents < 18
 
 -- Or it is refused.

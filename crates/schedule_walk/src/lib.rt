@@ -10,22 +10,46 @@ ghost use Rattle.definitions.specs.ScheduleFields.{times, word_fields, name_fiel
 ghost use Rattle.definitions.specs.Packing.{item_count_bits};
 ghost use Rattle.definitions.specs.Values.{name_values, parent_values, mark_values, counted_values};
 ghost use Rattle.tariff_definitions.specs.DecodedLaws.{OneOrTwo};
+ghost use Rattle.schedule_walk.specs.Sorts.{number_of};
 ghost use Rattle.schedule_walk.specs.Walking.{Ready, Reads, Goes, GoesItem, one, Anything, Many, NamedWord, named_values, ManyParents, listed_values, names_fields, name_bits, parent_bits, mark_bits, marks_bits, line_bits, made_bits, item_bits, names_bits};
 
 use fields::Fault;
 use schedule_fields::{Place, Rule};
 
-// The sort of an extension line; a resource's is 1 where it is virtual, and 0 where it is not (FORMAT 13.1).
-const LINE: usize = 2;
-
 // The bits of the number of items (FORMAT 6.1).
 pub const COUNT_BITS: usize = 16;
+
+// The sort of an item (FORMAT 13.1).
+#[derive(Clone, Copy, PartialEq, Eq)]
+pub enum Sort {
+    Real,
+    Virtual,
+    Line,
+}
+
+// The number that a tariff has for it.
+impl From<Sort> for usize {
+    ghost from_gives = { λ s n. n ≡ number_of s };
+
+    fn from(sort: Sort) -> usize {
+        sort as usize
+    }
+}
+
+// The sort of a resource, by its flag. No TryFrom: a flag was read as 0 or 1, and `made` would have to open an error that never
+// comes.
+fn of_flag(flag: usize) -> Sort
+    requires { flag ≤ 1 }
+    ensures { number_of result ≡ flag }
+{
+    if flag == 0 { Sort::Real } else { Sort::Virtual }
+}
 
 // An item that was gone through: the bit behind it, its sort and its number of parents.
 #[derive(Clone, Copy)]
 pub struct Entry {
     pub at: usize,
-    pub sort: usize,
+    pub sort: Sort,
     pub parents: usize,
 }
 
@@ -219,7 +243,7 @@ fn made(source: &[u8], end: usize, w: usize, at: usize) -> Result<Entry, Fault>
     let rest = parents_and_marks(source, end, w, head + 1 + rule.width, count)?;
     Ok(Entry {
         at: rest,
-        sort: is_virtual,
+        sort: of_flag(is_virtual),
         parents: count,
     })
 }
@@ -237,7 +261,7 @@ fn line(source: &[u8], end: usize, w: usize, at: usize) -> Result<Entry, Fault>
     let last = word(source, end, w, named + 2)?;
     Ok(Entry {
         at: last,
-        sort: LINE,
+        sort: Sort::Line,
         parents: 0,
     })
 }

@@ -19,11 +19,13 @@ use Rattle.decoding.specs.Decoding.{turned_back, decoded}
 use Rattle.decoding.specs.DecodingLaws.{was_read, not-read, seven, five, six}
 use Rattle.sheet_words.specs.Words.{Telling, telling_of}
 use Rattle.sheet_keys.specs.Keys.{name_of_key}
+use Rattle.catalogue.specs.declared.Catalogue.{Catalogue}
+use Rattle.sheet_draft.specs.declared.Draft.{Draft}
 use Rattle.sheet_draft.specs.Draft.{key_at, type_in, types_in}
 use Rattle.sheet_draft.specs.Drafted.{Entered}
 use Rattle.sheet_order.specs.Entries.{LowKeys}
 use Rattle.sheet_extensions.specs.Records.{records_in}
-use Rattle.sheet_decode.specs.Lists.{Tables, Seen, seen, of_lists, Kept}
+use Rattle.sheet_decode.specs.Lists.{Seen, seen, of_lists, Kept}
 use Rattle.answers.specs.declared.Refusal.{Refusal}
 use Rattle.answers.specs.Answers.{alone, refusal_of}
 use Rattle.sheet_decode.specs.Decodes.{Whole, Back}
@@ -33,7 +35,7 @@ use Rattle.sheet_decode.specs.declared.Decoding.{Decoding}
 -- ---- the lists
 
 -- the lists are those of a sheet
-pub record Listed (bytes d t : List ℕ) (l : Lists) : Type 0 where
+pub record Listed (bytes : List ℕ) (d : Draft) (t : Catalogue) (l : Lists) : Type 0 where
   pub s : Sheet
   pub read : sheet (bits_of bytes) ≡ done s (drop l.at (bits_of bytes))
   pub width : l.width ≡ length s.words
@@ -43,7 +45,7 @@ pub record Listed (bytes d t : List ℕ) (l : Lists) : Type 0 where
   pub types : types_in l.width (bits_of bytes) d l.count ≡ s.types
   pub extensions : records_in t l.extensions ≡ s.extensions
 
-module _ (bytes d t : List ℕ) where
+module _ (bytes : List ℕ) (d : Draft) (t : Catalogue) where
   abbrev here : Lists → Seen
   here l = record {
     telling = record { count = l.width; bad = l.bad; resource = l.resource; own = l.own };
@@ -81,7 +83,7 @@ module _ (bytes d t : List ℕ) where
 -- ---- keys
 
 -- keys of names that were read are small
-pub low : (bytes d t : List ℕ) (l : Lists) → Listed bytes d t l → LowKeys d l.count
+pub low : (bytes : List ℕ) (d : Draft) (t : Catalogue) (l : Lists) → Listed bytes d t l → LowKeys d l.count
 unfolding types_in type_in name_of_key
 low bytes d t l h =
     let w = read-is-within (bits_of bytes) (drop l.at (bits_of bytes)) h.s h.read in
@@ -100,7 +102,7 @@ back_as bytes r n h e =
     let k : (refusal_of r).number ≡ n = ap (λ (a : rules.Answer). a.number) h in
     record { number = e ∙ ap turned_back (sym k); alone = h ∙ ap alone (sym k) }
 
-module _ (bytes d t : List ℕ) (l : Lists) (h : Listed bytes d t l) where
+module _ (bytes : List ℕ) (d : Draft) (t : Catalogue) (l : Lists) (h : Listed bytes d t l) where
   abbrev rest : List Bool
   rest = drop l.at (bits_of bytes)
 
@@ -115,19 +117,18 @@ module _ (bytes d t : List ℕ) (l : Lists) (h : Listed bytes d t l) where
       pub twice-back : something_twice h.s ≡ true → decoded bytes ≡ turned_back 6
       twice-back c = was_read bytes h.s rest h.read ∙ six h.s rest f (sym h.bad ∙ g) c
 
-      pub passes : something_twice h.s ≡ false → length bytes ≤ 40960 → (entries : List ℕ) → Entered d entries l.count → Tables d t → Kept (bits_of bytes) d l → (r : Decoding)
+      pub passes : something_twice h.s ≡ false → length bytes ≤ 40960 → (entries : List ℕ) → Entered d entries l.count → Kept (bits_of bytes) d l → (r : Decoding)
           → r.width ≡ l.width → r.count ≡ l.count → r.extensions ≡ l.extensions → r.resource ≡ l.resource → r.own ≡ l.own → Whole bytes d entries t r
-      passes c short entries en m k r w n x a b = record {
+      passes c short entries en k r w n x a b = record {
         s = h.s;
         holds = record { rest = rest; short = short; read = h.read; fill = f; words = sym h.bad ∙ g; once = c };
         drafted = record {
           few = omega (arith, n, k.count);
-          long = m.draft;
           types = rw (n, ← h.width) h.types;
         };
         notes = rw (n, ← h.width) k.notes;
         entered = rw n en;
-        extensions = record { few = omega (arith, x, k.extensions); long = m.catalogue; records = rw x h.extensions };
+        extensions = record { few = omega (arith, x, k.extensions); records = rw x h.extensions };
         width = w ∙ h.width;
         resource = a ∙ h.resource;
         self = b ∙ h.own;

@@ -23,7 +23,8 @@ use Rattle.line_laws.specs.Statements.{line_map}
 use Rattle.line_laws.specs.Within.{ExtensionWithin, Within}
 use Rattle.ordering.specs.Lists.{tab, below, below-same, below_none, filter-below, map_below}
 use Rattle.law_classes.specs.Sets.{type_at}
-use Rattle.catalogue.specs.Layout.{key_at, extension_key_at, extension_count_at, extension_parent_at, extensions_in, extended_in}
+use Rattle.catalogue.specs.declared.Catalogue.{Catalogue}
+use Rattle.catalogue.specs.Layout.{key_at, extension_key_at, extension_count_at, extension_parent_at}
 use Rattle.catalogue.specs.Catalogue as catalogue
 use Rattle.sheet_keys.specs.Keys.{name_of_key, names_from}
 use Rattle.sheet_extensions.specs.Records.{record_in, records_in}
@@ -45,19 +46,19 @@ filter-tabulate {A} f h n = ap (filter f) (as-tab n ∙ sym (map_below h n)) ∙
     as-tab (suc m) = ap (λ (l : List A). l ++ (h m ∷ [])) (as-tab m)
 
 -- What is asked of the rest of the catalogue: how many records there are, the names of the types, and the types that have a record.
-pub record Marked (s : Sheet) (t : List ℕ) (n : ℕ) : Type 0 where
-  pub count : extensions_in t ≡ n
+pub record Marked (s : Sheet) (t : Catalogue) (n : ℕ) : Type 0 where
+  pub count : t.extension_count ≡ n
   pub name : (a : ℕ) → a < length (line_map s).types → catalogue.name_of_key (key_at t a) ≡ (type_at (line_map s) a).name
-  pub none : (a : ℕ) → a < length (line_map s).types → has_bit (extended_in t) a ≡ false → (e : ℕ) → e < n → eqb (extension_key_at t e / 256) (key_at t a) ≡ false
+  pub none : (a : ℕ) → a < length (line_map s).types → has_bit t.extended a ≡ false → (e : ℕ) → e < n → eqb (extension_key_at t e / 256) (key_at t a) ≡ false
 
-module _ (s : Sheet) (t : List ℕ) (n : ℕ) (w : Within s) (x : Extensions s t n) (m : Marked s t n) where
+module _ (s : Sheet) (t : Catalogue) (n : ℕ) (w : Within s) (x : Extensions s t n) (m : Marked s t n) where
   member : (e : ℕ) → e < n → ExtensionWithin (length s.words) (record_in t e)
   unfolding records_in
   member e h = w.extension (record_in t e) (subst (In (record_in t e)) x.records (tabulate-in (record_in t) n e h))
 
   count_low : (e : ℕ) → e < n → extension_count_at t e ≤ 8
   unfolding record_in names_from
-  count_low e h = omega (arith, (member e h).parents, length-tabulate (λ j. name_of_key (get_or t (768 + 8 * e + j) 0)) (extension_count_at t e))
+  count_low e h = omega (arith, (member e h).parents, length-tabulate (λ j. name_of_key (get_or t.extension_parents (8 * e + j) 0)) (extension_count_at t e))
 
   key-low : (e : ℕ) → e < n → extension_key_at t e < 16777216
   unfolding record_in name_of_key
@@ -68,19 +69,17 @@ module _ (s : Sheet) (t : List ℕ) (n : ℕ) (w : Within s) (x : Extensions s t
   parent-low : (e j : ℕ) → e < n → j < extension_count_at t e → extension_parent_at t (8 * e + j) < 65536
   unfolding record_in names_from name_of_key
   parent-low e j h b =
-      let q : 768 + 8 * e + j ≡ 768 + (8 * e + j) = omega arith in
-      let k = get_or t (768 + 8 * e + j) 0 in
-      let i : In (name_of_key k) (record_in t e).parents = tabulate-in (λ i. name_of_key (get_or t (768 + 8 * e + i) 0)) (extension_count_at t e) j b in
+      let k = get_or t.extension_parents (8 * e + j) 0 in
+      let i : In (name_of_key k) (record_in t e).parents = tabulate-in (λ i. name_of_key (get_or t.extension_parents (8 * e + i) 0)) (extension_count_at t e) j b in
       let a : k / 256 < length s.words = ((member e h).parent (name_of_key k) i).below (k / 256) (Memᴰ.head refl) in
-      let l : k < 65536 = omega (arith, a, w.words) in
-      rw (← q) l
+      omega (arith, a, w.words)
 
   -- the parents that a record adds
   parents-are : (e : ℕ) → catalogue.parents_in t e ≡ (record_in t e).parents
   unfolding catalogue.parents_in record_in names_from
   parents-are e =
-      tabulate-same (λ j. catalogue.name_of_key (extension_parent_at t (8 * e + j))) (λ j. name_of_key (get_or t (768 + 8 * e + j) 0)) (extension_count_at t e)
-      (λ j b. let q : 768 + (8 * e + j) ≡ 768 + 8 * e + j = omega arith in one_name (extension_parent_at t (8 * e + j)) ∙ ap (λ (i : ℕ). name_of_key (get_or t i 0)) q)
+      tabulate-same (λ j. catalogue.name_of_key (extension_parent_at t (8 * e + j))) (λ j. name_of_key (get_or t.extension_parents (8 * e + j) 0)) (extension_count_at t e)
+      (λ j b. one_name (extension_parent_at t (8 * e + j)))
 
   -- the record is one for the type at a
   for-name : (e a : ℕ) → a < length (line_map s).types → same_name (record_in t e).name (type_at (line_map s) a).name ≡ eqb (extension_key_at t e / 256) (key_at t a)
@@ -127,7 +126,7 @@ module _ (s : Sheet) (t : List ℕ) (n : ℕ) (w : Within s) (x : Extensions s t
       ∙ sym (added-as a r)
 
   -- a type outside the set has no record
-  none-added : (a r : ℕ) → a < length (line_map s).types → has_bit (extended_in t) a ≡ false → extension_parents (line_map s) (type_at (line_map s) a).name r ≡ []
+  none-added : (a r : ℕ) → a < length (line_map s).types → has_bit t.extended a ≡ false → extension_parents (line_map s) (type_at (line_map s) a).name r ≡ []
   none-added a r h z =
       added-as a r
       ∙ ap (each (λ e. (record_in t e).parents))

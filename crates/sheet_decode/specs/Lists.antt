@@ -1,21 +1,18 @@
 -- What the decoder reads: the lists of a sheet, of the words no more than is asked later.
-use Rattle.std.specs.Prelude.{Bool, List, ◌≡◌, ℕ, ◌≤◌, length, drop, Result, Ok, Err}
+use Rattle.std.specs.Prelude.{Bool, List, ◌≤◌, drop, Result, Ok, Err}
 use Rattle.definitions.specs.Parse.{Parsed, done, refused, Parser, next, ◌>>=◌, pure, counted}
 use Rattle.definitions.specs.Reading.{type_info, extension}
 use Rattle.definitions.specs.Records.{TypeInfo, Extension, Sheet}
 use Rattle.fields.specs.declared.Fault.{Fault}
 use Rattle.fields.specs.Fields.{fault_of}
+use Rattle.catalogue.specs.declared.Catalogue.{Catalogue}
+use Rattle.sheet_draft.specs.declared.Draft.{Draft}
 use Rattle.sheet_draft.specs.Draft.{types_in}
 use Rattle.sheet_types.specs.Rows.{NotesRead}
 use Rattle.sheet_extensions.specs.Records.{records_in}
 use Rattle.sheet_words.specs.Words.{Telling, telling_of}
 use Rattle.sheet_words.specs.declared.WordsRead.{WordsRead}
 use Rattle.sheet_decode.specs.declared.Lists.{Lists}
-
--- The tables have the sizes that they are lent with.
-pub record Tables (d t : List ℕ) : Type 0 where
-  pub draft : length d ≡ 704
-  pub catalogue : length t ≡ 1544
 
 -- What an answer tells.
 abbrev pub telling_in : WordsRead → Telling
@@ -39,7 +36,7 @@ records w = do
   pure (record { telling = w; types = ts; extensions = es })
 
 -- An answer as a parser's, for the bits of a sheet, the draft and the catalogue.
-abbrev pub of_lists : List Bool → List ℕ → List ℕ → Result Lists Fault → Parsed Seen
+abbrev pub of_lists : List Bool → Draft → Catalogue → Result Lists Fault → Parsed Seen
 of_lists bs d t (Ok l) =
     done
     (record {
@@ -51,7 +48,7 @@ of_lists bs d t (Ok l) =
 of_lists bs d t (Err r) = refused (fault_of r)
 
 -- The counts are those that a sheet can have, and annotations and marks can be read again.
-pub record Kept (bs : List Bool) (d : List ℕ) (l : Lists) : Type 0 where
+pub record Kept (bs : List Bool) (d : Draft) (l : Lists) : Type 0 where
   pub width : l.width ≤ 200
   pub count : l.count ≤ 64
   pub extensions : l.extensions ≤ 32

@@ -5,16 +5,19 @@ ghost use Rattle.std.specs.Prelude.{◌≡◌, ◌≤◌, length, drop, IfOk};
 ghost use Rattle.definitions.specs.Bits.{bits_of};
 ghost use Rattle.definitions.specs.Reading.{sheet};
 ghost use Rattle.bits.specs.Reading.{Addressable};
-ghost use Rattle.sheet_decode.specs.Lists.{Tables, telling_in, records, seen, of_lists, Kept};
+ghost use Rattle.sheet_decode.specs.Lists.{telling_in, records, seen, of_lists, Kept};
 ghost use Rattle.sheet_decode.specs.Decodes.{Decodes};
 
 use answers::Refusal;
 use bits::Cursor;
-use fields::Fault;
+use catalogue::Catalogue;
+use fields::{Fault, Sheet};
+use sheet_draft::Draft;
 use sheet_repeats::Sizes;
 use sheet_words::WordsRead;
 
-// How many words, types and extension records there are, the place behind the last field, and what the words tell.
+// How many words, types and extension records there are, the place behind the last field, and what the words tell. A flag and no
+// Err for words that are refused: 7 is told before 5 (FORMAT 7.3).
 #[derive(Clone, Copy)]
 pub struct Lists {
     pub at: usize,
@@ -37,17 +40,16 @@ pub struct Decoding {
 }
 
 // The types and the extension records behind the words.
-fn read_records(
-    s: &[u8],
-    w: WordsRead,
-    d: &mut [u64; 704],
-    t: &mut [u64; 1544],
-) -> Result<Lists, Fault>
-    requires { Addressable s.now × (w.count ≤ 200) × Tables d.old t.old }
-    ensures { (of_lists (bits_of s.now) d.new t.new result ≡ records (telling_in w) (drop w.at (bits_of s.now))) × Tables d.new t.new × IfOk result (Kept (bits_of s.now) d.new) }
+fn read_records(s: &[u8], w: WordsRead, d: &mut Draft, t: &mut Catalogue) -> Result<Lists, Fault>
+    requires { Addressable s.now × (w.count ≤ 200) }
+    ensures { (of_lists (bits_of s.now) d.new t.new result ≡ records (telling_in w) (drop w.at (bits_of s.now))) × IfOk result (Kept (bits_of s.now) d.new) }
 {
-    let (types, next) = sheet_types::read_types(s, Cursor { at: w.at }, w.count, d)?;
-    let (records, end) = sheet_extensions::read_extensions(s, next, w.count, t)?;
+    let sheet = Sheet {
+        bytes: s,
+        words: w.count,
+    };
+    let (types, next) = sheet_types::read_types(sheet, Cursor { at: w.at }, d)?;
+    let (records, end) = sheet_extensions::read_extensions(sheet, next, t)?;
     Ok(Lists {
         at: end.at,
         width: w.count,
@@ -60,9 +62,9 @@ fn read_records(
 }
 
 // All fields of the sheet: refusals 3 and 4 (FORMAT 2.1).
-fn read_lists(s: &[u8], d: &mut [u64; 704], t: &mut [u64; 1544]) -> Result<Lists, Fault>
-    requires { Addressable s.now × Tables d.old t.old }
-    ensures { (of_lists (bits_of s.now) d.new t.new result ≡ seen (sheet (bits_of s.now))) × Tables d.new t.new × IfOk result (Kept (bits_of s.now) d.new) }
+fn read_lists(s: &[u8], d: &mut Draft, t: &mut Catalogue) -> Result<Lists, Fault>
+    requires { Addressable s.now }
+    ensures { (of_lists (bits_of s.now) d.new t.new result ≡ seen (sheet (bits_of s.now))) × IfOk result (Kept (bits_of s.now) d.new) }
 {
     let next = sheet::read_version(s, Cursor { at: 0 })?;
     let w = sheet_words::read_words(s, next)?;
@@ -72,11 +74,11 @@ fn read_lists(s: &[u8], d: &mut [u64; 704], t: &mut [u64; 1544]) -> Result<Lists
 // The whole sheet, or the first of the tests 3, 4, 7, 5 and 6 that holds (FORMAT 7.3).
 pub fn decode(
     s: &[u8],
-    d: &mut [u64; 704],
+    d: &mut Draft,
     entries: &mut [u64; 64],
-    t: &mut [u64; 1544],
+    t: &mut Catalogue,
 ) -> Result<Decoding, Refusal>
-    requires { (length s.now ≤ 40960) × Tables d.old t.old × (length entries.old ≡ 64) }
+    requires { length s.now ≤ 40960 }
     ensures { Decodes s.now d.new entries.new t.new result }
 {
     let l = read_lists(s, d, t)?;

@@ -1,31 +1,32 @@
--- The draft of a map: its types in the order of the sheet, one lent table of numbers. What stands where in it, and what it means.
-use Rattle.std.specs.Prelude.{Bool, List, [], ◌∷◌, ℕ, ◌+◌, ◌*◌, ◌/◌, ◌%◌, eqb, drop, get_or}
+-- The draft of a map: its types in the order of the sheet, a row for each. What stands at a place of a column, and what a row means.
+use Rattle.std.specs.Prelude.{Bool, List, [], ◌∷◌, ℕ, ◌+◌, ◌*◌, ◌/◌, ◌%◌, eqb, drop, get_or, replicate}
 use Rattle.lists.specs.Tabulating.{tabulate}
 use Rattle.definitions.specs.Parse.{Parsed, done, refused}
 use Rattle.definitions.specs.Records as records
 use Rattle.definitions.specs.Records.{Variant, domain, resource, other}
 use Rattle.sheet_keys.specs.Keys.{name_of_key, names_from}
 use Rattle.sheet_notes.specs.Notes.{Notes, notes}
+use Rattle.sheet_draft.specs.declared.Draft.{Draft}
 
 -- The name of the type in row i, as a key.
-abbrev pub key_at : List ℕ → ℕ → ℕ
-key_at d i = get_or d i 0
+abbrev pub key_at : Draft → ℕ → ℕ
+key_at d i = get_or d.keys i 0
 
 -- Variant, virtual, trait and number of parents, in the 8 bits that the sheet has them in (FORMAT 2.6).
-abbrev pub head_at : List ℕ → ℕ → ℕ
-head_at d i = get_or d (64 + i) 0
+abbrev pub head_at : Draft → ℕ → ℕ
+head_at d i = get_or d.heads i 0
 
 -- The bit of the sheet from which its annotations and marks stand.
-abbrev pub place_at : List ℕ → ℕ → ℕ
-place_at d i = get_or d (128 + i) 0
+abbrev pub place_at : Draft → ℕ → ℕ
+place_at d i = get_or d.places i 0
 
 -- How many parents it has: at most 8, whatever stands in the table, so that no row reaches into the next.
-abbrev pub parent_count_at : List ℕ → ℕ → ℕ
+abbrev pub parent_count_at : Draft → ℕ → ℕ
 parent_count_at d i = head_at d i % 16 % 9
 
 -- The k-th parent of row i, as a key.
-abbrev pub parent_at : List ℕ → ℕ → ℕ → ℕ
-parent_at d i k = get_or d (192 + 8 * i + k) 0
+abbrev pub parent_at : Draft → ℕ → ℕ → ℕ
+parent_at d i k = get_or d.parents (8 * i + k) 0
 
 -- The annotations and marks that a parser gave; none where it refused.
 abbrev pub notes_of : Parsed Notes → Notes
@@ -33,7 +34,7 @@ notes_of (done x rest) = x
 notes_of (refused r) = record { annotations = []; marks = [] }
 
 -- Those of row i, out of the bits of a sheet with W words.
-unfoldable pub notes_at : ℕ → List Bool → List ℕ → ℕ → Notes
+unfoldable pub notes_at : ℕ → List Bool → Draft → ℕ → Notes
 notes_at W bs d i = notes_of (notes W (eqb (key_at d i % 256) 0) (drop (place_at d i) bs))
 
 -- The variant of a number (FORMAT 2.6).
@@ -41,17 +42,21 @@ abbrev pub variant_of : ℕ → Variant
 variant_of v = get_or (domain ∷ resource ∷ other ∷ []) v other
 
 -- The type in row i: its name, head and parents out of the table, its annotations and marks out of the sheet.
-unfoldable pub type_in : ℕ → List Bool → List ℕ → ℕ → records.TypeInfo
+unfoldable pub type_in : ℕ → List Bool → Draft → ℕ → records.TypeInfo
 type_in W bs d i = record {
   name = name_of_key (key_at d i);
   variant = variant_of (head_at d i / 64);
   virtual = eqb (head_at d i / 32 % 2) 1;
   trait = eqb (head_at d i / 16 % 2) 1;
-  parents = names_from d (192 + 8 * i) (parent_count_at d i);
+  parents = names_from d.parents (8 * i) (parent_count_at d i);
   annotations = (notes_at W bs d i).annotations;
   marks = (notes_at W bs d i).marks;
 }
 
 -- The types in the first n rows.
-unfoldable pub types_in : ℕ → List Bool → List ℕ → ℕ → List records.TypeInfo
+unfoldable pub types_in : ℕ → List Bool → Draft → ℕ → List records.TypeInfo
 types_in W bs d n = tabulate (type_in W bs d) n
+
+-- Nothing stands in it.
+unfoldable pub blank : Draft
+blank = record { keys = replicate 64 0; heads = replicate 64 0; places = replicate 64 0; parents = replicate 512 0 }

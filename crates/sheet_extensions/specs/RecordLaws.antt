@@ -1,7 +1,7 @@
 -- Laws of the extension records in a catalogue.
-use Rattle.std.specs.Prelude.{Bool, List, [], ◌∷◌, ◌++◌, ◌≡◌, refl, ℕ, ◌+◌, ◌*◌, ◌/◌, ◌%◌, ◌≤◌, ◌<◌, eqb, length, drop, get_or, set}
+use Rattle.std.specs.Prelude.{Bool, List, [], ◌∷◌, ◌++◌, ◌≡◌, refl, ℕ, ◌+◌, ◌*◌, ◌/◌, ◌%◌, ◌≤◌, ◌<◌, eqb, length, drop, get_or}
 use Rattle.std.proofs.Math.Path.{sym, ap}
-use Rattle.std.proofs.Common.{◌∙◌, eqb-true, length-set}
+use Rattle.std.proofs.Common.{◌∙◌, eqb-true}
 use native.Mathlib.Omega.{arith}
 use Rattle.std.proofs.lemmas.Bool.{eqb-false}
 use Rattle.std.proofs.Math.Seq
@@ -11,9 +11,10 @@ use Rattle.definitions.specs.Parse as parse
 use Rattle.definitions.specs.Parse.{Parsed, done, refused, next, pure, counted}
 use Rattle.definitions.specs.Reading.{word_field, word_if_flag, name, extension}
 use Rattle.fields.specs.FieldLaws.{word_lt}
-use Rattle.sheet_keys.specs.Keys.{name_of_key, names_from, Kept}
+use Rattle.sheet_keys.specs.Keys.{name_of_key, names_from}
+use Rattle.catalogue.specs.declared.Catalogue.{Catalogue}
 use Rattle.catalogue.specs.Layout.{extension_key_at, extension_count_at}
-use Rattle.sheet_extensions.specs.Records.{record_in, records_in, record_set, FewParents, KeptRecords}
+use Rattle.sheet_extensions.specs.Records.{record_in, records_in, record_set, FewParents, KeptRecords, ParentsPut}
 
 -- ---- keys
 
@@ -35,46 +36,31 @@ key-low W k bs rest e = go (word_field W bs) refl e
 
 -- ---- a record that was put
 
-module _ (t : List ℕ) (e key count : ℕ) (few : e < 32) (l : length t ≡ 1544) where
-  pub set-size : length (record_set t e key count) ≡ 1544
-  set-size = length-set (set t (704 + e) key) (736 + e) count ∙ length-set t (704 + e) key ∙ l
-
-  -- what stands elsewhere
-  set_other : (j : ℕ) → (j ≡ 704 + e → ⊥) → (j ≡ 736 + e → ⊥) → get_or (record_set t e key count) j 0 ≡ get_or t j 0
-  set_other j a b = Seq.get_or-set_other (set t (704 + e) key) (736 + e) j count 0 b ∙ Seq.get_or-set_other t (704 + e) j key 0 a
-
+module _ (t : Catalogue) (e key count : ℕ) (few : e < 32) (keys : length t.extension_keys ≡ 32) (counts : length t.extension_counts ≡ 32) where
   set_key : extension_key_at (record_set t e key count) e ≡ key
-  set_key = Seq.get_or-set_other (set t (704 + e) key) (736 + e) (704 + e) count 0 (λ z. omega arith) ∙ Seq.get_or-set_same t (704 + e) key 0 (omega arith)
+  set_key = Seq.get_or-set_same t.extension_keys e key 0 (omega arith)
 
   pub set-count : extension_count_at (record_set t e key count) e ≡ count
-  set-count = Seq.get_or-set_same (set t (704 + e) key) (736 + e) count 0 (omega (arith, length-set t (704 + e) key))
+  set-count = Seq.get_or-set_same t.extension_counts e count 0 (omega arith)
 
-  set-parents : (n : ℕ) → names_from (record_set t e key count) (768 + 8 * e) n ≡ names_from t (768 + 8 * e) n
-  unfolding names_from
-  set-parents n =
-      tabulate-same (λ j. name_of_key (get_or (record_set t e key count) (768 + 8 * e + j) 0)) (λ j. name_of_key (get_or t (768 + 8 * e + j) 0)) n
-      (λ j k. ap name_of_key (set_other (768 + 8 * e + j) (λ z. omega arith) (λ z. omega arith)))
-
-  -- records before it
-  pub kept_record : (old : List ℕ) → Kept (768 + 8 * e) old t → KeptRecords e old (record_set t e key count)
-  kept_record old k = record {
-    size = set-size ∙ sym l ∙ k.size;
-    keys = λ j b. set_other (704 + j) (λ z. omega arith) (λ z. omega arith) ∙ k.same (704 + j) (omega arith);
-    counts = λ j b. set_other (736 + j) (λ z. omega arith) (λ z. omega arith) ∙ k.same (736 + j) (omega arith);
-    parents = λ j b. set_other (768 + j) (λ z. omega arith) (λ z. omega arith) ∙ k.same (768 + j) (omega arith);
-  }
-
--- nothing is put but parents of record e
-pub kept-below : (e : ℕ) (old new : List ℕ) → e < 32 → Kept (768 + 8 * e) old new → KeptRecords e old new
-kept-below e old new few k = record {
-  size = k.size;
-  keys = λ j b. k.same (704 + j) (omega arith);
-  counts = λ j b. k.same (736 + j) (omega arith);
-  parents = λ j b. k.same (768 + j) (omega arith);
+-- records before it
+pub kept_record : (t : Catalogue) (e key count : ℕ) (old : Catalogue) → KeptRecords e old t → KeptRecords e old (record_set t e key count)
+kept_record t e key count old k = record {
+  keys = λ j b. Seq.get_or-set_other t.extension_keys e j key 0 (λ z. omega arith) ∙ k.keys j b;
+  counts = λ j b. Seq.get_or-set_other t.extension_counts e j count 0 (λ z. omega arith) ∙ k.counts j b;
+  parents = k.parents;
 }
 
-pub kept_same : (e : ℕ) (t : List ℕ) → KeptRecords e t t
-kept_same e t = record { size = refl; keys = λ j b. refl; counts = λ j b. refl; parents = λ j b. refl }
+-- nothing is put but parents of record e
+pub kept-below : (e : ℕ) (old new : Catalogue) → ParentsPut e old new → KeptRecords e old new
+kept-below e old new k = record {
+  keys = λ j b. ap (λ (t : Catalogue). extension_key_at t j) k.only;
+  counts = λ j b. ap (λ (t : Catalogue). extension_count_at t j) k.only;
+  parents = k.before.same;
+}
+
+pub kept_same : (e : ℕ) (t : Catalogue) → KeptRecords e t t
+kept_same e t = record { keys = λ j b. refl; counts = λ j b. refl; parents = λ j b. refl }
 
 -- ---- what the code read
 
@@ -93,41 +79,41 @@ module _ (W : ℕ) (bs : List Bool) (p : ℕ) where
       unfolding extension
       no-added r g = sym (rw (← e, ← f, ← g))
 
-      pub record-read : (t : List ℕ) (i count at : ℕ) → i < 32 → length t ≡ 1544 → w < 256 →
-          done (names_from t (768 + 8 * i) count) (drop at bs) ≡ counted 4 1 8 (name W) (drop at₂ bs) →
+      pub record-read : (t : Catalogue) (i count at : ℕ) → i < 32 → length t.extension_keys ≡ 32 → length t.extension_counts ≡ 32 → w < 256 →
+          done (names_from t.extension_parents (8 * i) count) (drop at bs) ≡ counted 4 1 8 (name W) (drop at₂ bs) →
           done (record_in (record_set t i (key * 256 + w) count) i) (drop at bs) ≡ extension W (drop p bs)
       unfolding extension record_in
-      record-read t i count at few l b g =
+      record-read t i count at few x y b g =
           let q : (key * 256 + w) / 256 ≡ key = omega arith in
           let r : (key * 256 + w) % 256 ≡ w = omega arith in
-          rw (set_key t i (key * 256 + w) count few l, set-count t i (key * 256 + w) count few l, set-parents t i (key * 256 + w) count few l count, q, r)
+          rw (set_key t i (key * 256 + w) count few x y, set-count t i (key * 256 + w) count few x y, q, r)
           (sym (rw (← e, ← f, ← g)))
 
 -- ---- the records
 
-pub records-none : (t : List ℕ) → records_in t 0 ≡ []
+pub records-none : (t : Catalogue) → records_in t 0 ≡ []
 unfolding records_in tabulate
 records-none t = refl
 
-parents-kept : (e j n : ℕ) (t u : List ℕ) → KeptRecords e t u → j < e → n ≤ 8 → names_from u (768 + 8 * j) n ≡ names_from t (768 + 8 * j) n
+parents-kept : (e j n : ℕ) (t u : Catalogue) → KeptRecords e t u → j < e → n ≤ 8 → names_from u.extension_parents (8 * j) n ≡ names_from t.extension_parents (8 * j) n
 unfolding names_from
 parents-kept e j n t u k l m =
-    tabulate-same (λ b. name_of_key (get_or u (768 + 8 * j + b) 0)) (λ b. name_of_key (get_or t (768 + 8 * j + b) 0)) n
-    (λ b h. let q : 768 + (8 * j + b) ≡ 768 + 8 * j + b = omega arith in ap name_of_key (rw q at (k.parents (8 * j + b) (omega arith))))
+    tabulate-same (λ b. name_of_key (get_or u.extension_parents (8 * j + b) 0)) (λ b. name_of_key (get_or t.extension_parents (8 * j + b) 0)) n
+    (λ b h. ap name_of_key (k.parents (8 * j + b) (omega arith)))
 
-record-kept : (e : ℕ) (t u : List ℕ) → FewParents t e → KeptRecords e t u → (j : ℕ) → j < e → record_in u j ≡ record_in t j
+record-kept : (e : ℕ) (t u : Catalogue) → FewParents t e → KeptRecords e t u → (j : ℕ) → j < e → record_in u j ≡ record_in t j
 unfolding record_in
 record-kept e t u f k j l = rw (k.keys j l, k.counts j l, parents-kept e j (extension_count_at t j) t u k l (f.few j l))
 
 -- one record more
-pub records-more : (e : ℕ) (t u : List ℕ) → FewParents t e → KeptRecords e t u → records_in u (e + 1) ≡ records_in t e ++ (record_in u e ∷ [])
+pub records-more : (e : ℕ) (t u : Catalogue) → FewParents t e → KeptRecords e t u → records_in u (e + 1) ≡ records_in t e ++ (record_in u e ∷ [])
 unfolding records_in
 records-more e t u f k = tabulate-set (record_in t) (record_in u) e (record_in u e) (record-kept e t u f k) refl
 
-pub few-none : (t : List ℕ) → FewParents t 0
+pub few-none : (t : Catalogue) → FewParents t 0
 few-none t = record { few = λ e h. absurd (omega arith) }
 
-pub few-more : (e : ℕ) (t u : List ℕ) → KeptRecords e t u → extension_count_at u e ≤ 8 → FewParents t e → FewParents u (e + 1)
+pub few-more : (e : ℕ) (t u : Catalogue) → KeptRecords e t u → extension_count_at u e ≤ 8 → FewParents t e → FewParents u (e + 1)
 few-more e t u k h f = record {
   few = λ j b.
       by (eqb j e)

@@ -6,87 +6,80 @@ ghost use Rattle.definitions.specs.Bits.{bits_of};
 ghost use Rattle.definitions.specs.Parse.{counted};
 ghost use Rattle.definitions.specs.Reading.{name, annotation, mark};
 ghost use Rattle.bits.specs.Reading.{Addressable};
+ghost use Rattle.fields.specs.Fields.{bits_in};
+ghost use Rattle.records.specs.Kinds.{number_of};
 ghost use Rattle.records.specs.Annotations.{rows_for};
 ghost use Rattle.sheet_notes.specs.Notes.{notes, forget, steps, of_skip};
 
 use bits::Cursor;
-use fields::Fault;
+use fields::{Fault, Sheet};
+use records::Kind;
 
 // n names. This loop and those over annotations and marks are apart: the clauses of one over a closure are longer than all three.
-pub fn skip_each_name(s: &[u8], c: Cursor, limit: usize, n: usize) -> Result<Cursor, Fault>
-    requires { Addressable s.now × (limit ≤ 255) }
-    ensures { of_skip (bits_of s.now) result ≡ steps (name limit) n (drop c.at (bits_of s.now)) }
+pub fn skip_each_name(s: Sheet, c: Cursor, n: usize) -> Result<Cursor, Fault>
+    ensures { of_skip (bits_in s.entry) result ≡ steps (name s.entry.words) n (drop c.at (bits_in s.entry)) }
 {
     let mut next = c;
     for _ in 0..n {
-        let (_, end) = sheet_keys::read_key(s, next, limit)?;
+        let (_, end) = sheet_keys::read_key(s, next)?;
         next = end;
     }
     Ok(next)
 }
 
-fn skip_names(s: &[u8], c: Cursor, limit: usize) -> Result<Cursor, Fault>
-    requires { Addressable s.now × (limit ≤ 255) }
-    ensures { of_skip (bits_of s.now) result ≡ forget (counted 4 0 15 (name limit) (drop c.at (bits_of s.now))) }
+fn skip_names(s: Sheet, c: Cursor) -> Result<Cursor, Fault>
+    ensures { of_skip (bits_in s.entry) result ≡ forget (counted 4 0 15 (name s.entry.words) (drop c.at (bits_in s.entry))) }
 {
-    let (n, next) = sheet_fields::read_between(s, c, 4, 0, 15)?;
-    skip_each_name(s, next, limit, n)
+    let (n, next) = sheet_fields::read_between(s.bytes, c, 4, 0, 15)?;
+    skip_each_name(s, next, n)
 }
 
 // What follows the kind of an annotation.
-fn skip_rows(s: &[u8], c: Cursor, limit: usize, kind: usize) -> Result<Cursor, Fault>
-    requires { Addressable s.now × (limit ≤ 255) }
-    ensures { of_skip (bits_of s.now) result ≡ forget (rows_for limit kind (drop c.at (bits_of s.now))) }
+fn skip_rows(s: Sheet, c: Cursor, kind: Kind) -> Result<Cursor, Fault>
+    ensures { of_skip (bits_in s.entry) result ≡ forget (rows_for s.entry.words (number_of kind) (drop c.at (bits_in s.entry))) }
 {
     match kind {
-        1 | 2 | 4 => skip_names(s, c, limit),
-        3 => {
-            let (_, next) = sheet_fields::read_word_field(s, c, limit)?;
+        Kind::Associate | Kind::NestAssociate | Kind::Inherit => skip_names(s, c),
+        Kind::Alias => {
+            let (_, next) = sheet_fields::read_word_field(s.bytes, c, s.words)?;
             Ok(next)
         }
-        5 => {
-            let (_, next) = fields::read_tag(s, c)?;
+        Kind::Derive => {
+            let (_, next) = fields::read_tag(s.bytes, c)?;
             Ok(next)
         }
-        _ => Ok(c),
+        Kind::MakeList | Kind::NoDerive => Ok(c),
     }
 }
 
-// An annotation. A NestAssociate in a two-word type is refused at its kind (FORMAT 2.7).
-fn skip_annotation(s: &[u8], c: Cursor, limit: usize, single: bool) -> Result<Cursor, Fault>
-    requires { Addressable s.now × (limit ≤ 255) }
-    ensures { of_skip (bits_of s.now) result ≡ forget (annotation limit single (drop c.at (bits_of s.now))) }
+// An annotation. A NestAssociate in a two-word type is refused at its kind (FORMAT 2.7). `single`, here and below, is that of
+// `records`: a fact of the sheet, which the definitions take as a Bool too.
+fn skip_annotation(s: Sheet, c: Cursor, single: bool) -> Result<Cursor, Fault>
+    ensures { of_skip (bits_in s.entry) result ≡ forget (annotation s.entry.words single (drop c.at (bits_in s.entry))) }
 {
-    let (kind, next) = sheet_fields::read_between(s, c, 3, 0, 6)?;
+    let (number, next) = sheet_fields::read_between(s.bytes, c, 3, 0, 6)?;
+    let kind = Kind::of(number);
     if records::is_nested_in_two(kind, single) {
         return Err(Fault::NotAllowed);
     }
-    skip_rows(s, next, limit, kind)
+    skip_rows(s, next, kind)
 }
 
-fn skip_each_annotation(
-    s: &[u8],
-    c: Cursor,
-    limit: usize,
-    single: bool,
-    n: usize,
-) -> Result<Cursor, Fault>
-    requires { Addressable s.now × (limit ≤ 255) }
-    ensures { of_skip (bits_of s.now) result ≡ steps (annotation limit single) n (drop c.at (bits_of s.now)) }
+fn skip_each_annotation(s: Sheet, c: Cursor, single: bool, n: usize) -> Result<Cursor, Fault>
+    ensures { of_skip (bits_in s.entry) result ≡ steps (annotation s.entry.words single) n (drop c.at (bits_in s.entry)) }
 {
     let mut next = c;
     for _ in 0..n {
-        next = skip_annotation(s, next, limit, single)?;
+        next = skip_annotation(s, next, single)?;
     }
     Ok(next)
 }
 
-fn skip_annotations(s: &[u8], c: Cursor, limit: usize, single: bool) -> Result<Cursor, Fault>
-    requires { Addressable s.now × (limit ≤ 255) }
-    ensures { of_skip (bits_of s.now) result ≡ forget (counted 4 0 12 (annotation limit single) (drop c.at (bits_of s.now))) }
+fn skip_annotations(s: Sheet, c: Cursor, single: bool) -> Result<Cursor, Fault>
+    ensures { of_skip (bits_in s.entry) result ≡ forget (counted 4 0 12 (annotation s.entry.words single) (drop c.at (bits_in s.entry))) }
 {
-    let (n, next) = sheet_fields::read_between(s, c, 4, 0, 12)?;
-    skip_each_annotation(s, next, limit, single, n)
+    let (n, next) = sheet_fields::read_between(s.bytes, c, 4, 0, 12)?;
+    skip_each_annotation(s, next, single, n)
 }
 
 // A mark: a flag, and a tag where it is set (FORMAT 2.9).
@@ -125,24 +118,22 @@ fn skip_marks(s: &[u8], c: Cursor) -> Result<Cursor, Fault>
 }
 
 // Both lists, field by field.
-fn skip_lists(s: &[u8], c: Cursor, limit: usize, single: bool) -> Result<Cursor, Fault>
-    requires { Addressable s.now × (limit ≤ 255) }
-    ensures { of_skip (bits_of s.now) result ≡ forget (notes limit single (drop c.at (bits_of s.now))) }
+fn skip_lists(s: Sheet, c: Cursor, single: bool) -> Result<Cursor, Fault>
+    ensures { of_skip (bits_in s.entry) result ≡ forget (notes s.entry.words single (drop c.at (bits_in s.entry))) }
 {
-    let next = skip_annotations(s, c, limit, single)?;
-    skip_marks(s, next)
+    let next = skip_annotations(s, c, single)?;
+    skip_marks(s.bytes, next)
 }
 
 // 01: 'annotations 4 (0 to 12); marks 3 (0 to 7)'. Most types have neither: 7 bits of 0.
-pub fn skip_notes(s: &[u8], c: Cursor, limit: usize, single: bool) -> Result<Cursor, Fault>
-    requires { Addressable s.now × (limit ≤ 255) }
-    ensures { of_skip (bits_of s.now) result ≡ forget (notes limit single (drop c.at (bits_of s.now))) }
+pub fn skip_notes(s: Sheet, c: Cursor, single: bool) -> Result<Cursor, Fault>
+    ensures { of_skip (bits_in s.entry) result ≡ forget (notes s.entry.words single (drop c.at (bits_in s.entry))) }
 {
     let at = c.at;
-    if at / 8 + 4 <= s.len() {
-        if sheet_window::window(s, at, 7) == 0 {
+    if at / 8 + 4 <= s.bytes.len() {
+        if sheet_window::window(s.bytes, at, 7) == 0 {
             return Ok(Cursor { at: at + 7 });
         }
     }
-    skip_lists(s, c, limit, single)
+    skip_lists(s, c, single)
 }

@@ -22,10 +22,12 @@ use Rattle.repeats.specs.Repeats.{repeats_in, type_repeats, same_type_name, same
 use Rattle.repeats.specs.RepeatLaws.{something-twice}
 use Rattle.sheet_keys.specs.Keys.{name_of_key}
 use Rattle.sheet_notes.specs.Notes.{notes}
+use Rattle.sheet_draft.specs.declared.Draft.{Draft}
 use Rattle.sheet_draft.specs.Draft.{key_at, place_at, notes_of, notes_at, type_in, types_in}
 use Rattle.sheet_draft.specs.Drafted.{entry_at, entry_before, entries_of, Entered}
 use Rattle.sheet_order.specs.Entries.{UpTo}
 use Rattle.sheet_order.specs.EntryLaws.{up-sort}
+use Rattle.catalogue.specs.declared.Catalogue.{Catalogue}
 use Rattle.catalogue.specs.Layout.{extension_key_at}
 use Rattle.sheet_extensions.specs.Records.{record_in, records_in}
 use Rattle.sheet_repeats.specs.Twice.{keys_in, twice_in}
@@ -113,7 +115,7 @@ neighbours l =
       up k u.1 v.1,
     )
 
-module _ (W : ℕ) (bs : List Bool) (d : List ℕ) (n : ℕ) (few : n ≤ 64) where
+module _ (W : ℕ) (bs : List Bool) (d : Draft) (n : ℕ) (few : n ≤ 64) where
   as-entries : types_in W bs d n ≡ map (λ e. type_in W bs d (e % 64)) (entries_of d n)
   unfolding types_in entries_of
   as-entries =
@@ -124,10 +126,10 @@ module _ (W : ℕ) (bs : List Bool) (d : List ℕ) (n : ℕ) (few : n ≤ 64) wh
   unfolding entries_of
   key-of-entry e i =
       let r = tabulate-of (entry_at d) n i in
-      let q : e ≡ get_or d r.0 0 * 64 + r.0 = r.2 in
+      let q : e ≡ key_at d r.0 * 64 + r.0 = r.2 in
       let a : e % 64 ≡ r.0 = omega (arith, q, r.1) in
-      let b : e / 64 ≡ get_or d r.0 0 = omega (arith, q, r.1) in
-      ap (λ (k : ℕ). get_or d k 0) a ∙ sym b
+      let b : e / 64 ≡ key_at d r.0 = omega (arith, q, r.1) in
+      ap (key_at d) a ∙ sym b
 
   -- two types have one name exactly if two neighbours do
   pub names-twice : (entries : List ℕ) → Entered d entries n → not (ascends entry_before (take n entries)) ≡ repeats same_type_name (types_in W bs d n)
@@ -142,11 +144,11 @@ module _ (W : ℕ) (bs : List Bool) (d : List ℕ) (n : ℕ) (few : n ≤ 64) wh
 
 -- ---- extension records
 
-pub length-keys : (t : List ℕ) (n : ℕ) → length (keys_in t n) ≡ n
+pub length-keys : (t : Catalogue) (n : ℕ) → length (keys_in t n) ≡ n
 unfolding keys_in
 length-keys t n = length-tabulate (extension_key_at t) n
 
-pub key_in : (t : List ℕ) (n i : ℕ) → i < n → get_or (keys_in t n) i 0 ≡ extension_key_at t i
+pub key_in : (t : Catalogue) (n i : ℕ) → i < n → get_or (keys_in t n) i 0 ≡ extension_key_at t i
 unfolding keys_in
 key_in t n i h = get_d_tabulate (extension_key_at t) n i 0 h
 
@@ -161,7 +163,7 @@ same-record k l =
     (λ e. let q = eqb-true k l e in rw q (and_both (eq-eqb (l / 256) (l / 256) refl) (eq-eqb (l % 256) (l % 256) refl)))
 
 -- name and word are the same exactly if the keys are
-pub keys-twice : (t : List ℕ) (n : ℕ) → repeats eqb (keys_in t n) ≡ repeats same_extension_key (records_in t n)
+pub keys-twice : (t : Catalogue) (n : ℕ) → repeats eqb (keys_in t n) ≡ repeats same_extension_key (records_in t n)
 unfolding keys_in records_in record_in
 keys-twice t n =
     let is : List ℕ = tabulate (λ i. i) n in
@@ -173,18 +175,18 @@ keys-twice t n =
 
 -- ---- within a type
 
-pub length_types : (W : ℕ) (bs : List Bool) (d : List ℕ) (n : ℕ) → length (types_in W bs d n) ≡ n
+pub length_types : (W : ℕ) (bs : List Bool) (d : Draft) (n : ℕ) → length (types_in W bs d n) ≡ n
 unfolding types_in
 length_types W bs d n = length-tabulate (type_in W bs d) n
 
-pub row-repeats : (W : ℕ) (bs : List Bool) (d : List ℕ) (n i : ℕ) (T : records.TypeInfo) → i < n →
+pub row-repeats : (W : ℕ) (bs : List Bool) (d : Draft) (n i : ℕ) (T : records.TypeInfo) → i < n →
     type_repeats (get_or (types_in W bs d n) i T) ≡ repeats_in (notes_of (notes W (eqb (key_at d i % 256) 0) (drop (place_at d i) bs))).annotations
 unfolding types_in type_in notes_at
 row-repeats W bs d n i T h = ap type_repeats (get_d_tabulate (type_in W bs d) n i T h)
 
 -- ---- refusal 6
 
-pub twice-is : (s : records.Sheet) (bs : List Bool) (d entries t : List ℕ) (n : Sizes) → n.types ≤ 64 → Entered d entries n.types → n.words ≡ length s.words
+pub twice-is : (s : records.Sheet) (bs : List Bool) (d : Draft) (entries : List ℕ) (t : Catalogue) (n : Sizes) → n.types ≤ 64 → Entered d entries n.types → n.words ≡ length s.words
     → types_in n.words bs d n.types ≡ s.types → records_in t n.extensions ≡ s.extensions → twice_in n bs d entries t ≡ something_twice s
 twice-is s bs d entries t n few en w ts es =
     rw (names-twice n.words bs d n.types few entries en, keys-twice t n.extensions, ts, es) (sym (something-twice s))

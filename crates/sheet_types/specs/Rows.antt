@@ -1,5 +1,5 @@
 -- What the code reads of a type, and what stands in the draft afterwards.
-use Rattle.std.specs.Prelude.{Bool, true, false, List, ◌≡◌, ℕ, ◌+◌, ◌*◌, ◌/◌, ◌%◌, ◌≤◌, ◌<◌, eqb, length, drop, get_or, set, Result, IfOk}
+use Rattle.std.specs.Prelude.{Bool, true, false, List, ◌≡◌, ℕ, ◌*◌, ◌/◌, ◌%◌, ◌≤◌, ◌<◌, eqb, drop, get_or, set, Result, IfOk}
 use Rattle.definitions.specs.Parse.{Parsed, done, refused, Parser, next, ◌>>=◌, pure, flag, between}
 use Rattle.definitions.specs.Reading.{variant}
 use Rattle.definitions.specs.Records.{Variant}
@@ -8,6 +8,7 @@ use Rattle.bits.specs.declared.Cursor.{Cursor}
 use Rattle.fields.specs.declared.Fault.{Fault}
 use Rattle.fields.specs.Fields.{of_parsed}
 use Rattle.sheet_notes.specs.Notes.{Notes, notes, of_skip}
+use Rattle.sheet_draft.specs.declared.Draft.{Draft}
 use Rattle.sheet_draft.specs.Draft.{key_at, head_at, place_at, variant_of, type_in, types_in}
 
 -- What stands between the name and the parents of a type: 8 bits (FORMAT 2.6).
@@ -43,16 +44,15 @@ abbrev pub type_of : List ℕ → Top → List (List ℕ) → Notes → records.
 type_of n h ps x = record { name = n; variant = h.variant; virtual = h.virtual; trait = h.trait; parents = ps; annotations = x.annotations; marks = x.marks }
 
 -- The key, the head and the place of row i are put.
-abbrev pub row_set : List ℕ → ℕ → ℕ → ℕ → ℕ → List ℕ
-row_set d i key head at = set (set (set d i key) (64 + i) head) (128 + i) at
+abbrev pub row_set : Draft → ℕ → ℕ → ℕ → ℕ → Draft
+row_set d i key head at = record d { keys = set d.keys i key; heads = set d.heads i head; places = set d.places i at }
 
 -- The rows before i are left as they were.
-pub record KeptRows (i : ℕ) (old new : List ℕ) : Type 0 where
-  pub size : length new ≡ length old
+pub record KeptRows (i : ℕ) (old new : Draft) : Type 0 where
   pub keys : (j : ℕ) → j < i → key_at new j ≡ key_at old j
   pub heads : (j : ℕ) → j < i → head_at new j ≡ head_at old j
   pub places : (j : ℕ) → j < i → place_at new j ≡ place_at old j
-  pub parents : (j : ℕ) → j < 8 * i → get_or new (192 + j) 0 ≡ get_or old (192 + j) 0
+  pub parents : (j : ℕ) → j < 8 * i → get_or new.parents j 0 ≡ get_or old.parents j 0
 
 -- Whether a parser gave a value.
 abbrev pub is_done : {A : Type 0} → Parsed A → Bool
@@ -60,21 +60,21 @@ is_done (done a rest) = true
 is_done (refused r) = false
 
 -- Annotations and marks can be read at the place that row i has for them.
-abbrev pub NotesDone : ℕ → List Bool → List ℕ → ℕ → Type 0
+abbrev pub NotesDone : ℕ → List Bool → Draft → ℕ → Type 0
 NotesDone W bs d i = is_done (notes W (eqb (key_at d i % 256) 0) (drop (place_at d i) bs)) ≡ true
 
 -- So they can of a row that was read.
-abbrev pub DoneHere : ℕ → List Bool → List ℕ → ℕ → Result Cursor Fault → Type 0
+abbrev pub DoneHere : ℕ → List Bool → Draft → ℕ → Result Cursor Fault → Type 0
 DoneHere W bs d i r = IfOk r (λ c. NotesDone W bs d i)
 
 -- So they can of the first n rows.
-pub record NotesRead (W : ℕ) (bs : List Bool) (d : List ℕ) (n : ℕ) : Type 0 where
+pub record NotesRead (W : ℕ) (bs : List Bool) (d : Draft) (n : ℕ) : Type 0 where
   pub read : (i : ℕ) → i < n → NotesDone W bs d i
 
 -- An answer as a parser's: the type is that of row i.
-abbrev pub of_type_read : ℕ → List Bool → List ℕ → ℕ → Result Cursor Fault → Parsed records.TypeInfo
+abbrev pub of_type_read : ℕ → List Bool → Draft → ℕ → Result Cursor Fault → Parsed records.TypeInfo
 of_type_read W bs d i r = next (of_skip bs r) (λ x. pure (type_in W bs d i))
 
 -- An answer as a parser's: the types are those of the first rows.
-abbrev pub of_types_read : ℕ → List Bool → List ℕ → Result (ℕ × Cursor) Fault → Parsed (List records.TypeInfo)
+abbrev pub of_types_read : ℕ → List Bool → Draft → Result (ℕ × Cursor) Fault → Parsed (List records.TypeInfo)
 of_types_read W bs d = of_parsed (types_in W bs d) bs

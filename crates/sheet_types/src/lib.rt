@@ -1,15 +1,27 @@
 // The types of a sheet, read straight into the draft.
 #![tactic(auto)]
 
-ghost use Rattle.std.specs.Prelude.{◌≡◌, ◌+◌, ◌*◌, ◌/◌, ◌%◌, ◌≤◌, ◌<◌, length, drop, set, IfOk};
+ghost use Rattle.std.specs.Prelude.{List, Bool, Some, ℕ, ◌≡◌, ◌+◌, ◌/◌, ◌≤◌, ◌<◌, length, drop, IfOk};
 ghost use Rattle.definitions.specs.Bits.{bits_of};
 ghost use Rattle.definitions.specs.Parse.{repeat, counted};
 ghost use Rattle.definitions.specs.Reading.{type_info};
-ghost use Rattle.bits.specs.Reading.{Addressable};
-ghost use Rattle.sheet_types.specs.Rows.{top, of_top, Small, row_set, of_type_read, of_types_read, KeptRows, DoneHere, NotesRead};
+ghost use Rattle.bits.specs.Reading.{read_at, Addressable};
+ghost use Rattle.fields.specs.Fields.{bits_in};
+ghost use Rattle.sheet_types.specs.Rows.{top, of_top, Small, of_type_read, of_types_read, KeptRows, DoneHere, NotesRead};
 
 use bits::Cursor;
-use fields::{Fault, Parsed};
+use fields::{Fault, Parsed, Sheet};
+use sheet_draft::Draft;
+
+// The head that was read as the 8 bits h, with the cursor behind it: its variant is at most 2, and it has at most 8 parents.
+fn allowed_top(h: usize, next: Cursor) -> Parsed<usize>
+    ensures { (bs : List Bool) (p : ℕ) → read_at bs p 8 ≡ Some (h, next) → (of_top bs result ≡ top (drop p bs)) × Small result }
+{
+    if 192 <= h || 8 < h % 16 {
+        return Err(Fault::NotAllowed);
+    }
+    Ok((h, next))
+}
 
 // The head of a type as one field of 8 bits that are there: variant, virtual, trait, number of parents (FORMAT 2.6).
 fn top_in(s: &[u8], at: usize) -> Parsed<usize>
@@ -17,13 +29,7 @@ fn top_in(s: &[u8], at: usize) -> Parsed<usize>
     ensures { (of_top (bits_of s.now) result ≡ top (drop at (bits_of s.now))) × Small result }
 {
     let h = sheet_window::window(s, at, 8);
-    if 192 <= h {
-        return Err(Fault::NotAllowed);
-    }
-    if 8 < h % 16 {
-        return Err(Fault::NotAllowed);
-    }
-    Ok((h, Cursor { at: at + 8 }))
+    allowed_top(h, Cursor { at: at + 8 })
 }
 
 // The same near the end, where what is missing decides the refusal.
@@ -32,15 +38,7 @@ fn top_near_end(s: &[u8], c: Cursor) -> Parsed<usize>
     ensures { (of_top (bits_of s.now) result ≡ top (drop c.at (bits_of s.now))) × Small result }
 {
     match c.read(s, 8) {
-        Some((h, next)) => {
-            if 192 <= h {
-                return Err(Fault::NotAllowed);
-            }
-            if 8 < h % 16 {
-                return Err(Fault::NotAllowed);
-            }
-            Ok((h, next))
-        }
+        Some((h, next)) => allowed_top(h, next),
         None => match c.read(s, 2) {
             Some((v, _)) => {
                 if v == 3 {
@@ -65,52 +63,37 @@ fn read_top(s: &[u8], c: Cursor) -> Parsed<usize>
     top_near_end(s, c)
 }
 
-// What row i has beside its parents.
-fn put_row(d: &mut [u64; 704], i: usize, key: u64, head: usize, at: usize)
-    requires { i < 64 }
-    ensures { d.new ≡ row_set d.old i key head at }
-{
-    sheet_draft::put_key(d, i, key);
-    sheet_draft::put_head(d, i, head as u64);
-    sheet_draft::put_place(d, i, at as u64);
-}
-
 // The type at the cursor, as row i of the draft.
-fn read_type(
-    s: &[u8],
-    c: Cursor,
-    limit: usize,
-    i: usize,
-    d: &mut [u64; 704],
-) -> Result<Cursor, Fault>
-    requires { Addressable s.now × (limit ≤ 255) × (i < 64) × (length d.old ≡ 704) }
-    ensures { (of_type_read limit (bits_of s.now) d.new i result ≡ type_info limit (drop c.at (bits_of s.now))) × KeptRows i d.old d.new × DoneHere limit (bits_of s.now) d.new i result }
+fn read_type(s: Sheet, c: Cursor, i: usize, d: &mut Draft) -> Result<Cursor, Fault>
+    requires { i < 64 }
+    ensures { (of_type_read s.entry.words (bits_in s.entry) d.new i result ≡ type_info s.entry.words (drop c.at (bits_in s.entry))) × KeptRows i d.old d.new × DoneHere s.entry.words (bits_in s.entry) d.new i result }
 {
-    let (key, c1) = sheet_keys::read_key(s, c, limit)?;
-    let (h, c2) = read_top(s, c1)?;
-    let base = sheet_draft::parents_base(i);
-    let (_, next) = sheet_keys::read_each_key(s, c2, limit, h % 16, d, base)?;
-    put_row(d, i, key, h, next.at);
-    sheet_notes::skip_notes(s, next, limit, key % 256 == 0)
+    let (key, c1) = sheet_keys::read_key(s, c)?;
+    let (h, c2) = read_top(s.bytes, c1)?;
+    let (_, next) = sheet_keys::read_each_key(s, c2, h % 16, &mut d.parents, 8 * i)?;
+    d.keys[i] = key;
+    d.heads[i] = h as u64;
+    d.places[i] = next.at;
+    sheet_notes::skip_notes(s, next, key % 256 == 0)
 }
 
-// n types: how many, and the cursor behind them.
-fn read_each_type(s: &[u8], c: Cursor, limit: usize, n: usize, d: &mut [u64; 704]) -> Parsed<usize>
-    requires { Addressable s.now × (limit ≤ 255) × (n ≤ 64) × (length d.old ≡ 704) }
-    ensures { (of_types_read limit (bits_of s.now) d.new result ≡ repeat (type_info limit) n (drop c.at (bits_of s.now))) × (length d.new ≡ 704) × IfOk result (λ v. (v.0 ≤ 64) × NotesRead limit (bits_of s.now) d.new v.0) }
+// n types: how many, and the cursor behind them. A loop of its own, as each kind of list has: one for all would need a trait with
+// its parser, and more lines than it spares.
+fn read_each_type(s: Sheet, c: Cursor, n: usize, d: &mut Draft) -> Parsed<usize>
+    requires { n ≤ 64 }
+    ensures { (of_types_read s.entry.words (bits_in s.entry) d.new result ≡ repeat (type_info s.entry.words) n (drop c.at (bits_in s.entry))) × IfOk result (λ v. (v.0 ≤ 64) × NotesRead s.entry.words (bits_in s.entry) d.new v.0) }
 {
     let mut next = c;
     for i in 0..n {
-        next = read_type(s, next, limit, i, d)?;
+        next = read_type(s, next, i, d)?;
     }
     Ok((n, next))
 }
 
 // The types of a sheet, at most 64 (FORMAT 2.2).
-pub fn read_types(s: &[u8], c: Cursor, limit: usize, d: &mut [u64; 704]) -> Parsed<usize>
-    requires { Addressable s.now × (limit ≤ 255) × (length d.old ≡ 704) }
-    ensures { (of_types_read limit (bits_of s.now) d.new result ≡ counted 7 0 64 (type_info limit) (drop c.at (bits_of s.now))) × (length d.new ≡ 704) × IfOk result (λ v. (v.0 ≤ 64) × NotesRead limit (bits_of s.now) d.new v.0) }
+pub fn read_types(s: Sheet, c: Cursor, d: &mut Draft) -> Parsed<usize>
+    ensures { (of_types_read s.entry.words (bits_in s.entry) d.new result ≡ counted 7 0 64 (type_info s.entry.words) (drop c.at (bits_in s.entry))) × IfOk result (λ v. (v.0 ≤ 64) × NotesRead s.entry.words (bits_in s.entry) d.new v.0) }
 {
-    let (n, next) = fields::read_between(s, c, 7, 0, 64)?;
-    read_each_type(s, next, limit, n, d)
+    let (n, next) = fields::read_between(s.bytes, c, 7, 0, 64)?;
+    read_each_type(s, next, n, d)
 }

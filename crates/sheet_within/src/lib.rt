@@ -2,8 +2,7 @@
 #![tactic(auto)]
 
 ghost use Rattle.std.specs.Prelude.{true, false, ◌≡◌, ◌+◌, ◌/◌, ◌≤◌, ◌<◌, length, drop, eqb};
-ghost use Rattle.definitions.specs.Bits.{bits_of};
-ghost use Rattle.bits.specs.Reading.{Addressable};
+ghost use Rattle.fields.specs.Fields.{bits_in};
 ghost use Rattle.repeats.specs.Repeats.{repeats_in};
 ghost use Rattle.sheet_notes.specs.Notes.{notes};
 ghost use Rattle.sheet_draft.specs.Draft.{notes_of};
@@ -12,13 +11,15 @@ ghost use Rattle.lists.specs.Lists.{any, repeats};
 ghost use Rattle.sheet_within.specs.Within.{words_in, PlainNames, PlainNotes, NamesUp, NextUp, PlainEach};
 
 use bits::Cursor;
+use fields::Sheet;
 
-// The annotations by value: for whatever the tests below leave open.
-fn is_repeating_by_value(s: &[u8], at: usize, limit: usize, single: bool) -> bool
-    requires { Addressable s.now × (limit ≤ 255) × (is_done (notes limit single (drop at (bits_of s.now))) ≡ true) }
-    ensures { result ≡ repeats_in (notes_of (notes limit single (drop at (bits_of s.now)))).annotations }
+// The annotations by value: for whatever the tests below leave open. `single`, here and below, is that of `records`: a fact of
+// the sheet, which the definitions take as a Bool too.
+fn is_repeating_by_value(s: Sheet, at: usize, single: bool) -> bool
+    requires { is_done (notes s.words single (drop at (bits_in s))) ≡ true }
+    ensures { result ≡ repeats_in (notes_of (notes s.entry.words single (drop at (bits_in s.entry)))).annotations }
 {
-    match records::read_annotations(s, Cursor { at }, limit, single) {
+    match records::read_annotations(s, Cursor { at }, single) {
         Ok((annotations, _)) => repeats::is_repeating(annotations),
         Err(_) => false,
     }
@@ -50,22 +51,16 @@ fn has_word_twice(k: &[u64; 15], n: usize) -> bool
     false
 }
 
-fn blank() -> [u64; 15]
-    ensures { length result ≡ 15 }
-{
-    [0; 15]
-}
-
 // Whether n names at a place are there and have first words that differ.
-fn is_plain_list(s: &[u8], at: usize, limit: usize, n: usize) -> bool
-    requires { Addressable s.now × (limit ≤ 255) × (n ≤ 15) }
-    ensures { PlainNames limit (bits_of s.now) at n result }
+fn is_plain_list(s: Sheet, at: usize, n: usize) -> bool
+    requires { n ≤ 15 }
+    ensures { PlainNames s.entry.words (bits_in s.entry) at n result }
 {
     if n < 2 {
         return true;
     }
-    let mut k = blank();
-    match sheet_keys::read_each_key(s, Cursor { at }, limit, n, &mut k, 0) {
+    let mut k = [0u64; 15];
+    match sheet_keys::read_each_key(s, Cursor { at }, n, &mut k, 0) {
         Ok((count, _)) => !has_word_twice(&k, count),
         Err(_) => false,
     }
@@ -79,14 +74,13 @@ pub struct Up {
 }
 
 // n names whose first words ascend from `low` on, or none.
-fn names_up(s: &[u8], at: usize, limit: usize, n: usize, low: usize) -> Option<Up>
-    requires { Addressable s.now × (limit ≤ 255) }
-    ensures { NamesUp limit (bits_of s.now) at n low result }
+fn names_up(s: Sheet, at: usize, n: usize, low: usize) -> Option<Up>
+    ensures { NamesUp s.entry.words (bits_in s.entry) at n low result }
 {
     let mut next = Cursor { at };
     let mut top = low;
     for _ in 0..n {
-        let Ok((key, end)) = sheet_keys::read_key(s, next, limit) else {
+        let Ok((key, end)) = sheet_keys::read_key(s, next) else {
             return None;
         };
         let a = (key / 256) as usize;
@@ -100,35 +94,34 @@ fn names_up(s: &[u8], at: usize, limit: usize, n: usize, low: usize) -> Option<U
 }
 
 // One associate with such names, at least one.
-fn associate_up(s: &[u8], at: usize, limit: usize, single: bool, low: usize) -> Option<Up>
-    requires { Addressable s.now × (limit ≤ 255) }
-    ensures { NextUp limit single (bits_of s.now) at low result }
+fn associate_up(s: Sheet, at: usize, single: bool, low: usize) -> Option<Up>
+    ensures { NextUp s.entry.words single (bits_in s.entry) at low result }
 {
-    if s.len() < at / 8 + 4 {
+    if s.bytes.len() < at / 8 + 4 {
         return None;
     }
-    let w = sheet_window::window(s, at, 7);
+    let w = sheet_window::window(s.bytes, at, 7);
     if w % 16 == 0 {
         return None;
     }
+    // The kind as its three bits: 7 is none, so a `Kind` would want a test more.
     if w / 16 == 1 {
-        return names_up(s, at + 7, limit, w % 16, low);
+        return names_up(s, at + 7, w % 16, low);
     }
     if single && w / 16 == 2 {
-        return names_up(s, at + 7, limit, w % 16, low);
+        return names_up(s, at + 7, w % 16, low);
     }
     None
 }
 
 // Whether n annotations are associates whose first words ascend from one to the next.
-fn is_plain_each(s: &[u8], at: usize, limit: usize, single: bool, n: usize) -> bool
-    requires { Addressable s.now × (limit ≤ 255) }
-    ensures { PlainEach limit single (bits_of s.now) at n result }
+fn is_plain_each(s: Sheet, at: usize, single: bool, n: usize) -> bool
+    ensures { PlainEach s.entry.words single (bits_in s.entry) at n result }
 {
     let mut p = at;
     let mut top: usize = 0;
     for _ in 0..n {
-        let Some(up) = associate_up(s, p, limit, single, top) else {
+        let Some(up) = associate_up(s, p, single, top) else {
             return false;
         };
         p = up.at;
@@ -137,37 +130,39 @@ fn is_plain_each(s: &[u8], at: usize, limit: usize, single: bool, n: usize) -> b
     true
 }
 
-// Whether the annotations at a place are found to repeat nothing: none, one, or associates whose words ascend, as most types have them.
-fn is_plain_in(s: &[u8], at: usize, limit: usize, single: bool) -> bool
-    requires { Addressable s.now × (limit ≤ 255) × (at / 8 + 4 ≤ length s.now) }
-    ensures { PlainNotes limit single (bits_of s.now) at result }
+// Whether the annotations at a place are found to repeat nothing: none, one, or associates whose words ascend, as most types have
+// them.
+fn is_plain_in(s: Sheet, at: usize, single: bool) -> bool
+    requires { at / 8 + 4 ≤ length s.bytes.now }
+    ensures { PlainNotes s.entry.words single (bits_in s.entry) at result }
 {
-    let w = sheet_window::window(s, at, 11);
+    let w = sheet_window::window(s.bytes, at, 11);
     if w < 128 {
         return true;
     }
     if 256 <= w {
-        return is_plain_each(s, at + 4, limit, single, w / 128);
+        return is_plain_each(s, at + 4, single, w / 128);
     }
+    // The three bits of the kind, as above.
     let kind = w / 16 % 8;
     if kind == 1 {
-        return is_plain_list(s, at + 11, limit, w % 16);
+        return is_plain_list(s, at + 11, w % 16);
     }
     if kind == 2 {
-        return is_plain_list(s, at + 11, limit, w % 16);
+        return is_plain_list(s, at + 11, w % 16);
     }
     true
 }
 
 // Whether the annotations at a place repeat something.
-pub fn is_repeating_at(s: &[u8], at: usize, limit: usize, single: bool) -> bool
-    requires { Addressable s.now × (limit ≤ 255) × (is_done (notes limit single (drop at (bits_of s.now))) ≡ true) }
-    ensures { result ≡ repeats_in (notes_of (notes limit single (drop at (bits_of s.now)))).annotations }
+pub fn is_repeating_at(s: Sheet, at: usize, single: bool) -> bool
+    requires { is_done (notes s.words single (drop at (bits_in s))) ≡ true }
+    ensures { result ≡ repeats_in (notes_of (notes s.entry.words single (drop at (bits_in s.entry)))).annotations }
 {
-    if at / 8 + 4 <= s.len() {
-        if is_plain_in(s, at, limit, single) {
+    if at / 8 + 4 <= s.bytes.len() {
+        if is_plain_in(s, at, single) {
             return false;
         }
     }
-    is_repeating_by_value(s, at, limit, single)
+    is_repeating_by_value(s, at, single)
 }

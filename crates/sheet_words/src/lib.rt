@@ -22,8 +22,8 @@ pub struct Spelt {
     pub head: u64,
 }
 
-// Whether the words so far ascend, and the numbers of `resource` and `self`: the count of all words for one that is not found yet,
-// as in the definitions.
+// Whether the words so far ascend, and the numbers of `resource` and `self`. No Option: for a word that is missing the law's own
+// number is the count of all words (`number_of` of the definitions), and that stands here for one that is not found yet.
 #[derive(Clone, Copy)]
 pub struct Found {
     pub up: bool,
@@ -31,7 +31,8 @@ pub struct Found {
     pub own: usize,
 }
 
-// Count words, the place behind them, whether they are refused with 5, and the numbers of `resource` and `self`, the count for one that is missing.
+// Count words, the place behind them, whether they are refused with 5, and the numbers of `resource` and `self`, the count for
+// one that is missing. A flag and no Err: 7 is told before 5 (FORMAT 7.3), so what stands behind the words is read first.
 #[derive(Clone, Copy)]
 pub struct WordsRead {
     pub count: usize,
@@ -41,8 +42,8 @@ pub struct WordsRead {
     pub own: u8,
 }
 
-// Of six bytes below 128, the top bit of each that may stand in a word. A capital is made small; a byte is in a range where only one of two sums has the
-// top bit.
+// Of six bytes below 128, the top bit of each that may stand in a word. A capital is made small; a byte is in a range where only
+// one of two sums has the top bit.
 fn marked(v: u64) -> u64
     requires { v < 2 ^ 48 }
     ensures { result ≡ marks v }
@@ -72,7 +73,7 @@ fn is_text(s: &[u8], at: usize, n: usize) -> bool
     requires { Addressable s.now × (at + 8 * n ≤ 8 * length s.now) }
     ensures { result ≡ all is_word_byte (pack_to n (drop at (bits_of s.now))) }
 {
-    // A `while`, since what it leaves is one window more.
+    // A `while`, since what is left is asked again behind the loop.
     let mut p = at;
     let mut left = n;
     while 6 < left {
@@ -258,7 +259,8 @@ fn is_resource(s: &[u8], w: Spelt) -> bool
     false
 }
 
-// The place i for a word that is found first there, else the old place; n is that of one not found.
+// The place i for a word that is found first there, else the old place; n, the law's number of a missing word, is that of one not
+// found.
 fn first_place(hit: bool, old: usize, i: usize, n: usize) -> usize
     ensures { result ≡ cond (hit && eqb old n) i old }
 {

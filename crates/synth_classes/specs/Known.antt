@@ -1,4 +1,4 @@
--- What the numbers of a catalogue say of a sheet's classes.
+-- What a catalogue says of a sheet's classes.
 use Rattle.std.specs.Prelude.{true, ◌&&◌, cond, List, [], ◌∷◌, ◌≡◌, refl, ℕ, ◌+◌, ◌/◌, ◌%◌, ◌^◌, ◌≤◌, ◌<◌, ltb, length}
 use Rattle.std.proofs.Math.Bool.{not, and-true}
 use Rattle.std.proofs.Common.{sym, ◌∙◌, subst, arith}
@@ -23,19 +23,19 @@ use Rattle.law_classes.specs.Sets.{no_type, type_at}
 use Rattle.law_classes.specs.Numbers.{place-of}
 use Rattle.law_classes.proofs.ItemLaws.{declared-self}
 use Rattle.ordering.specs.Reading as ordering
-use Rattle.catalogue.specs.Layout.{key_at, width_in}
+use Rattle.catalogue.specs.Layout.{key_at, looked}
+use Rattle.catalogue.specs.declared.Catalogue.{Catalogue}
 use Rattle.catalogue.specs.Catalogue as catalogue
 use Rattle.catalogue.specs.Catalogue.{Listed}
 use Rattle.sheet_keys.specs.Keys.{name_of_key}
-use Rattle.catalogue.specs.Layout.{looked}
 use Rattle.order_parents.specs.Known.{Looks}
 use Rattle.order_parents.specs.SheetLaws.{line-count, line_at, KeyWithin, key-within, looks-of}
 use Rattle.synth_classes.specs.Classes.{place_of, class_key, place_in, unknown_at, other_at}
 use Rattle.synth_classes.specs.ClassLaws.{class-key}
 use Rattle.synth_classes.specs.Made.{class_name}
 
--- The table has the types of the sheet's map.
-pub record Known (s : Sheet) (t : List ℕ) : Type 0 where
+-- The catalogue has the types of the sheet's map.
+pub record Known (s : Sheet) (t : Catalogue) : Type 0 where
   pub readable : Readable s
   pub within : Within s
   pub listed : Listed s t
@@ -44,7 +44,7 @@ pub record Known (s : Sheet) (t : List ℕ) : Type 0 where
 abbrev pub type_if : LineMap → ℕ → List LineType
 type_if m p = cond (ltb p 64) (type_at m p ∷ []) []
 
-module _ (s : Sheet) (t : List ℕ) (k : Known s t) where
+module _ (s : Sheet) (t : Catalogue) (k : Known s t) where
   abbrev m : LineMap
   m = line_map s
 
@@ -119,10 +119,10 @@ module _ (s : Sheet) (t : List ℕ) (k : Known s t) where
   unfolding place_of
   type-known key =
       let width = k.listed.width in
-      by (ltb (key / 256) (width_in t) && not (ltb (width_in t) (key % 256)))
+      by (ltb (key / 256) t.width && not (ltb t.width (key % 256)))
       (λ e.
-      let a = ltb-true (key / 256) (width_in t) (and_left _ _ e) in
-      let b = ltb-false (width_in t) (key % 256) (not-true _ (and_right (ltb (key / 256) (width_in t)) _ e)) in
+      let a = ltb-true (key / 256) t.width (and_left _ _ e) in
+      let b = ltb-false t.width (key % 256) (not-true _ (and_right (ltb (key / 256) t.width) _ e)) in
       let w : KeyWithin (length s.words) key = record { first = omega (arith, width, a); second = omega (arith, width, b) } in
       rw e
       (by (ltb (count_trailing_zeros 64 (looked t key)) 64)
@@ -131,16 +131,16 @@ module _ (s : Sheet) (t : List ℕ) (k : Known s t) where
       (λ e.
       rw e
       (undeclared key
-      (λ w. never (rw (lt-ltb (key / 256) (width_in t) (omega (arith, width, w.first)), le-ltb (width_in t) (key % 256) (omega (arith, width, w.second))) refl) e)))
+      (λ w. never (rw (lt-ltb (key / 256) t.width (omega (arith, width, w.first)), le-ltb t.width (key % 256) (omega (arith, width, w.second))) refl) e)))
 
   pub place-known : (key : ℕ) → place_of t key < 64 → place_of t key < n
   unfolding place_of
   place-known key h =
       let width = k.listed.width in
-      by (ltb (key / 256) (width_in t) && not (ltb (width_in t) (key % 256)))
+      by (ltb (key / 256) t.width && not (ltb t.width (key % 256)))
       (λ e.
-      let a = ltb-true (key / 256) (width_in t) (and_left _ _ e) in
-      let b = ltb-false (width_in t) (key % 256) (not-true _ (and_right (ltb (key / 256) (width_in t)) _ e)) in
+      let a = ltb-true (key / 256) t.width (and_left _ _ e) in
+      let b = ltb-false t.width (key % 256) (not-true _ (and_right (ltb (key / 256) t.width) _ e)) in
       let w : KeyWithin (length s.words) key = record { first = omega (arith, width, a); second = omega (arith, width, b) } in
       rw e (found key w (rw e at h)).0)
       (λ e. absurd (omega (arith, rw e at h)))

@@ -1,15 +1,13 @@
 -- Walks over the doms of a row, and the classes of a row.
-use Rattle.std.specs.Prelude.{Bool, ◌&&◌, List, [], ◌∷◌, map, find, Some, None, ◌≡◌, refl, ℕ, ◌+◌, ◌-◌, ◌≤◌, ◌<◌}
-use Rattle.std.proofs.Common.{sym, ap, ◌∙◌, arith}
+use Rattle.std.specs.Prelude.{Bool, ◌&&◌, List, [], ◌∷◌, map, find, Some, None, ◌≡◌, refl, ℕ}
+use Rattle.std.proofs.Common.{sym, ap, ◌∙◌}
 use Rattle.std.proofs.lemmas.Option.{none-some, same_Some}
 use Rattle.lists.specs.Lists.{filter}
 use Rattle.lists.specs.Tests.{by}
 use Rattle.lists.specs.Appending.{map-map, filter_map, filter_alike}
 use Rattle.rows.specs.declared.Row.{Row}
 use Rattle.rows.specs.Rows.{has}
-use Rattle.rows.specs.Lists.{between, below, filter-between}
-use Rattle.rows.specs.Next.{First}
-use Rattle.rows.specs.NextLaws.{from_next, from-there, from_all}
+use Rattle.rows.specs.Lists.{below, filter-between}
 use Rattle.annotations.specs.Reading.{dom_at, doms_of}
 use Rattle.definitions.specs.Records.{Name}
 use Rattle.definitions.specs.Comparisons.{dotted}
@@ -44,13 +42,6 @@ found-first doms f k e = let q = kept-found f (below (has doms) 201) k e in (q.0
 
 pub found-none : (doms : Row) (f : ℕ → Bool) → find f (below (has doms) 201) ≡ None → below (among doms f) 201 ≡ []
 found-none doms f e = among-kept doms f ∙ kept-none f (below (has doms) 201) e
-
--- the first number of which f holds, with those behind it, or none
-pub first-there : (f : ℕ → Bool) (k : ℕ) → First f 201 0 k → k < 201 → below f 201 ≡ k ∷ between f (k + 1) (201 - (k + 1))
-first-there f k n h = from_next f 201 0 k 201 n (omega arith) ∙ from-there f k 201 h (n.some h)
-
-pub first-none : (f : ℕ → Bool) (k : ℕ) → First f 201 0 k → 201 ≤ k → below f 201 ≡ []
-first-none f k n h = from_all f 201 0 k 201 n h
 
 -- ---- the classes of a row
 

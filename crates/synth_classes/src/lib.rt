@@ -13,6 +13,7 @@ ghost use Rattle.sheet_keys.specs.Keys.{name_of_key};
 ghost use Rattle.synth_classes.specs.Classes.{place_if, place_of, place_in};
 ghost use Rattle.synth_classes.specs.Doms.{doms_left};
 
+use catalogue::Catalogue;
 use fields::Name;
 use rows::Row;
 
@@ -53,6 +54,7 @@ impl Iterator for Doms {
 
     ghost remaining = { item_count doms_left };
 
+    #[tactic(auto, using(crate::specs::Doms::next_dom, crate::specs::Doms::last_dom))]
     fn next(&mut self) -> Option<u8> {
         let k = rows::next(self.row, self.from as usize);
         if k < 201 {
@@ -64,23 +66,24 @@ impl Iterator for Doms {
     }
 }
 
-// The place of the type of that name, if one is declared (FORMAT 1.5): its first word, and one more than its second, or 0 where it
-// has none. A word past those of the sheet is that of no name.
-pub fn place_of(t: &[u64; 1544], first: usize, second: usize) -> Option<usize>
+// The place of the type of that name, if one is declared (FORMAT 1.5): its first word, and one more than its second, or 0 where
+// it has none. A word past those of the sheet is that of no name.
+#[tactic(auto, using(crate::specs::ClassLaws::place_first, crate::specs::ClassLaws::place_second, crate::specs::ClassLaws::place_there))]
+pub fn place_of(t: &Catalogue, first: usize, second: usize) -> Option<usize>
     requires { (first < 256) × (second < 256) }
     ensures { result ≡ place_if (place_of t.now (first * 256 + second)) }
 {
-    let width = catalogue::width_in(t) as usize;
-    if width <= first || width < second {
+    if t.width <= first || t.width < second {
         return None;
     }
-    let set = catalogue::type_of(t, (first * 256 + second) as u64);
+    let set = t.type_of((first * 256 + second) as u64);
     let place = u64::trailing_zeros(set) as usize;
     (place < 64).then_some(place)
 }
 
 // The place of the class of a dom and a word, if it is declared (FORMAT 4.2): the dom 0 is none, d + 1 the word d.
-pub fn class_place(t: &[u64; 1544], dom: usize, word: u8) -> Option<usize>
+#[tactic(auto, using(crate::specs::ClassLaws::dom_none, crate::specs::ClassLaws::dom_word))]
+pub fn class_place(t: &Catalogue, dom: usize, word: u8) -> Option<usize>
     requires { (dom < 257) × (word < 255) }
     ensures { result ≡ place_if (place_in t.now word dom) }
 {
@@ -91,7 +94,8 @@ pub fn class_place(t: &[u64; 1544], dom: usize, word: u8) -> Option<usize>
     place_of(t, dom - 1, second + 1)
 }
 
-// The class of a dom and a word, as a name.
+// The class of a dom and a word, as a name. A dom is its place in a row, 0 for none, since a row has one bit for each: an Option
+// would be made of the place, here and in `class_place`, and asked once.
 pub fn class_name(dom: usize, word: u8) -> Name
     requires { (dom < 256) × (word < 255) }
     ensures { name_of result ≡ dotted (dom_at dom) word }
@@ -110,11 +114,12 @@ pub fn class_name(dom: usize, word: u8) -> Name
 }
 
 // The name of the type at a place.
-pub fn name_at(t: &[u64; 1544], place: usize) -> Name
+#[tactic(auto, using(crate::specs::ClassLaws::key_words))]
+pub fn name_at(t: &Catalogue, place: usize) -> Name
     requires { place < 64 }
     ensures { name_of result ≡ name_of_key (key_at t.now place % 65536) }
 {
-    let key = catalogue::key_at(t, place);
+    let key = t.keys[place];
     let first = (key / 256 % 256) as u8;
     let second = ((key % 256 + 255) % 256) as u8;
     Name { first, second }

@@ -1,9 +1,7 @@
 -- The numbers are right, and so they are for the map of a sheet whose draft it is.
-use Rattle.std.specs.Prelude.{Bool, List, [], ◌≡◌, ℕ, ◌+◌, ◌*◌, ◌%◌, ◌≤◌, ◌<◌, eqb, length, get_or, drop, set}
-use Rattle.std.proofs.Common.{sym, ap₂, ◌∙◌, arith, eqb-true, length-set, get_or-set_same, get_or-set_other}
+use Rattle.std.specs.Prelude.{Bool, List, [], ◌≡◌, ℕ, ◌+◌, ◌*◌, ◌%◌, ◌≤◌, ◌<◌, eqb, length, get_or, drop}
+use Rattle.std.proofs.Common.{sym, ap₂, ◌∙◌, arith}
 use Rattle.std.proofs.Math.Path.{ap, subst}
-use Rattle.std.proofs.lemmas.Bool.{eqb-false}
-use Rattle.lists.specs.Tests.{by}
 use Rattle.definitions.specs.Bits.{bits_of, num}
 use Rattle.definitions.specs.Records.{Sheet, Annotation, TypeInfo}
 use Rattle.definitions.specs.Parse.{Parsed, done, next, pure, counted}
@@ -13,6 +11,7 @@ use Rattle.bits.specs.NumberLaws.{length-bits_of}
 use Rattle.sheet_peek.specs.PeekLaws.{next-done, pure-done, repeat-none, counted-done}
 use Rattle.sheet_notes.specs.Notes.{Notes, notes}
 use Rattle.sheet_draft.specs.Draft.{key_at, place_at, notes_of, notes_at, type_in}
+use Rattle.sheet_draft.specs.declared.Draft.{Draft}
 use Rattle.ordering.specs.Reading.{type_at}
 use Rattle.item_entries.specs.Entries.{row_in}
 use Rattle.item_draft.specs.Fill.{Drawn}
@@ -31,7 +30,7 @@ first_done W one bs {x} {rest} e =
     let f = pure-done (counted 3 0 7 mark d.1) (λ ms. record { annotations = d.0; marks = ms }) d.3 in
     (d.1, subst (λ l. counted 4 0 12 (annotation W one) bs ≡ done l d.1) (sym (ap (λ (n : Notes). n.annotations) f.2)) d.2)
 
-module _ (W : ℕ) (s d : List ℕ) (row : ℕ) (r : ReadAt W (bits_of s) d row) where
+module _ (W : ℕ) (s : List ℕ) (d : Draft) (row : ℕ) (r : ReadAt W (bits_of s) d row) where
   abbrev bs : List Bool
   bs = bits_of s
 
@@ -55,12 +54,12 @@ module _ (W : ℕ) (s d : List ℕ) (row : ℕ) (r : ReadAt W (bits_of s) d row)
       (f.0, f.1 ∙ ap (λ (l : List Annotation). done l f.0) (sym notes-are))
 
   -- the place is within the sheet
-  pub place-low : Placeable s → at < 8796093022208
-  place-low h = omega (arith, (counted-done (annotation W one) bs at 4 0 12 (omega arith) read.1).0, length-bits_of s)
+  pub place_low : Placeable s → at < 8796093022208
+  place_low h = omega (arith, (counted-done (annotation W one) bs at 4 0 12 (omega arith) read.1).0, length-bits_of s)
 
   -- a count of 0: there are none
-  pub none-there : {w : ℕ} → w ≡ num 4 (drop at bs) → w ≡ 0 → Noted bs 0 own
-  none-there {w} e z =
+  pub none_there : {w : ℕ} → w ≡ num 4 (drop at bs) → w ≡ 0 → Noted bs 0 own
+  none_there {w} e z =
       let c = counted-done (annotation W one) bs at 4 0 12 (omega arith) read.1 in
       let k : num 4 (drop at bs) ≤ 0 = omega (arith, e, z) in
       record {
@@ -68,8 +67,8 @@ module _ (W : ℕ) (s d : List ℕ) (row : ℕ) (r : ReadAt W (bits_of s) d row)
         some = λ n. absurd (n (omega arith));
       }
 
-  pub some-there : (b x : ℕ) → 0 < W → W < 256 → b < 2 → eqb b 1 ≡ one → x ≡ at * 512 + W * 2 + b → Noted bs x own
-  some-there b x p q l e f =
+  pub some_there : (b x : ℕ) → 0 < W → W < 256 → b < 2 → eqb b 1 ≡ one → x ≡ at * 512 + W * 2 + b → Noted bs x own
+  some_there b x p q l e f =
       let u : place_in x ≡ at = omega (arith, f) in
       let v : width_in x ≡ W = omega (arith, f) in
       let w : x % 2 ≡ b = omega (arith, f) in
@@ -84,29 +83,9 @@ module _ (W : ℕ) (s d : List ℕ) (row : ℕ) (r : ReadAt W (bits_of s) d row)
         );
       }
 
--- ---- all types
-
-pub numbered-none : (W : ℕ) (bs : List Bool) (d entries out : List ℕ) → length out ≡ 64 → Numbered W bs d entries 0 out
-numbered-none W bs d entries out l = record { long = l; at = λ a h. absurd (omega arith) }
-
-pub numbered_more : (W : ℕ) (bs : List Bool) (d entries out : List ℕ) (a x : ℕ) → a < 64 → Noted bs x (notes_at W bs d (row_in entries a)).annotations
-    → Numbered W bs d entries a out → Numbered W bs d entries (a + 1) (set out a x)
-numbered_more W bs d entries out a x h n k =
-    record {
-      long = length-set out a x ∙ k.long;
-      at = λ b l.
-          by (eqb b a)
-          (λ e.
-          let z : b ≡ a = eqb-true b a e in
-          rw (z, get_or-set_same out a x 0 (omega (arith, k.long))) n)
-          (λ e.
-          let z = eqb-false b a e in
-          subst (λ y. Noted bs y (notes_at W bs d (row_in entries b)).annotations) (sym (get_or-set_other out a b x 0 z)) (k.at b (omega (arith, z))));
-    }
-
 -- ---- of a sheet
 
-module _ (s : Sheet) (bs : List Bool) (d entries : List ℕ) (n : ℕ) (w : Drawn s bs d entries n) where
+module _ (s : Sheet) (bs : List Bool) (d : Draft) (entries : List ℕ) (n : ℕ) (w : Drawn s bs d entries n) where
   pub readable : Readable (length s.words) bs d entries n
   readable = record { few = w.drafted.few; read = λ a h. w.read (row_in entries a) (rows.row_below s bs d entries n w a h) }
 

@@ -1,7 +1,8 @@
 -- The numbers that say where the annotations of the types stand.
-use Rattle.std.specs.Prelude.{Bool, List, ◌≡◌, ℕ, ◌%◌, ◌≤◌, ◌<◌, eqb, length, get_or}
+use Rattle.std.specs.Prelude.{Bool, List, ℕ, ◌%◌, ◌≤◌, ◌<◌, eqb, length, get_or}
 use Rattle.sheet_notes.specs.Notes.{notes}
 use Rattle.sheet_draft.specs.Draft.{key_at, place_at, notes_at}
+use Rattle.sheet_draft.specs.declared.Draft.{Draft}
 use Rattle.item_notes.specs.Notes.{DoneAt}
 use Rattle.item_entries.specs.Entries.{row_in}
 use Rattle.own_associates.specs.Owning.{Noted}
@@ -11,15 +12,14 @@ abbrev pub Placeable : List ℕ → Type 0
 Placeable s = length s ≤ 1099511627776
 
 -- Annotations and marks of a row can be read, in a sheet of W words (FORMAT 2.6).
-abbrev pub ReadAt : ℕ → List Bool → List ℕ → ℕ → Type 0
+abbrev pub ReadAt : ℕ → List Bool → Draft → ℕ → Type 0
 ReadAt W bs d row = DoneAt (notes W (eqb (key_at d row % 256) 0)) bs (place_at d row)
 
 -- Those of each type can.
-pub record Readable (W : ℕ) (bs : List Bool) (d entries : List ℕ) (n : ℕ) : Type 0 where
+pub record Readable (W : ℕ) (bs : List Bool) (d : Draft) (entries : List ℕ) (n : ℕ) : Type 0 where
   pub few : n ≤ 64
   pub read : (a : ℕ) → a < n → ReadAt W bs d (row_in entries a)
 
 -- The numbers of the first n types say where their annotations stand.
-pub record Numbered (W : ℕ) (bs : List Bool) (d entries : List ℕ) (n : ℕ) (out : List ℕ) : Type 0 where
-  pub long : length out ≡ 64
+pub record Numbered (W : ℕ) (bs : List Bool) (d : Draft) (entries : List ℕ) (n : ℕ) (out : List ℕ) : Type 0 where
   pub at : (a : ℕ) → a < n → Noted bs (get_or out a 0) (notes_at W bs d (row_in entries a)).annotations

@@ -1,20 +1,24 @@
--- First parents by numbers, and as names.
-use Rattle.std.specs.Prelude.{Bool, true, cond, ◌≡◌, refl, ℕ, zero, suc, ◌+◌, ◌*◌, ◌-◌, ◌/◌, ◌%◌, ◌≤◌, ◌<◌, leb, length}
-use Rattle.std.proofs.Math.Bool.{false}
-use mathlib.Core.List.{List, [], ◌∷◌, map}
-use Rattle.std.proofs.Math.Path.{sym, ap, ap₂}
-use Rattle.std.proofs.Common.{◌∙◌, arith, eq-eqb, ne_eqb, eqb-true, leb-true, leb-false}
+-- First parents, as the code compares them and as names.
+use Rattle.std.specs.Prelude.{Bool, true, false, Option, Some, None, is_none, ◌&&◌, not, cond, ◌≡◌, refl, ℕ, zero, suc, ◌+◌, ◌*◌, ◌-◌, ◌/◌, ◌%◌, ◌^◌, ◌<◌, min, eqb, ltb}
+use Rattle.std.proofs.Math.Bool.{and-true, and-false}
+use mathlib.Core.List.Memᴰ
+use mathlib.Core.List.{List, [], ◌∷◌, ◌++◌, map, append_cancel_right, head-eq_of_cons-eq, tail-eq_of_cons-eq}
+use Rattle.std.proofs.Math.Path.{sym, ap, ap₂, subst}
+use Rattle.std.proofs.Common.{◌∙◌, arith, eq-eqb, ne_eqb, eqb-true, ltb-true, ltb-false, lt-ltb, le-ltb}
 use Rattle.std.proofs.lemmas.Bool.{eqb-false}
-use Rattle.std.proofs.Math.Dec.{eqb}
-use Rattle.std.proofs.Math.ListN.{get_or, length-map, get_or-map}
-use Rattle.lists.specs.Lists.{null, same_list}
-use Rattle.lists.specs.Tests.{by, null-nil}
-use Rattle.lists.specs.Appending.{map-map}
+use Rattle.std.proofs.lemmas.Nat.{and_le_r}
+use Rattle.std.proofs.Math.ListN.{length, get_or, length-map, get_or-map}
+use Rattle.lists.specs.Lists.{In, null, same_list}
+use Rattle.lists.specs.Tests.{by, never, null-in, same_test, and_left, and_right, and_both}
+use Rattle.lists.specs.Lexicographic.{same_numbers, numbers-same}
 use Rattle.rows.specs.declared.Row.{Row}
-use Rattle.rows.specs.Rows.{has, has_bit}
-use Rattle.rows.specs.Lists.{between, below, map-between}
-use Rattle.rows.specs.Next.{First}
-use Rattle.rows.specs.NextLaws.{from-there}
+use Rattle.rows.specs.Rows.{has, bit, has_bit}
+use Rattle.rows.specs.RowLaws.{bit_is}
+use Rattle.rows.specs.Lists.{between, below}
+use Rattle.ordering.specs.Lists as ordering
+use Rattle.ordering.specs.Lists.{only, below-same}
+use Rattle.bitsets.specs.Bitsets.{members, first_bits, Lowest, Rest, Walks}
+use Rattle.bitsets.specs.BitLaws.{bit-both, bit-first, bit_past, some-bit, members-of, in_members, members-next, members-none, members-below}
 use Rattle.definitions.specs.Records.{Name, Sheet}
 use Rattle.definitions.specs.Comparisons.{dotted}
 use Rattle.definitions.specs.Map.{LineType, LineMap}
@@ -22,202 +26,298 @@ use Rattle.definitions.specs.Synthesis.{first_parents}
 use Rattle.line_laws.specs.Statements.{line_map}
 use Rattle.law_classes.specs.Sets.{no_type}
 use Rattle.dedup.specs.Reading.{names_at}
-use Rattle.catalogue.specs.Layout.{key_at, count_in}
+use Rattle.catalogue.specs.Layout.{key_at}
 use Rattle.catalogue.specs.Catalogue.{name_of_key}
+use Rattle.catalogue.specs.declared.Catalogue.{Catalogue}
+use Rattle.item_refusal.specs.RepeatLaws.{one_place}
+use Rattle.annotations.specs.Reading.{dom_at}
 use Rattle.synth_classes.specs.Made.{class_name, classes_of, type_names, names_in, firsts_of}
 use Rattle.synth_classes.specs.Walks.{class-names}
 use Rattle.synth_classes.specs.Known.{Known}
-use Rattle.synth_same.specs.Same.{count_of, own_in, test_of, end_of, top_of, dom_key, key_of, keys_of, first_keys}
-use Rattle.synth_same.specs.Rest.{rest_end, rest-next, rest_all, At, at_first}
+use Rattle.synth_same.specs.Same.{types_in, class_of, same_classes, same_firsts}
 
--- ---- the parts of the code
+-- ---- numbers of bits
 
-pub few-types : (t : List ℕ) (n : ℕ) → n ≡ count_in t → n < 64 → n ≡ count_of t
-unfolding count_of
-few-types t n e h = omega (arith, e)
+-- the numbers from i on of which f holds, one more
+between-more : (f : ℕ → Bool) (i n : ℕ) → between f i (suc n) ≡ between f i n ++ only (f (i + n)) (i + n)
+unfolding between
+between-more f i zero =
+    let e : i + 0 ≡ i = omega arith in
+    rw e (by (f i) (λ q. rw q refl) (λ q. rw q refl))
+between-more f i (suc n) =
+    let e : suc i + n ≡ i + suc n = omega arith in
+    by (f i)
+    (λ q. rw q (ap (λ l. i ∷ l) (rw e at (between-more f (suc i) n))))
+    (λ q. rw q (rw e at (between-more f (suc i) n)))
 
-pub most-types : (t : List ℕ) (n : ℕ) → n ≡ count_in t → 64 ≤ n → 64 ≡ count_of t
-unfolding count_of
-most-types t n e h = omega (arith, e)
+below_is : (f : ℕ → Bool) (n : ℕ) → below f n ≡ ordering.below f n
+unfolding between
+below_is f zero = refl
+below_is f (suc n) =
+    let e : 0 + n ≡ n = omega arith in
+    (rw e at (between-more f 0 n)) ∙ ap (λ l. l ++ only (f n) n) (below_is f n)
 
-pub count_most : (t : List ℕ) → count_of t ≤ 64
-unfolding count_of
-count_most t = omega arith
+-- numbers of the same bits are the same
+same-bits : (n x y : ℕ) → x < 2 ^ n → y < 2 ^ n → ((k : ℕ) → bit x k ≡ bit y k) → x ≡ y
+same-bits zero x y h k e = omega arith
+same-bits (suc n) x y h k e =
+    let p : 2 ^ suc n ≡ 2 * 2 ^ n = omega arith in
+    let d : x / 2 ≡ y / 2 = same-bits n (x / 2) (y / 2) (omega arith) (omega arith) (λ k. e (suc k)) in
+    let l : x % 2 ≡ y % 2 = e zero in
+    omega arith
 
-pub end-most : (t : List ℕ) (own : Bool) → end_of t own ≤ top_of own
-end-most t true = omega arith
-end-most t false = count_most t
+same-sets : (x y : ℕ) → x < 2 ^ 64 → y < 2 ^ 64 → ((k : ℕ) → has_bit x k ≡ has_bit y k) → x ≡ y
+unfolding has_bit
+same-sets x y h k e =
+    same-bits 64 x y h k
+    (λ j.
+    by (eqb (bit x j) 1)
+    (λ q. eqb-true (bit x j) 1 q ∙ sym (eqb-true (bit y j) 1 (sym (e j) ∙ q)))
+    (λ q. omega (arith, eqb-false (bit x j) 1 q, eqb-false (bit y j) 1 (sym (e j) ∙ q), bit_is x j, bit_is y j)))
 
-pub own_is : (t : List ℕ) (ps n k : ℕ) → n ≡ count_of t → First (has_bit ps) 64 0 k → leb n k ≡ own_in t ps
-unfolding own_in
-own_is t ps n k e h =
-    by (leb n k)
-    (λ q. q ∙ ap null (sym (rest_end (has_bit ps) k (count_of t) (omega (arith, e, leb-true n k q))) ∙ sym (rest_all (has_bit ps) 64 k (count_of t) h)))
-    (λ q.
-    let l : k < count_of t = omega (arith, e, leb-false n k q) in
-    let c = h.some (omega (arith, count_most t)) in
-    q ∙ ap null (sym (from-there (has_bit ps) k (count_of t) l c) ∙ sym (rest_all (has_bit ps) 64 k (count_of t) h)))
+same_members : (x y : ℕ) → x < 2 ^ 64 → y < 2 ^ 64 → members x ≡ members y → x ≡ y
+same_members x y h k e =
+    same-sets x y h k
+    (λ j.
+    by (ltb j 64)
+    (λ l.
+    let i = ltb-true j 64 l in
+    same_test
+    (λ q. (members-of y (subst (In j) e (in_members x i q))).1)
+    (λ q. (members-of x (subst (In j) (sym e) (in_members y i q))).1))
+    (λ l. let i = ltb-false j 64 l in bit_past 64 x j h i ∙ sym (bit_past 64 y j k i)))
 
-pub key-dom : (t : List ℕ) (own : Bool) (k : ℕ) → own ≡ true → (k ≡ 0 → ⊥) → (k - 1) * 256 ≡ key_of t own k
-key-dom t own zero e h = absurd (h refl)
-key-dom t own (suc d) e h = rw e (let z : suc d - 1 ≡ d = omega arith in rw z refl)
+some-member : (x : ℕ) → x < 2 ^ 64 → (x ≡ 0 → ⊥) → null (members x) ≡ false
+unfolding has_bit
+some-member x h z =
+    let b = some-bit 64 x h z in
+    by (null (members x)) (λ e. absurd (null-in e (in_members x b.1 (eq-eqb (bit x b.0) 1 b.2)))) (λ e. e)
 
--- ---- two walks side by side
+-- ---- the classes of doms and the types of a set, in turn
 
-module _ (f g : ℕ → Bool) (a b : ℕ → ℕ) (m n topa topb : ℕ) (ma : m ≤ topa) (nb : n ≤ topb) where
-  abbrev left : ℕ → List ℕ
-  left i = map a (between f i (m - i))
+-- r is what the walk comes to
+module _ (test : ℕ → ℕ → Bool) (x : ℕ) (left : List ℕ) (r : Bool) (w : same_list test left (members x) ≡ r) where
+  module _ (d k y : ℕ) (rest : List ℕ) (e : left ≡ d ∷ rest) (l : Lowest x k × Rest x y) {b : Bool} (t : b ≡ test d k) where
+    turn : (b && same_list test rest (members y)) ≡ r
+    turn = ap (λ (z : Bool). z && same_list test rest (members y)) t ∙ sym (ap₂ (same_list test) e (members-next x k y l.0 l.1)) ∙ w
 
-  abbrev right : ℕ → List ℕ
-  right j = map b (between g j (n - j))
+    pub turn-unlike : b ≡ false → false ≡ r
+    turn-unlike q = rw q at turn
 
-  pub record Beside (i j : ℕ) : Type 0 where
-    pub left : At f topa i
-    pub right : At g topb j
-    pub same : same_list eqb (map a (between f i (m - i))) (map b (between g j (n - j))) ≡ same_list eqb (map a (below f m)) (map b (below g n))
+    pub turn-alike : b ≡ true → same_list test rest (members y) ≡ r
+    turn-alike q = rw q at turn
 
-  pub beside-start : (i j : ℕ) → First f topa 0 i → First g topb 0 j → Beside i j
-  beside-start i j p q =
-      record {
-        left = at_first f topa 0 i p;
-        right = at_first g topb 0 j q;
-        same = ap₂ (λ x y. same_list eqb (map a x) (map b y)) (sym (rest_all f topa i m p)) (sym (rest_all g topb j n q));
-      }
+  pub turn-short : (d : ℕ) (rest : List ℕ) → left ≡ d ∷ rest → x ≡ 0 → false ≡ r
+  turn-short d rest e z = sym (ap₂ (same_list test) e (members-none x z)) ∙ w
 
-  module _ (i j : ℕ) (w : Beside i j) where
-    left_there : i < m → left i ≡ a i ∷ left (i + 1)
-    left_there h = ap (map a) (from-there f i m h (w.left.there (omega arith)))
+  pub turn-end : (o : Option ℕ) (y : ℕ) → left ≡ [] → Walks x o y → is_none o ≡ r
+  turn-end None y e z = sym (ap₂ (same_list test) e (members-none x z.0)) ∙ w
+  turn-end (Some k) y e z = sym (ap₂ (same_list test) e (members-next x k y z.0 z.1)) ∙ w
 
-    right_there : j < n → right j ≡ b j ∷ right (j + 1)
-    right_there h = ap (map b) (from-there g j n h (w.right.there (omega arith)))
+-- ---- two lists of numbers as names
 
-    -- one ends before the other
-    pub beside-short : i < m → n ≤ j → false ≡ same_list eqb (map a (below f m)) (map b (below g n))
-    beside-short h k = sym (ap₂ (same_list eqb) (left_there h) (ap (map b) (rest_end g j n k))) ∙ w.same
+-- names that are each once
+map-once : (g : ℕ → Name) (n : ℕ) → ((i j : ℕ) → i < n → j < n → g i ≡ g j → i ≡ j) → (l k : List ℕ) → ((x : ℕ) → In x l → x < n) → ((x : ℕ) → In x k → x < n) → map g l ≡ map g k → l ≡ k
+map-once g n once [] [] p q e = refl
+map-once g n once [] (y ∷ k) p q e = cc
+map-once g n once (x ∷ l) [] p q e = cc
+map-once g n once (x ∷ l) (y ∷ k) p q e =
+    ap₂ (λ (a : ℕ) (b : List ℕ). a ∷ b)
+    (once x y (p x (Memᴰ.head refl)) (q y (Memᴰ.head refl)) (head-eq_of_cons-eq e))
+    (map-once g n once l k (λ z i. p z (Memᴰ.tail i)) (λ z i. q z (Memᴰ.tail i)) (tail-eq_of_cons-eq e))
 
-    pub beside-unlike : i < m → j < n → (a i ≡ b j → ⊥) → false ≡ same_list eqb (map a (below f m)) (map b (below g n))
-    beside-unlike h k d =
-        let e : same_list eqb (a i ∷ left (i + 1)) (b j ∷ right (j + 1)) ≡ false = rw (ne_eqb (a i) (b j) d) refl in
-        sym (ap₂ (same_list eqb) (left_there h) (right_there k) ∙ e) ∙ w.same
+-- a test that says whether the names of two numbers are the same
+module _ (test : ℕ → ℕ → Bool) (g h : ℕ → Name) where
+  yes-same : (l k : List ℕ) → ((x y : ℕ) → In y k → test x y ≡ true → g x ≡ h y) → same_list test l k ≡ true → map g l ≡ map h k
+  yes-same [] [] p e = refl
+  yes-same [] (y ∷ k) p e = never e refl
+  yes-same (x ∷ l) [] p e = never e refl
+  yes-same (x ∷ l) (y ∷ k) p e =
+      ap₂ (λ (a : Name) (b : List Name). a ∷ b)
+      (p x y (Memᴰ.head refl) (and_left (test x y) (same_list test l k) e))
+      (yes-same l k (λ a b i. p a b (Memᴰ.tail i)) (and_right (test x y) (same_list test l k) e))
 
-    pub beside-next : (i' j' : ℕ) → i < m → j < n → a i ≡ b j → First f topa (i + 1) i' → First g topb (j + 1) j' → Beside i' j'
-    beside-next i' j' h k d p q =
-        let e : same_list eqb (a i ∷ left (i + 1)) (b j ∷ right (j + 1)) ≡ same_list eqb (left (i + 1)) (right (j + 1)) = rw (eq-eqb (a i) (b j) d) refl in
-        record {
-          left = at_first f topa (i + 1) i' p;
-          right = at_first g topb (j + 1) j' q;
-          same =
-              ap₂ (λ x y. same_list eqb (map a x) (map b y)) (sym (rest-next f topa (i + 1) i' m p)) (sym (rest-next g topb (j + 1) j' n q))
-              ∙ sym (ap₂ (same_list eqb) (left_there h) (right_there k) ∙ e)
-              ∙ w.same;
-        }
+  same-yes : (l k : List ℕ) → ((x y : ℕ) → In y k → g x ≡ h y → test x y ≡ true) → map g l ≡ map h k → same_list test l k ≡ true
+  same-yes [] [] p e = refl
+  same-yes [] (y ∷ k) p e = cc
+  same-yes (x ∷ l) [] p e = cc
+  same-yes (x ∷ l) (y ∷ k) p e = and_both (p x y (Memᴰ.head refl) (head-eq_of_cons-eq e)) (same-yes l k (λ a b i. p a b (Memᴰ.tail i)) (tail-eq_of_cons-eq e))
 
-    pub beside_end : m ≤ i → leb n j ≡ same_list eqb (map a (below f m)) (map b (below g n))
-    beside_end h =
-        by (leb n j)
-        (λ q. q ∙ sym (ap₂ (same_list eqb) (ap (map a) (rest_end f i m h)) (ap (map b) (rest_end g j n (leb-true n j q)))) ∙ w.same)
-        (λ q. q ∙ sym (ap₂ (same_list eqb) (ap (map a) (rest_end f i m h)) (right_there (leb-false n j q))) ∙ w.same)
+-- the dom of a class
+abbrev dom_back : Name → ℕ
+dom_back [] = 0
+dom_back (r ∷ []) = 0
+dom_back (d ∷ r ∷ l) = suc d
 
--- the first parents of two makings, of which p and q say whether they are own ones
-module _ (t : List ℕ) (d : Row) (ps : ℕ) (e : Row) (qs : ℕ) where
-  abbrev pub Compared : Bool → Bool → ℕ → ℕ → Type 0
-  Compared p q i j =
-      Beside (test_of p d ps) (test_of q e qs) (key_of t p) (key_of t q) (end_of t p) (end_of t q) (top_of p) (top_of q) (end-most t p) (end-most t q) i j
+dom-back : (word k : ℕ) → dom_back (class_name word k) ≡ k
+dom-back word zero = refl
+dom-back word (suc d) = refl
 
-  pub compared_is : (p q : Bool) (r : Bool) → p ≡ own_in t ps → q ≡ own_in t qs
-      → r ≡ same_list eqb (map (key_of t p) (below (test_of p d ps) (end_of t p))) (map (key_of t q) (below (test_of q e qs) (end_of t q)))
-      → r ≡ same_list eqb (first_keys t d ps) (first_keys t e qs)
-  unfolding keys_of
-  compared_is p q r a b c = c ∙ ap₂ (λ x y. same_list eqb (keys_of t x d ps) (keys_of t y e qs)) a b
-
--- ---- names
-
--- what stands before the word, and the word
-unfoldable pub name_from : ℕ → ℕ → Name
-name_from word x = cond (eqb x 65536) (word ∷ []) (dotted (name_of_key x) word)
-
--- and back
-abbrev key_back : Name → ℕ
-key_back [] = 0
-key_back (r ∷ []) = 65536
-key_back (a ∷ r ∷ []) = a * 256
-key_back (a ∷ b ∷ r ∷ l) = a * 256 + (b + 1)
-
-back_is : (word x : ℕ) → key_back (name_from word x) ≡ x
-unfolding name_from name_of_key
-back_is word x =
-    by (eqb x 65536)
-    (λ e. rw e (sym (eqb-true x 65536 e)))
-    (λ e.
-    rw e
-    (by (eqb (x % 256) 0)
-    (λ z. let q : x / 256 * 256 ≡ x = omega (arith, eqb-true (x % 256) 0 z) in rw z q)
-    (λ z. let q : x / 256 * 256 + (x % 256 - 1 + 1) ≡ x = omega (arith, eqb-false (x % 256) 0 z) in rw z q)))
-
-pub names-back : (word : ℕ) (l : List ℕ) → map key_back (map (name_from word) l) ≡ l
-names-back word [] = refl
-names-back word (x ∷ l) = ap₂ (λ (y : ℕ) (k : List ℕ). y ∷ k) (back_is word x) (names-back word l)
-
-pub keys-same : (word : ℕ) (l k : List ℕ) → map (name_from word) l ≡ map (name_from word) k → l ≡ k
-keys-same word l k e = sym (names-back word l) ∙ ap (map key_back) e ∙ names-back word k
-
-dom-name : (word k : ℕ) → k < 201 → name_from word (dom_key k) ≡ class_name word k
-unfolding name_from name_of_key
-dom-name word zero h = refl
-dom-name word (suc d) h =
-    let a : d * 256 / 256 ≡ d = omega arith in
-    let b : d * 256 % 256 ≡ 0 = omega arith in
-    rw (ne_eqb (d * 256) 65536 (λ q. omega arith), a, b) refl
+doms-back : (word : ℕ) (l : List ℕ) → map dom_back (map (class_name word) l) ≡ l
+doms-back word [] = refl
+doms-back word (x ∷ l) = ap₂ (λ (a : ℕ) (b : List ℕ). a ∷ b) (dom-back word x) (doms-back word l)
 
 firsts-inherited : (l cs : List Name) (w : ℕ) → null l ≡ false → first_parents l cs w ≡ map (λ P. dotted P w) l
-firsts-inherited [] cs w h = Rattle.lists.specs.Tests.never refl h
+firsts-inherited [] cs w h = never refl h
 firsts-inherited (P ∷ l) cs w h = refl
 
-null-map : {A B : Type 0} (f : A → B) (l : List A) → null (map f l) ≡ null l
-null-map f [] = refl
-null-map f (x ∷ l) = refl
+-- ---- in a map
 
-module _ (s : Sheet) (t : List ℕ) (known : Known s t) where
+module _ (s : Sheet) (t : Catalogue) (known : Known s t) where
   abbrev M : LineMap
   M = line_map s
 
-  count-is : count_of t ≡ length M.types
-  unfolding count_of
-  count-is = omega (arith, known.listed.count, known.listed.few)
+  abbrev n : ℕ
+  n = length M.types
 
-  names-long : length (type_names M) ≡ count_of t
+  -- the name of the type at a place, and with the word
+  abbrev name : ℕ → Name
+  name k = get_or (type_names M) k []
+
+  abbrev passed : ℕ → ℕ → Name
+  passed word k = dotted (name k) word
+
+  name-key : (k : ℕ) → k < n → name_of_key (key_at t k) ≡ name k
   unfolding type_names
-  names-long = length-map M.types (λ (D : LineType). D.name) ∙ sym count-is
+  name-key k h = (known.listed.entry k h).name ∙ sym (get_or-map (λ (D : LineType). D.name) M.types k no_type)
 
-  key-name : (word i : ℕ) → i < count_of t → name_from word (key_at t i) ≡ dotted (get_or (type_names M) i []) word
-  unfolding name_from type_names
-  key-name word i h =
-      let e = known.listed.entry i (omega (arith, count-is)) in
-      rw (ne_eqb (key_at t i) 65536 (λ q. omega (arith, e.key)))
-      (ap (λ n. dotted n word) (e.name ∙ sym (get_or-map (λ (D : LineType). D.name) M.types i no_type)))
+  name_once : (i j : ℕ) → i < n → j < n → name i ≡ name j → i ≡ j
+  unfolding type_names
+  name_once i j h k e =
+      one_place s known.readable known.within i j h k
+      (sym (get_or-map (λ (D : LineType). D.name) M.types i no_type) ∙ e ∙ get_or-map (λ (D : LineType). D.name) M.types j no_type)
 
-  names-are : (ps : ℕ) → names_in M ps ≡ map (λ i. get_or (type_names M) i []) (below (has_bit ps) (count_of t))
-  unfolding names_at
-  names-are ps = ap (λ (n : ℕ). map (λ i. get_or (type_names M) i []) (below (has_bit ps) n)) names-long
+  types-bit : (ps a : ℕ) → has_bit (types_in t ps) a ≡ (has_bit ps a && ltb a n)
+  types-bit ps a =
+      let e : min t.count 64 ≡ n = omega (arith, known.listed.count, known.listed.few) in
+      bit-both ps (first_bits t.count) a ∙ ap (λ b. has_bit ps a && b) (bit-first t.count a ∙ ap (ltb a) e)
 
-  -- the first parents as names are their keys with the word
-  pub firsts-are : (doms : Row) (ps word : ℕ) → firsts_of M doms ps word ≡ map (name_from word) (first_keys t doms ps)
-  unfolding firsts_of keys_of own_in
-  firsts-are doms ps word =
-      let l = below (has_bit ps) (count_of t) in
-      by (null l)
-      (λ e.
-      let z : names_in M ps ≡ [] = names-are ps ∙ ap (map (λ i. get_or (type_names M) i [])) (null-nil l e) in
-      ap (λ ns. first_parents ns (classes_of doms word) word) z
-      ∙ class-names doms word
-      ∙ sym (map-between (has doms) (has doms) (λ k. name_from word (dom_key k)) (class_name word) 0 201 (λ k a b. refl) (λ k a b c. dom-name word k (omega arith)))
-      ∙ sym (map-map (name_from word) dom_key (below (has doms) 201))
-      ∙ ap (λ own. map (name_from word) (map (key_of t own) (below (test_of own doms ps) (end_of t own)))) (sym e))
-      (λ e.
-      let z : null (names_in M ps) ≡ false = ap null (names-are ps) ∙ null-map (λ i. get_or (type_names M) i []) l ∙ e in
-      firsts-inherited (names_in M ps) (classes_of doms word) word z
-      ∙ ap (map (λ P. dotted P word)) (names-are ps)
-      ∙ map-map (λ P. dotted P word) (λ i. get_or (type_names M) i []) l
-      ∙ sym (map-between (has_bit ps) (has_bit ps) (λ i. name_from word (key_at t i)) (λ i. dotted (get_or (type_names M) i []) word) 0 (count_of t) (λ k a b. refl) (λ k a b c. key-name word k (omega arith)))
-      ∙ sym (map-map (name_from word) (key_at t) l)
-      ∙ ap (λ own. map (name_from word) (map (key_of t own) (below (test_of own doms ps) (end_of t own)))) (sym e))
+  types-most : (ps : ℕ) → types_in t ps < 2 ^ 64
+  unfolding first_bits
+  types-most ps = omega (arith, and_le_r ps (first_bits t.count), lib.Pow.pow_mono {i = min t.count 64} {j = 64} (omega arith))
+
+  member-lt : (ps k : ℕ) → In k (members (types_in t ps)) → k < n
+  member-lt ps k i = ltb-true k n (and_right (has_bit ps k) (ltb k n) (sym (types-bit ps k) ∙ (members-of (types_in t ps) i).1))
+
+  names-are : (ps : ℕ) → names_in M ps ≡ map name (members (types_in t ps))
+  unfolding names_at type_names
+  names-are ps =
+      let z : length (map (λ (D : LineType). D.name) M.types) ≡ n = length-map M.types (λ (D : LineType). D.name) in
+      ap (λ (x : ℕ). map name (below (has_bit ps) x)) z
+      ∙ ap (map name)
+      (below_is (has_bit ps) n
+      ∙ below-same (has_bit ps) (has_bit (types_in t ps)) n (λ a l. sym (types-bit ps a ∙ ap (λ b. has_bit ps a && b) (lt-ltb a n l) ∙ and-true (has_bit ps a)))
+      ∙ sym (members-below (types_in t ps) n known.listed.few (λ a l. types-bit ps a ∙ ap (λ b. has_bit ps a && b) (le-ltb a n l) ∙ and-false (has_bit ps a))))
+
+  -- the first parents of an own making, and of an inherited one
+  own-firsts : (d : Row) (ps word : ℕ) → types_in t ps ≡ 0 → firsts_of M d ps word ≡ map (class_name word) (below (has d) 201)
+  unfolding firsts_of
+  own-firsts d ps word z = ap (λ l. first_parents l (classes_of d word) word) (names-are ps ∙ ap (map name) (members-none (types_in t ps) z)) ∙ class-names d word
+
+  null-map : {A B : Type 0} (f : A → B) (l : List A) → null (map f l) ≡ null l
+  null-map f [] = refl
+  null-map f (x ∷ l) = refl
+
+  passed-firsts : (d : Row) (ps word : ℕ) → (types_in t ps ≡ 0 → ⊥) → firsts_of M d ps word ≡ map (passed word) (members (types_in t ps))
+  unfolding firsts_of
+  passed-firsts d ps word z =
+      let e = names-are ps in
+      let m : null (names_in M ps) ≡ false = ap null e ∙ null-map name (members (types_in t ps)) ∙ some-member (types_in t ps) (types-most ps) z in
+      firsts-inherited (names_in M ps) (classes_of d word) word m
+      ∙ ap (map (λ P. dotted P word)) e
+      ∙ Rattle.lists.specs.Appending.map-map (λ P. dotted P word) name (members (types_in t ps))
+
+  -- the class of a dom, and P.r for the type P at a place
+  class-yes : (word d k : ℕ) → k < n → class_of t d k ≡ true → class_name word d ≡ passed word k
+  unfolding name_of_key
+  class-yes word zero k h e = never e refl
+  class-yes word (suc d) k h e =
+      let x : suc d - 1 ≡ d = omega arith in
+      let q : key_at t k ≡ d * 256 = eqb-true (key_at t k) (d * 256) (rw (ne_eqb (suc d) 0 (λ z. omega arith), x) at e) in
+      let a : key_at t k / 256 ≡ d = omega arith in
+      let b : key_at t k % 256 ≡ 0 = omega arith in
+      let c : name_of_key (key_at t k) ≡ d ∷ [] = rw (a, b) refl in
+      ap (λ N. dotted N word) (sym c ∙ name-key k h)
+
+  class-same : (word d k : ℕ) → k < n → class_name word d ≡ passed word k → class_of t d k ≡ true
+  unfolding name_of_key
+  class-same word d k h e =
+      let c : dom_at d ≡ name_of_key (key_at t k) = append_cancel_right (dom_at d) (name k) (word ∷ []) e ∙ sym (name-key k h) in
+      known-dom d (key_at t k) c
+    where
+      known-dom : (d key : ℕ) → dom_at d ≡ (key / 256) ∷ cond (eqb (key % 256) 0) [] ((key % 256 - 1) ∷ []) → (not (eqb d 0) && eqb key ((d - 1) * 256)) ≡ true
+      known-dom zero key c = cc
+      known-dom (suc d) key c =
+          let x : suc d - 1 ≡ d = omega arith in
+          let a : d ≡ key / 256 = head-eq_of_cons-eq c in
+          let b : [] ≡ cond (eqb (key % 256) 0) [] ((key % 256 - 1) ∷ []) = tail-eq_of_cons-eq c in
+          by (eqb (key % 256) 0)
+          (λ q. rw (ne_eqb (suc d) 0 (λ z. omega arith), x) (eq-eqb key (d * 256) (omega (arith, eqb-true (key % 256) 0 q))))
+          (λ q. let z : [] ≡ (key % 256 - 1) ∷ [] = rw q at b in absurd (cc))
+
+  -- ---- both
+
+  module _ (d : Row) (ps : ℕ) (e : Row) (qs word : ℕ) where
+    abbrev F : List Name
+    F = firsts_of M d ps word
+
+    abbrev G : List Name
+    G = firsts_of M e qs word
+
+    -- an own making and an inherited one
+    mixed-yes : (c : Row) (x : ℕ) → same_classes t c (types_in t x) ≡ true → map (class_name word) (below (has c) 201) ≡ map (passed word) (members (types_in t x))
+    mixed-yes c x q = yes-same (class_of t) (class_name word) (passed word) (below (has c) 201) (members (types_in t x)) (λ a b i. class-yes word a b (member-lt x b i)) q
+
+    mixed-same : (c : Row) (x : ℕ) → map (class_name word) (below (has c) 201) ≡ map (passed word) (members (types_in t x)) → same_classes t c (types_in t x) ≡ true
+    mixed-same c x q = same-yes (class_of t) (class_name word) (passed word) (below (has c) 201) (members (types_in t x)) (λ a b i. class-same word a b (member-lt x b i)) q
+
+    pub firsts-yes : same_firsts t d ps e qs ≡ true → F ≡ G
+    unfolding same_firsts
+    firsts-yes h =
+        by (eqb (types_in t ps) 0)
+        (λ p.
+        by (eqb (types_in t qs) 0)
+        (λ q.
+        own-firsts d ps word (eqb-true (types_in t ps) 0 p)
+        ∙ ap (map (class_name word)) (same_numbers (below (has d) 201) (below (has e) 201) (rw (p, q) at h))
+        ∙ sym (own-firsts e qs word (eqb-true (types_in t qs) 0 q)))
+        (λ q.
+        own-firsts d ps word (eqb-true (types_in t ps) 0 p)
+        ∙ mixed-yes d qs (rw (p, q) at h)
+        ∙ sym (passed-firsts e qs word (eqb-false (types_in t qs) 0 q))))
+        (λ p.
+        by (eqb (types_in t qs) 0)
+        (λ q.
+        passed-firsts d ps word (eqb-false (types_in t ps) 0 p)
+        ∙ sym (mixed-yes e ps (rw (p, q) at h))
+        ∙ sym (own-firsts e qs word (eqb-true (types_in t qs) 0 q)))
+        (λ q.
+        passed-firsts d ps word (eqb-false (types_in t ps) 0 p)
+        ∙ ap (λ (x : ℕ). map (passed word) (members x)) (eqb-true (types_in t ps) (types_in t qs) (rw (p, q) at h))
+        ∙ sym (passed-firsts e qs word (eqb-false (types_in t qs) 0 q))))
+
+    pub firsts-same : F ≡ G → same_firsts t d ps e qs ≡ true
+    unfolding same_firsts
+    firsts-same h =
+        by (eqb (types_in t ps) 0)
+        (λ p.
+        by (eqb (types_in t qs) 0)
+        (λ q.
+        let z : map (class_name word) (below (has d) 201) ≡ map (class_name word) (below (has e) 201) =
+        sym (own-firsts d ps word (eqb-true (types_in t ps) 0 p)) ∙ h ∙ own-firsts e qs word (eqb-true (types_in t qs) 0 q) in
+        rw (p, q) (numbers-same (sym (doms-back word (below (has d) 201)) ∙ ap (map dom_back) z ∙ doms-back word (below (has e) 201))))
+        (λ q.
+        rw (p, q)
+        (mixed-same d qs (sym (own-firsts d ps word (eqb-true (types_in t ps) 0 p)) ∙ h ∙ passed-firsts e qs word (eqb-false (types_in t qs) 0 q)))))
+        (λ p.
+        by (eqb (types_in t qs) 0)
+        (λ q.
+        rw (p, q)
+        (mixed-same e ps (sym (own-firsts e qs word (eqb-true (types_in t qs) 0 q)) ∙ sym h ∙ passed-firsts d ps word (eqb-false (types_in t ps) 0 p))))
+        (λ q.
+        let z : map (passed word) (members (types_in t ps)) ≡ map (passed word) (members (types_in t qs)) =
+        sym (passed-firsts d ps word (eqb-false (types_in t ps) 0 p)) ∙ h ∙ passed-firsts e qs word (eqb-false (types_in t qs) 0 q) in
+        let l : members (types_in t ps) ≡ members (types_in t qs) =
+        map-once (passed word) n (λ i j a b c. name_once i j a b (append_cancel_right (name i) (name j) (word ∷ []) c))
+        (members (types_in t ps)) (members (types_in t qs)) (member-lt ps) (member-lt qs) z in
+        rw (p, q) (eq-eqb (types_in t ps) (types_in t qs) (same_members (types_in t ps) (types_in t qs) (types-most ps) (types-most qs) l))))

@@ -1,5 +1,4 @@
 pub mod Same
-pub mod Rest
 pub mod FirstLaws
 pub mod MarkLaws
 pub mod SameLaws

@@ -1,5 +1,5 @@
 -- Marks as bits, walked class by class.
-use Rattle.std.specs.Prelude.{Bool, List, [], ◌∷◌, ◌++◌, Some, None, ◌≡◌, ℕ, zero, suc, ◌+◌, ◌*◌, ◌-◌, ◌/◌, ◌%◌, ◌≤◌, ◌<◌, eqb, length}
+use Rattle.std.specs.Prelude.{Bool, List, ◌∷◌, ◌++◌, Some, None, ◌≡◌, ℕ, zero, suc, ◌+◌, ◌*◌, ◌-◌, ◌/◌, ◌%◌, ◌≤◌, ◌<◌, eqb, length}
 use Rattle.std.proofs.Math.Bool.{false}
 use Rattle.std.proofs.Math.Path.{sym, ap}
 use Rattle.std.proofs.Common.{◌∙◌, arith, lt-ltb, le-ltb, length-append, get_or-append-add}
@@ -13,6 +13,7 @@ use Rattle.rows.specs.Lists.{between, below}
 use Rattle.definitions.specs.Bits.{odd, to_bits}
 use Rattle.bits.specs.NumberLaws.{length-to_bits}
 use Rattle.catalogue.specs.Layout.{marks_at, tally_at}
+use Rattle.catalogue.specs.declared.Catalogue.{Catalogue}
 use Rattle.synth_classes.specs.Classes.{place_if, place_in}
 use Rattle.synth_classes.specs.ClassLaws.{place-some, place-none}
 use Rattle.synth_same.specs.Same.{width_at, bits_at, bits_in}
@@ -25,22 +26,22 @@ few-between f i (suc n) = let e = few-between f (suc i) n in by (f i) (λ q. rw 
 
 -- ---- one class
 
-pub width-there : (t : List ℕ) (p : ℕ) → p < 64 → tally_at t p / 8 % 64 ≡ width_at t p
+pub width-there : (t : Catalogue) (p : ℕ) → p < 64 → tally_at t p / 8 % 64 ≡ width_at t p
 unfolding width_at
 width-there t p h = rw (lt-ltb p 64 h)
 
-pub width-none : (t : List ℕ) (p : ℕ) → 64 ≤ p → 0 ≡ width_at t p
+pub width-none : (t : Catalogue) (p : ℕ) → 64 ≤ p → 0 ≡ width_at t p
 unfolding width_at
 width-none t p h = rw (le-ltb p 64 h)
 
 -- what a place tells of the width
-pub width-some : (t : List ℕ) (word k p w : ℕ) → place_if (place_in t word k) ≡ Some p → w ≡ width_at t p → w ≡ width_at t (place_in t word k)
+pub width-some : (t : Catalogue) (word k p w : ℕ) → place_if (place_in t word k) ≡ Some p → w ≡ width_at t p → w ≡ width_at t (place_in t word k)
 width-some t word k p w e h = h ∙ ap (width_at t) (sym (place-some _ p e).0)
 
-pub width-no : (t : List ℕ) (word k : ℕ) → place_if (place_in t word k) ≡ None → 0 ≡ width_at t (place_in t word k)
+pub width-no : (t : Catalogue) (word k : ℕ) → place_if (place_in t word k) ≡ None → 0 ≡ width_at t (place_in t word k)
 width-no t word k e = width-none t (place_in t word k) (place-none _ e)
 
-bits-long : (t : List ℕ) (p : ℕ) → length (bits_at t p) ≡ width_at t p
+bits-long : (t : Catalogue) (p : ℕ) → length (bits_at t p) ≡ width_at t p
 unfolding bits_at
 bits-long t p = length-to_bits (width_at t p) (marks_at t p)
 
@@ -56,7 +57,7 @@ number_bit (suc w) v (suc j) h =
     rw e (number_bit w v j (omega arith))
 
 -- a bit of a class that has as many
-bit-there : (t : List ℕ) (word k p w i : ℕ) → place_if (place_in t word k) ≡ Some p → w ≡ width_at t (place_in t word k) → i < w
+bit-there : (t : Catalogue) (word k p w i : ℕ) → place_if (place_in t word k) ≡ Some p → w ≡ width_at t (place_in t word k) → i < w
     → has_bit (marks_at t p) (w - 1 - i) ≡ get_or (bits_at t (place_in t word k)) i false
 unfolding bits_at
 bit-there t word k p w i e h l =
@@ -65,7 +66,7 @@ bit-there t word k p w i e h l =
 
 -- ---- the classes in turn
 
-module _ (t : List ℕ) (doms : Row) (word : ℕ) where
+module _ (t : Catalogue) (doms : Row) (word : ℕ) where
   abbrev b : ℕ → List Bool
   b k = bits_at t (place_in t word k)
 
@@ -88,12 +89,6 @@ module _ (t : List ℕ) (doms : Row) (word : ℕ) where
   -- a class that is not declared has none
   pub counting-same : (left rest : List ℕ) (k n : ℕ) → left ≡ k ∷ rest → 0 ≡ width_at t (place_in t word k) → Counting left n → Counting rest n
   counting-same left rest k n h e c = let q : n + 0 ≡ n = omega arith in rw q at (counting-next left rest k n 0 h e (omega arith) c)
-
-  pub counting-room : (left rest : List ℕ) (k n : ℕ) → left ≡ k ∷ rest → Counting left n → n ≤ 12864
-  counting-room left rest k n h c = omega (arith, c.room)
-
-  pub counting-end : (left : List ℕ) (n : ℕ) → left ≡ [] → Counting left n → n ≡ length (bits_in t doms word)
-  counting-end left n h c = omega (arith, c.total, ap (λ z. length (each b z)) h)
 
   -- the bit i is the bit `at` of the doms that are left
   pub record Seeking (i : ℕ) (left : List ℕ) (at : ℕ) : Type 0 where
@@ -126,6 +121,3 @@ module _ (t : List ℕ) (doms : Row) (word : ℕ) where
       ∙ sym (get_or-append (b k) (each b rest) false at (omega (arith, n, e)))
       ∙ ap (λ l. get_or (each b l) at false) (sym h)
       ∙ c.bit
-
-  pub seeking-end : (i : ℕ) (left : List ℕ) (at : ℕ) → left ≡ [] → Seeking i left at → false ≡ get_or (bits_in t doms word) i false
-  seeking-end i left at h c = ap (λ l. get_or (each b l) at false) (sym h) ∙ c.bit

@@ -1,16 +1,15 @@
 -- Two makings of one type and one word are identical exactly where their first parents, flags and marks are.
 use mathlib.Core.Bool.{Bool, true, false, ◌&&◌, not, beq, and-true}
-use mathlib.Core.List.{List, [], ◌∷◌, ◌++◌, map, append-nil, append_cancel_right}
-use Rattle.std.specs.Prelude.{Some, None, ◌≡◌, refl, eqb, ltb, length, get_or}
+use mathlib.Core.List.{List, [], ◌∷◌, ◌++◌, append-nil, append_cancel_right}
+use Rattle.std.specs.Prelude.{Some, None, ◌≡◌, refl, ltb, length, get_or}
 use Rattle.std.proofs.Math.Path.{sym, ap, subst}
 use Rattle.std.proofs.Common.{ap₂, ◌∙◌, arith, ext_get_or}
 use Prim.Native.Nat.{ℕ, zero, suc, ◌/◌, ◌%◌, ◌≤◌, ◌<◌}
-use borrow.Author.Tests.{ltb-true, ltb-false, lt-ltb, le-ltb}
+use borrow.Author.Tests.{ltb-true, ltb-false}
 use Rattle.std.specs.List.{list_any}
-use Rattle.lists.specs.Lists.{all, filter, null, each, same_list}
+use Rattle.lists.specs.Lists.{all, filter, null, each}
 use Rattle.lists.specs.Tests.{by, never, not_so, each_of}
 use Rattle.lists.specs.Appending.{all_map, each-each, each_map, each_same}
-use Rattle.lists.specs.Lexicographic.{same_numbers, numbers-same}
 use Rattle.rows.specs.declared.Row.{Row}
 use Rattle.rows.specs.Rows.{has}
 use Rattle.rows.specs.Lists.{between, below}
@@ -26,47 +25,37 @@ use Rattle.line_laws.specs.SameItem.{same_item_lem, item-same}
 use Rattle.law_classes.specs.Sets.{type_at}
 use Rattle.catalogue.specs.Layout.{head_at, marks_at, tally_at}
 use Rattle.catalogue.specs.Catalogue.{virtual_head}
+use Rattle.catalogue.specs.declared.Catalogue.{Catalogue}
 use Rattle.item_refusal.specs.MarkLaws.{AllWithin, one_code}
 use Rattle.synth_classes.specs.declared.Site.{Site}
 use Rattle.synth_classes.specs.declared.Origin.{Origin}
 use Rattle.synth_classes.specs.Classes.{place_if, place_in}
-use Rattle.synth_classes.specs.ClassLaws.{place-some, place-none}
+use Rattle.synth_classes.specs.ClassLaws.{asked-some, asked-none}
 use Rattle.synth_classes.specs.Made.{class_name, classes_of, firsts_of, created}
 use Rattle.synth_classes.specs.Walks.{class-names}
 use Rattle.synth_classes.specs.Known.{Known, class-known, class_low}
-use Rattle.synth_same.specs.Same.{first_keys, real_at, virtual_in, SameVirtual, width_at, bits_at, bits_in, SameMarks, SameMaking}
-use Rattle.synth_same.specs.FirstLaws.{name_from, keys-same, firsts-are}
+use Rattle.synth_same.specs.Same.{same_firsts, real_at, virtual_in, SameVirtual, width_at, bits_at, bits_in, SameMarks, SameMaking}
+use Rattle.synth_same.specs.FirstLaws.{firsts-yes, firsts-same}
 use Rattle.synth_same.specs.MarkLaws.{width-there, width-none}
 
 -- ---- the parts of the code
 
-pub real-some : (t : List ℕ) (word k p : ℕ) → place_if (place_in t word k) ≡ Some p → not (virtual_head (head_at t p)) ≡ real_at t word k
+pub real_some : (t : Catalogue) (word k p : ℕ) → place_if (place_in t word k) ≡ Some p → not (virtual_head (head_at t p)) ≡ real_at t word k
 unfolding real_at
-real-some t word k p e = let z = place-some _ p e in rw (z.0, lt-ltb p 64 z.1)
+real_some t word k p e = asked-some (λ x. not (virtual_head (head_at t x))) (place_in t word k) p e
 
-pub real-none : (t : List ℕ) (word k : ℕ) → place_if (place_in t word k) ≡ None → false ≡ real_at t word k
+pub real_none : (t : Catalogue) (word k : ℕ) → place_if (place_in t word k) ≡ None → false ≡ real_at t word k
 unfolding real_at
-real-none t word k e = rw (le-ltb (place_in t word k) 64 (place-none _ e))
+real_none t word k e = asked-none (λ x. not (virtual_head (head_at t x))) (place_in t word k) e
 
 -- none is real where none of those that are real is
 pub any-real : (f : ℕ → Bool) (l : List ℕ) → not (list_any f l) ≡ null (filter f l)
 any-real f [] = refl
 any-real f (x ∷ l) = by (f x) (λ e. rw e) (λ e. rw e (any-real f l))
 
-pub virtual-if : (t : List ℕ) (place word : ℕ) (d e : Row) (v : Bool) (x y r : Bool) → v ≡ virtual_head (head_at t place) → v ≡ true
-    → x ≡ virtual_in t d word → y ≡ virtual_in t e word → r ≡ beq x y → SameVirtual t place word d e r
-virtual-if t place word d e v x y r p q a b c = c ∙ rw (← p, q) (ap₂ beq a b)
-
-pub virtual-else : (t : List ℕ) (place word : ℕ) (d e : Row) (v : Bool) → v ≡ virtual_head (head_at t place) → v ≡ false → SameVirtual t place word d e true
-virtual-else t place word d e v p q = rw (← p, q) refl
-
 -- the bits before i are the same
 abbrev pub Alike : List Bool → List Bool → ℕ → Type 0
 Alike a b i = (j : ℕ) → j < i → get_or a j false ≡ get_or b j false
-
-pub flag_true : (b : Bool) → b ≡ beq true b
-flag_true true = refl
-flag_true false = refl
 
 beq-true : (a b : Bool) → beq a b ≡ true → a ≡ b
 beq-true true true e = refl
@@ -78,23 +67,7 @@ beq_same : (a b : Bool) → a ≡ b → beq a b ≡ true
 beq_same true b e = rw (← e) refl
 beq_same false b e = rw (← e) refl
 
-pub alike_next : (a b : List Bool) (i : ℕ) (x y r : Bool) → x ≡ get_or a i false → y ≡ get_or b i false → r ≡ beq x y → r ≡ true → Alike a b i → Alike a b (Prim.Native.Nat.◌+◌ i 1)
-alike_next a b i x y r p q e h k j l =
-    by (ltb j i)
-    (λ z. k j (ltb-true j i z))
-    (λ z.
-    let w : j ≡ i = omega (arith, ltb-false j i z) in
-    ap (λ (n : ℕ). get_or a n false) w ∙ sym p ∙ beq-true x y (sym e ∙ h) ∙ q ∙ ap (λ (n : ℕ). get_or b n false) (sym w))
-
-pub marks-unlike : (t : List ℕ) (word : ℕ) (d e : Row) (i : ℕ) (x y r : Bool) → x ≡ get_or (bits_in t d word) i false → y ≡ get_or (bits_in t e word) i false → r ≡ beq x y → r ≡ false
-    → SameMarks t word d e false
-marks-unlike t word d e i x y r p q c h =
-    record { yes = λ z. never z refl; no = λ z w. never (c ∙ beq_same x y (p ∙ ap (λ l. get_or l i false) w ∙ sym q)) h }
-
-pub marks-longer : (t : List ℕ) (word : ℕ) (d e : Row) (n m : ℕ) → n ≡ length (bits_in t d word) → m ≡ length (bits_in t e word) → (n ≡ m → ⊥) → SameMarks t word d e false
-marks-longer t word d e n m p q h = record { yes = λ z. never z refl; no = λ z w. h (p ∙ ap length w ∙ sym q) }
-
-pub marks-alike : (t : List ℕ) (word : ℕ) (d e : Row) (n m i : ℕ) → n ≡ length (bits_in t d word) → m ≡ length (bits_in t e word) → n ≡ m → n ≤ i → Alike (bits_in t d word) (bits_in t e word) i
+pub marks-alike : (t : Catalogue) (word : ℕ) (d e : Row) (n m i : ℕ) → n ≡ length (bits_in t d word) → m ≡ length (bits_in t e word) → n ≡ m → n ≤ i → Alike (bits_in t d word) (bits_in t e word) i
     → SameMarks t word d e true
 marks-alike t word d e n m i p q h l k =
     record { yes = λ z. ext_get_or false (bits_in t d word) (bits_in t e word) (sym p ∙ h ∙ q) (λ j b. k j (omega (arith, p, l))); no = λ z. never refl z }
@@ -125,7 +98,7 @@ abbrev marks_in : Item → List Mark
 marks_in (synthesized n r v ps ms) = ms
 marks_in (extension n v t r) = []
 
-module _ (s : Sheet) (t : List ℕ) (known : Known s t) where
+module _ (s : Sheet) (t : Catalogue) (known : Known s t) where
   abbrev M : LineMap
   M = line_map s
 
@@ -186,11 +159,11 @@ module _ (s : Sheet) (t : List ℕ) (known : Known s t) where
     y = created M T word e qs
 
     -- identical makings have first parents, flags and marks alike
-    keys_of : x ≡ y → first_keys t d ps ≡ first_keys t e qs
+    firsts_agree : x ≡ y → same_firsts t d ps e qs ≡ true
     unfolding created create_synthetic_resource
-    keys_of z =
-        let q = append_cancel_right (firsts_of M d ps word) (firsts_of M e qs word) ((M.resource ∷ []) ∷ extension_parents M (type_at M T).name word) (ap parents_in z) in
-        keys-same word (first_keys t d ps) (first_keys t e qs) (sym (firsts-are s t known d ps word) ∙ q ∙ firsts-are s t known e qs word)
+    firsts_agree z =
+        firsts-same s t known d ps e qs word
+        (append_cancel_right (firsts_of M d ps word) (firsts_of M e qs word) ((M.resource ∷ []) ∷ extension_parents M (type_at M T).name word) (ap parents_in z))
 
     flag_is : (doms : Row) → (virtual_head (head_at t T) && virtual_in t doms word) ≡ ((type_at M T).virtual && all_virtual M (classes_of doms word))
     flag_is doms = ap₂ (λ a b. a && b) (known.listed.entry T h).is_virtual (virtual-known doms word hw)
@@ -204,11 +177,11 @@ module _ (s : Sheet) (t : List ℕ) (known : Known s t) where
     bits_of z = sym (bits-known d word hw) ∙ ap (λ i. each mark_bits (marks_in i)) z ∙ bits-known e word hw
 
     -- and makings that have them are identical
-    made-of : first_keys t d ps ≡ first_keys t e qs → (virtual_head (head_at t T) && virtual_in t d word) ≡ (virtual_head (head_at t T) && virtual_in t e word)
+    made-of : same_firsts t d ps e qs ≡ true → (virtual_head (head_at t T) && virtual_in t d word) ≡ (virtual_head (head_at t T) && virtual_in t e word)
         → bits_in t d word ≡ bits_in t e word → x ≡ y
     unfolding created create_synthetic_resource
     made-of a b c =
-        let f : firsts_of M d ps word ≡ firsts_of M e qs word = firsts-are s t known d ps word ∙ ap (map (name_from word)) a ∙ sym (firsts-are s t known e qs word) in
+        let f : firsts_of M d ps word ≡ firsts_of M e qs word = firsts-yes s t known d ps e qs word a in
         let v = sym (flag_is d) ∙ b ∙ flag_is e in
         let m : marks_of M (classes_of d word) ≡ marks_of M (classes_of e word) =
         one_code (marks_of M (classes_of d word)) (marks_of M (classes_of e word)) (marks-within (classes_of d word)) (marks-within (classes_of e word))
@@ -217,33 +190,30 @@ module _ (s : Sheet) (t : List ℕ) (known : Known s t) where
 
 -- ---- the answer
 
-module _ (t : List ℕ) (site : Site) (a b : Origin) (hw : site.word < 255) where
-  abbrev K : Origin → List ℕ
-  K o = first_keys t o.doms o.parents
-
-  pub firsts-unlike : (r : Bool) → r ≡ same_list eqb (K a) (K b) → r ≡ false → SameMaking t site a b false
-  firsts-unlike r e f =
+module _ (t : Catalogue) (site : Site) (a b : Origin) (hw : site.word < 255) where
+  pub firsts_unlike : (r : Bool) → r ≡ same_firsts t a.doms a.parents b.doms b.parents → r ≡ false → SameMaking t site a b false
+  firsts_unlike r e f =
       record {
         right = λ s k h. sym (not_so (λ z.
-            never (e ∙ numbers-same (keys_of s t k site.place site.word h hw a.doms a.parents b.doms b.parents (same_item_lem _ _ z))) f));
+            never (e ∙ firsts_agree s t k site.place site.word h hw a.doms a.parents b.doms b.parents (same_item_lem _ _ z)) f));
       }
 
-  pub flags-unlike : (r : Bool) → SameVirtual t site.place site.word a.doms b.doms r → r ≡ false → SameMaking t site a b false
-  flags-unlike r e f =
+  pub flags_unlike : (r : Bool) → SameVirtual t site.place site.word a.doms b.doms r → r ≡ false → SameMaking t site a b false
+  flags_unlike r e f =
       record {
         right = λ s k h. sym (not_so (λ z.
             never (e ∙ beq_same _ _ (flags_of s t k site.place site.word h hw a.doms a.parents b.doms b.parents (same_item_lem _ _ z))) f));
       }
 
-  pub marks-decide : (p q r : Bool) → p ≡ same_list eqb (K a) (K b) → p ≡ true → SameVirtual t site.place site.word a.doms b.doms q → q ≡ true
+  pub marks_decide : (p q r : Bool) → p ≡ same_firsts t a.doms a.parents b.doms b.parents → p ≡ true → SameVirtual t site.place site.word a.doms b.doms q → q ≡ true
       → SameMarks t site.word a.doms b.doms r → SameMaking t site a b r
-  marks-decide p q r e f g i w =
+  marks_decide p q r e f g i w =
       record {
         right = λ s k h.
             by r
             (λ z.
             z ∙ sym (item-same (made-of s t k site.place site.word h hw a.doms a.parents b.doms b.parents
-            (same_numbers (K a) (K b) (sym e ∙ f)) (beq-true _ _ (sym g ∙ i)) (w.yes z))))
+            (sym e ∙ f) (beq-true _ _ (sym g ∙ i)) (w.yes z))))
             (λ z.
             z ∙ sym (not_so (λ u. w.no z (bits_of s t k site.place site.word h hw a.doms a.parents b.doms b.parents (same_item_lem _ _ u)))));
       }

@@ -1,113 +1,79 @@
-// Whether two makings of one type and one word are identical (FORMAT 5.1), without either being made: name, word, `resource` and the
-// parents of an extension are theirs both, so that first parents, flag and marks decide.
+// Whether two makings of one type and one word are identical (FORMAT 5.1), without either being made: name, word, `resource` and
+// the parents of an extension are theirs both, so that first parents, flag and marks decide.
 #![tactic(auto)]
 
-ghost use Rattle.std.specs.Prelude.{false, ◌≡◌, ◌≤◌, ◌<◌, eqb, length, get_or};
+ghost use Rattle.std.specs.Prelude.{false, ◌≡◌, ◌<◌, eqb, length, get_or};
 ghost use Rattle.lists.specs.Lists.{same_list};
-ghost use Rattle.rows.specs.Next.{First};
+ghost use Rattle.rows.specs.Rows.{has};
+ghost use Rattle.rows.specs.Lists.{below};
+ghost use Rattle.bitsets.specs.Bitsets.{members};
 ghost use Rattle.catalogue.specs.Layout.{head_at};
 ghost use Rattle.catalogue.specs.Catalogue.{virtual_head};
-ghost use Rattle.synth_same.specs.Same.{count_of, own_in, end_of, test_of, top_of, key_of, first_keys, real_at, virtual_in, width_at, bits_in, SameMarks, SameVirtual, SameMaking};
+ghost use Rattle.synth_same.specs.Same.{class_of, same_firsts, real_at, virtual_in, width_at, bits_in, SameMarks, SameVirtual, SameMaking};
 
+use catalogue::Catalogue;
 use rows::Row;
 use synth_classes::{Doms, Origin, Site};
 
-// How many types there are.
-fn type_count(t: &[u64; 1544]) -> usize
-    ensures { result ≡ count_of t.now }
+// Whether the rows have the same doms.
+fn same_doms(d: Row, e: Row) -> bool
+    ensures { result ≡ same_list eqb (below (has d) 201) (below (has e) 201) }
 {
-    catalogue::count_in(t).min(64) as usize
+    Doms::of(d).eq(Doms::of(e))
 }
 
-// Whether a making is an own one: it comes from no parent.
-fn is_own(t: &[u64; 1544], parents: u64) -> bool
-    ensures { result ≡ own_in t.now parents }
-{
-    let count = type_count(t);
-    count <= rows::next_type(parents, 0)
-}
-
-// The first parents are the classes of an own making, by their doms, which are below 201 (FORMAT 4.3); of an inherited one the types
-// that it comes from, by their places (FORMAT 4.4).
-fn end_of(t: &[u64; 1544], own: bool) -> usize
-    ensures { result ≡ end_of t.now own }
-{
-    if own {
-        return 201;
-    }
-    type_count(t)
-}
-
-// The next of them.
-fn next_first(own: bool, a: Origin, from: usize) -> usize
-    requires { from ≤ top_of own }
-    ensures { First (test_of own a.doms a.parents) (top_of own) from result }
-{
-    if own {
-        let doms = a.doms;
-        return rows::next(doms, from);
-    }
-    rows::next_type(a.parents, from)
-}
-
-// What stands before the word in a first parent, as a key: the class of no dom has nothing there.
-fn first_key(t: &[u64; 1544], own: bool, k: usize) -> u64
-    requires { k < top_of own }
-    ensures { result ≡ key_of t.now own k }
-{
-    if own {
-        if k == 0 {
-            return 65536;
-        }
-        return ((k - 1) * 256) as u64;
-    }
-    catalogue::key_at(t, k)
-}
-
-// Whether the first parents of two makings are the same. Two sets are walked in step, so that this is no loop over one of them.
-fn same_firsts(t: &[u64; 1544], a: Origin, b: Origin) -> bool
-    ensures { result ≡ same_list eqb (first_keys t.now a.doms a.parents) (first_keys t.now b.doms b.parents) }
-{
-    let p = is_own(t, a.parents);
-    let q = is_own(t, b.parents);
-    let m = end_of(t, p);
-    let n = end_of(t, q);
-    let mut i = next_first(p, a, 0);
-    let mut j = next_first(q, b, 0);
-    while i < m {
-        if n <= j {
-            return false;
-        }
-        if first_key(t, p, i) != first_key(t, q, j) {
-            return false;
-        }
-        i = next_first(p, a, i + 1);
-        j = next_first(q, b, j + 1);
-    }
-    n <= j
-}
-
-// Whether the type at a place is virtual.
-fn is_virtual(t: &[u64; 1544], place: usize) -> bool
+// Whether the class of a dom and r is P.r for the type P at a place: the dom is the word that P is named.
+fn is_class(t: &Catalogue, dom: u8, place: usize) -> bool
     requires { place < 64 }
-    ensures { result ≡ virtual_head (head_at t.now place) }
+    ensures { result ≡ class_of t.now dom place }
 {
-    catalogue::head_at(t, place) / 32 % 2 == 1
+    dom != 0 && t.keys[place] == (dom - 1) as u64 * 256
+}
+
+// Whether the classes of the doms are P.r for each of the types P in turn.
+fn same_classes(t: &Catalogue, doms: Row, types: u64) -> bool
+    ensures { result ≡ same_list (class_of t.now) (below (has doms) 201) (members types) }
+{
+    let mut places = bitsets::members(types);
+    for dom in Doms::of(doms) {
+        match places.next() {
+            Some(place) => {
+                if !is_class(t, dom, place) {
+                    return false;
+                }
+            }
+            None => return false,
+        }
+    }
+    places.next().is_none()
+}
+
+// Whether the first parents of two makings are the same: those of an own one, which comes from no parent, are the classes of its
+// doms (FORMAT 4.3), those of an inherited one P.r for each type P that it comes from (FORMAT 4.4).
+#[tactic(auto, unfolding(crate::specs::Same::same_firsts))]
+fn same_firsts(t: &Catalogue, a: Origin, b: Origin) -> bool
+    ensures { result ≡ same_firsts t.now a.doms a.parents b.doms b.parents }
+{
+    let types = bitsets::first(t.count as u64);
+    match (a.parents & types, b.parents & types) {
+        (0, 0) => same_doms(a.doms, b.doms),
+        (0, from) => same_classes(t, a.doms, from),
+        (from, 0) => same_classes(t, b.doms, from),
+        (p, q) => p == q,
+    }
 }
 
 // Whether the class of a word and a dom is declared and not virtual.
-fn is_real(t: &[u64; 1544], word: u8, dom: u8) -> bool
+#[tactic(auto, using(crate::specs::SameLaws::real_some, crate::specs::SameLaws::real_none))]
+fn is_real(t: &Catalogue, word: u8, dom: u8) -> bool
     requires { word < 255 }
     ensures { result ≡ real_at t.now word dom }
 {
-    match synth_classes::class_place(t, dom as usize, word) {
-        Some(place) => !is_virtual(t, place),
-        None => false,
-    }
+    synth_classes::class_place(t, dom as usize, word).is_some_and(|place| !t.is_virtual(place))
 }
 
 // Whether all classes are virtual (FORMAT 4.6).
-fn all_virtual(t: &[u64; 1544], doms: Row, word: u8) -> bool
+fn all_virtual(t: &Catalogue, doms: Row, word: u8) -> bool
     requires { word < 255 }
     ensures { result ≡ virtual_in t.now doms word }
 {
@@ -115,15 +81,16 @@ fn all_virtual(t: &[u64; 1544], doms: Row, word: u8) -> bool
 }
 
 // How many bits the marks of a class have.
-fn width_at(t: &[u64; 1544], place: usize) -> usize
+#[tactic(auto, unfolding(crate::specs::Same::width_at))]
+fn width_at(t: &Catalogue, place: usize) -> usize
     requires { place < 64 }
     ensures { (result ≡ width_at t.now place) × (result < 64) }
 {
-    (catalogue::tally_at(t, place) / 8 % 64) as usize
+    (t.tallies[place] / 8 % 64) as usize
 }
 
 // How many bits the marks of all classes have (FORMAT 4.7).
-fn marks_width(t: &[u64; 1544], doms: Row, word: u8) -> usize
+fn marks_width(t: &Catalogue, doms: Row, word: u8) -> usize
     requires { word < 255 }
     ensures { result ≡ length (bits_in t.now doms word) }
 {
@@ -137,7 +104,7 @@ fn marks_width(t: &[u64; 1544], doms: Row, word: u8) -> usize
 }
 
 // A bit of the marks of all classes, which stand in turn.
-fn mark_bit(t: &[u64; 1544], doms: Row, word: u8, i: usize) -> bool
+fn mark_bit(t: &Catalogue, doms: Row, word: u8, i: usize) -> bool
     requires { word < 255 }
     ensures { result ≡ get_or (bits_in t.now doms word) i false }
 {
@@ -146,7 +113,7 @@ fn mark_bit(t: &[u64; 1544], doms: Row, word: u8, i: usize) -> bool
         if let Some(place) = synth_classes::class_place(t, dom as usize, word) {
             let width = width_at(t, place);
             if left < width {
-                return bitsets::has(catalogue::marks_at(t, place), width - 1 - left);
+                return bitsets::has(t.marks[place], width - 1 - left);
             }
             left -= width;
         }
@@ -154,8 +121,9 @@ fn mark_bit(t: &[u64; 1544], doms: Row, word: u8, i: usize) -> bool
     false
 }
 
-// Whether the marks of two lists of classes are the same (FORMAT 4.7): no mark's bits begin with another's.
-fn same_marks(t: &[u64; 1544], word: u8, d: Row, e: Row) -> bool
+// Whether the marks of two lists of classes are the same (FORMAT 4.7): no mark's bits begin with another's. They are compared as
+// bits, and not as derived equality would, since two columns have them: how many a class has, and which.
+fn same_marks(t: &Catalogue, word: u8, d: Row, e: Row) -> bool
     requires { word < 255 }
     ensures { SameMarks t.now word d e result }
 {
@@ -172,18 +140,16 @@ fn same_marks(t: &[u64; 1544], word: u8, d: Row, e: Row) -> bool
 }
 
 // Whether both are virtual or neither is (FORMAT 4.6).
-fn same_virtual(t: &[u64; 1544], place: usize, word: u8, d: Row, e: Row) -> bool
+fn same_virtual(t: &Catalogue, place: usize, word: u8, d: Row, e: Row) -> bool
     requires { (place < 64) × (word < 255) }
     ensures { SameVirtual t.now place word d e result }
 {
-    if is_virtual(t, place) {
-        return all_virtual(t, d, word) == all_virtual(t, e, word);
-    }
-    true
+    !t.is_virtual(place) || all_virtual(t, d, word) == all_virtual(t, e, word)
 }
 
 // Most makings differ in their first parents, and then nothing else is looked up.
-pub fn is_same(t: &[u64; 1544], site: Site, a: Origin, b: Origin) -> bool
+#[tactic(auto, using(crate::specs::SameLaws::firsts_unlike, crate::specs::SameLaws::flags_unlike, crate::specs::SameLaws::marks_decide))]
+pub fn is_same(t: &Catalogue, site: Site, a: Origin, b: Origin) -> bool
     requires { (site.place < 64) × (site.word < 255) }
     ensures { SameMaking t.now site a b result }
 {

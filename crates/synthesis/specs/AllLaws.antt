@@ -13,11 +13,11 @@ use Rattle.definitions.specs.Comparisons.{same_name}
 use Rattle.definitions.specs.Packing.{row_bytes}
 use Rattle.definitions.specs.Synthesis.{listed_parents, interpret_type}
 use Rattle.definitions.specs.Map.{TypeMap, type_map_of}
-use Rattle.definitions.specs.Answer.{most_rows}
 use Rattle.rows.specs.RowLaws.{bit-none}
 use Rattle.ordering.specs.Lists.{tab, tab-step, elem, elem_at}
 use Rattle.ordering.specs.Reading.{type_at, Reads}
 use Rattle.ordering.specs.declared.Parents.{Parents}
+use Rattle.catalogue.specs.declared.Catalogue.{Catalogue}
 use Rattle.interpretation.specs.Emit.{emit}
 use Rattle.visit_laws.specs.Trail as visit
 use Rattle.visit_laws.specs.Trail.{Reached, seen_in, flags_of, got_from, play, play_all, nothing_played}
@@ -51,10 +51,10 @@ unseen r = record { count = r.count; items = r.items; fresh = r.fresh; seen = 0 
 pub same-trail : (p : Parents) (r : Trail) → TrailOf p r → TrailOf p (unseen r)
 same-trail p r w = record { count = w.count; below = w.below; once = w.once; ready = w.ready; whole = w.whole; reached = w.reached }
 
-pub same-played : (tb : List ℕ) (bs : List Bool) (ns : List ℕ) (p : Parents) (old : List ℕ) (r : Trail) (new : List ℕ) (n : ℕ) → AllPlayed tb bs ns p old (unseen r) new n → AllPlayed tb bs ns p old r new n
+pub same-played : (tb : Catalogue) (bs : List Bool) (ns : List ℕ) (p : Parents) (old : List ℕ) (r : Trail) (new : List ℕ) (n : ℕ) → AllPlayed tb bs ns p old (unseen r) new n → AllPlayed tb bs ns p old r new n
 same-played tb bs ns p old r new n g = record { emits = g.emits }
 
-module _ (tb : List ℕ) (bs : List Bool) (ns : List ℕ) (p : Parents) (old : List ℕ) (r : Trail) where
+module _ (tb : Catalogue) (bs : List Bool) (ns : List ℕ) (p : Parents) (old : List ℕ) (r : Trail) where
   pub played-none : (st : List ℕ) → PlayedTo tb bs ns p old r 0 st old (record { ok = 0; rows = 0 })
   unfolding emitting.emit play_all
   played-none st = record { going = λ s z. record { emits = refl; well = λ a l. bit-none a }; stored = λ s h j l. absurd (omega arith) }
@@ -130,12 +130,4 @@ module _ (tb : List ℕ) (bs : List Bool) (ns : List ℕ) (p : Parents) (old : L
             omega (arith, f, ap (λ (x : emitting.State). x.1) e, emitting.emit-most row_bytes 256 (old, 0) (play_all m nothing_played (tab (reached_at p m r) i)).rows (omega arith)) in
             ap (λ (n : ℕ). (b, n)) k
             ∙ full-stays m (reached_at p m r) i r.count b l (ap (λ (n : ℕ). (b, n)) (sym k) ∙ e);
-      }
-
-  pub played-all : (i : ℕ) (st b : List ℕ) (d : Played) → i ≡ r.count → PlayedTo tb bs ns p old r i st b d → AllPlayed tb bs ns p old r b d.rows
-  played-all i st b d e g =
-      record {
-        emits = λ s z.
-            (g.going s z).emits
-            ∙ ap (λ (n : ℕ). emit most_rows (old, 0) (play_all (type_map_of s) nothing_played (tab (reached_at p (type_map_of s) r) n)).rows) e;
       }

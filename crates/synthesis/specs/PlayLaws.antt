@@ -2,7 +2,7 @@
 use Rattle.std.specs.Prelude.{Bool, true, ◌&&◌, List, [], ◌++◌, map, ◌≡◌, ℕ, ◌≤◌, ◌<◌, length, get_or}
 use Rattle.std.proofs.Common.{sym, ap, ap₂, ◌∙◌, arith}
 use Rattle.std.proofs.lemmas.List.{length-map}
-use Rattle.lists.specs.Lists.{all, null}
+use Rattle.lists.specs.Lists.{null}
 use Rattle.lists.specs.Appending.{map-map}
 use Rattle.definitions.specs.Records.{Name, Sheet}
 use Rattle.definitions.specs.Map.{TypeMap, LineType, line_type_of, line_map_of, type_map_of}
@@ -15,6 +15,7 @@ use Rattle.rows.specs.Rows.{has_bit}
 use Rattle.ordering.specs.Lists.{tab, tab-length}
 use Rattle.ordering.specs.Reading.{Parent, how_many, listed, type_at, listed-length}
 use Rattle.ordering.specs.declared.Parents.{Parents}
+use Rattle.catalogue.specs.declared.Catalogue.{Catalogue}
 use Rattle.annotations.specs.Reading.{info_of}
 use Rattle.dedup.specs.declared.Inherited.{Inherited}
 use Rattle.dedup.specs.Reading.{inherited_of}
@@ -24,7 +25,7 @@ use Rattle.own_associates.specs.declared.OwnAssociates.{OwnAssociates}
 use Rattle.order_parents.specs.SheetLaws.{line-count, line_at}
 use Rattle.interpretation.specs.Emit.{emit}
 use Rattle.synth_classes.specs.Made.{type_names}
-use Rattle.interpreting.specs.Annotations.{own_entries_in, TypeReady, interpreted_at, TypeDone}
+use Rattle.interpreting.specs.Annotations.{own_entries_in, interpreted_at, TypeDone}
 use Rattle.interpreting.specs.declared.Interpreted.{Interpreted}
 use Rattle.interpreting.specs.OwnLaws.{own-entries}
 use Rattle.handing.specs.Handing.{names_of, handed_to, StoredParents, Ready, Gathered, KeepsIt}
@@ -102,26 +103,14 @@ interpreted-type s T l o h got w r =
 
 -- ---- one type
 
-pub flagged-by : (p : Parents) (t fresh ok : ℕ) (f : Flags) → FlagsOf p t fresh ok f → Flagged p t f
-flagged-by p t fresh ok f g = record { whole = g.whole ∙ sym (ap (all (λ (b : Bool). b)) g.bits) }
-
-module _ (tb : List ℕ) (bs : List Bool) (ns : List ℕ) (p : Parents) (st b : List ℕ) (t : ℕ) (u : Turn tb bs ns p st b t) where
-  pub turn-ready : Ready p bs ns st t 255
-  turn-ready = record { sheet = u.sheet; held = u.so.held; low = u.low; room = u.room.store; most = u.room.most; stored = u.stored }
-
+module _ (tb : Catalogue) (bs : List Bool) (ns : List ℕ) (p : Parents) (st b : List ℕ) (t : ℕ) (u : Turn tb bs ns p st b t) where
   pub turn_below : ParentsBelow p t
   turn_below = parents-below u.sheet bs ns p u.so.held t u.low
-
-  pub turn_low : t < 64
-  turn_low = omega (arith, u.low, u.so.held.reads.most)
 
   pub turn-fits : OwnFit bs (get_or ns t 0)
   turn-fits = own-fits u.sheet bs ns p u.so.held t u.low
 
   module _ (f : Flags) (after : List ℕ) (got : Inherited) (v : Receives p bs ns st t f after got) (own : OwnAssociates) (w : OwnOf bs (get_or ns t 0) own) where
-    pub type-ready : TypeReady t own got most_rows b
-    type-ready = record { on_ground = record { place = turn_low; slice = u.room.slice; few = omega arith }; own = w.all; inherited = v.good }
-
     pub plays : (fresh ok rows : ℕ) (told : Interpreted) (b' : List ℕ) (ok' : ℕ) → FlagsOf p t fresh ok f → TypeDone tb t own got most_rows rows b told b'
         → WithOk ok t (f.all && told.clean) ok' → Plays tb bs ns p st b (record { place = t; fresh = fresh; ok = ok; rows = rows }) after b' (record { ok = ok'; rows = told.rows })
     plays fresh ok rows told b' ok' fl e k =

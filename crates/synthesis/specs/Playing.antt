@@ -9,6 +9,7 @@ use Rattle.rows.specs.Rows.{has_bit}
 use Rattle.ordering.specs.Lists.{tab}
 use Rattle.ordering.specs.Reading.{how_many, type_at}
 use Rattle.ordering.specs.declared.Parents.{Parents}
+use Rattle.catalogue.specs.declared.Catalogue.{Catalogue}
 use Rattle.dedup.specs.declared.Inherited.{Inherited}
 use Rattle.dedup.specs.Reading.{inherited_of, Good}
 use Rattle.held_map.specs.HeldMap.{HeldMap}
@@ -44,7 +45,7 @@ pub record Room (p : Parents) (st b : List ℕ) : Type 0 where
   pub slice : most_row_bytes ≤ length b
 
 -- type t can be played: its parents were
-pub record Turn (tb : List ℕ) (bs : List Bool) (ns : List ℕ) (p : Parents) (st b : List ℕ) (t : ℕ) : Type 0 where
+pub record Turn (tb : Catalogue) (bs : List Bool) (ns : List ℕ) (p : Parents) (st b : List ℕ) (t : ℕ) : Type 0 where
   pub sheet : Sheet
   pub so : Synthesizes sheet tb bs ns p
   pub low : t < p.count
@@ -52,7 +53,7 @@ pub record Turn (tb : List ℕ) (bs : List Bool) (ns : List ℕ) (p : Parents) (
   pub stored : StoredParents p (type_map_of sheet) st t 255
 
 -- r is what was known, and the type was played
-pub record Plays (tb : List ℕ) (bs : List Bool) (ns : List ℕ) (p : Parents) (st b : List ℕ) (v : Visit) (st' b' : List ℕ) (r : Played) : Type 0 where
+pub record Plays (tb : Catalogue) (bs : List Bool) (ns : List ℕ) (p : Parents) (st b : List ℕ) (v : Visit) (st' b' : List ℕ) (r : Played) : Type 0 where
   pub going : (s : Sheet) → Synthesizes s tb bs ns p → StoredParents p (type_map_of s) st v.place 255
       → (before : List Reached) (old : List ℕ) → Going (type_map_of s) p before old b v.ok v.rows → seen_in before (type_at (type_map_of s) v.place).name ≡ false
       → Going (type_map_of s) p (before ++ (reached_at (type_map_of s) p v.place v.fresh ∷ [])) old b' r.ok r.rows
@@ -61,22 +62,22 @@ pub record Plays (tb : List ℕ) (bs : List Bool) (ns : List ℕ) (p : Parents) 
   pub long : length st' ≡ length st
 
 -- all types can be played, in the order of the trail
-pub record AllReady (tb : List ℕ) (bs : List Bool) (ns : List ℕ) (p : Parents) (st b : List ℕ) (r : Trail) : Type 0 where
+pub record AllReady (tb : Catalogue) (bs : List Bool) (ns : List ℕ) (p : Parents) (st b : List ℕ) (r : Trail) : Type 0 where
   pub sheet : Sheet
   pub so : Synthesizes sheet tb bs ns p
   pub trail : TrailOf p r
   pub room : Room p st b
 
 -- likewise in any store for 64 types
-pub record ReadyIn (tb : List ℕ) (bs : List Bool) (ns : List ℕ) (p : Parents) (b : List ℕ) (r : Trail) : Type 0 where
+pub record ReadyIn (tb : Catalogue) (bs : List Bool) (ns : List ℕ) (p : Parents) (b : List ℕ) (r : Trail) : Type 0 where
   pub ready : (st : List ℕ) → length st ≡ 102464 → AllReady tb bs ns p st b r
 
 -- the first i types of the trail were played
-pub record PlayedTo (tb : List ℕ) (bs : List Bool) (ns : List ℕ) (p : Parents) (old : List ℕ) (r : Trail) (i : ℕ) (st b : List ℕ) (d : Played) : Type 0 where
+pub record PlayedTo (tb : Catalogue) (bs : List Bool) (ns : List ℕ) (p : Parents) (old : List ℕ) (r : Trail) (i : ℕ) (st b : List ℕ) (d : Played) : Type 0 where
   pub going : (s : Sheet) → Synthesizes s tb bs ns p → Going (type_map_of s) p (tab (trails.reached_at p (type_map_of s) r) i) old b d.ok d.rows
   pub stored : (s : Sheet) → HeldMap s bs ns p → (j : ℕ) → j < i → Stored (type_map_of s) st (trails.item_at r j)
 
 -- the rows of all types are written
-pub record AllPlayed (tb : List ℕ) (bs : List Bool) (ns : List ℕ) (p : Parents) (old : List ℕ) (r : Trail) (new : List ℕ) (n : ℕ) : Type 0 where
+pub record AllPlayed (tb : Catalogue) (bs : List Bool) (ns : List ℕ) (p : Parents) (old : List ℕ) (r : Trail) (new : List ℕ) (n : ℕ) : Type 0 where
   pub emits : (s : Sheet) → Synthesizes s tb bs ns p
       → (new, n) ≡ emit most_rows (old, 0) (play_all (type_map_of s) nothing_played (tab (trails.reached_at p (type_map_of s) r) r.count)).rows

@@ -9,13 +9,14 @@ use Rattle.definitions.specs.Packing.{name_bytes, row_bytes}
 use Rattle.definitions.specs.Synthesis.{synthesis}
 use Rattle.definitions.specs.Answer.{most_rows, most_row_bytes, overwrite}
 use Rattle.ordering.specs.declared.Parents.{Parents}
+use Rattle.catalogue.specs.declared.Catalogue.{Catalogue}
 use Rattle.held_map.specs.HeldMap.{HeldMap}
 use Rattle.synth_classes.specs.Known.{Known}
 use Rattle.emitting.specs.Emitting as emitting
 use Rattle.emitting.specs.Emitting.{State}
 
 -- the map of a sheet, with its catalogue
-pub record Synthesizes (s : Sheet) (tb : List ℕ) (bs : List Bool) (ns : List ℕ) (p : Parents) : Type 0 where
+pub record Synthesizes (s : Sheet) (tb : Catalogue) (bs : List Bool) (ns : List ℕ) (p : Parents) : Type 0 where
   pub held : HeldMap s bs ns p
   pub known : Known s tb
 
@@ -25,7 +26,7 @@ pub record Written (rs : List Row) (old new : List ℕ) (count : ℕ) (more : Bo
   pub counted : count ≡ min most_rows (length rs)
   pub rest : more ≡ ltb most_rows (length rs)
 
-pub record Synthesized (tb : List ℕ) (bs : List Bool) (ns : List ℕ) (p : Parents) (old new : List ℕ) (count : ℕ) (more : Bool) : Type 0 where
+pub record Synthesized (tb : Catalogue) (bs : List Bool) (ns : List ℕ) (p : Parents) (old new : List ℕ) (count : ℕ) (more : Bool) : Type 0 where
   pub written : (s : Sheet) → Synthesizes s tb bs ns p → Written (synthesis (type_map_of s)).rows old new count more
 
 -- ---- the rows, all at once

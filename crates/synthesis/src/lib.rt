@@ -7,22 +7,23 @@ ghost use Rattle.bits.specs.Reading.{Addressable};
 ghost use Rattle.definitions.specs.Bits.{bits_of};
 ghost use Rattle.definitions.specs.Records.{Sheet};
 ghost use Rattle.definitions.specs.Answer.{most_row_bytes};
-ghost use Rattle.order_table.specs.Form.{form_of};
 ghost use Rattle.handing.specs.Handing.{Ready};
 ghost use Rattle.synthesis.specs.Playing.{Flagged, Receives, Turn, Plays, AllReady, ReadyIn, AllPlayed};
 ghost use Rattle.synthesis.specs.Synthesized.{Synthesizes, Synthesized};
 
+use catalogue::Catalogue;
 use dedup::Inherited;
 use emitting::Report;
 use hearing::Flags;
+use ordering::Parents;
 use visiting::Trail;
 
 // The tables of a map, lent: the sheet, its catalogue, its order, and where the annotations of each type stand in the sheet.
 #[derive(Clone, Copy)]
 struct Tables<'a> {
     sheet: &'a [u8],
-    catalogue: &'a [u64; 1544],
-    order: &'a [u64; 577],
+    catalogue: &'a Catalogue,
+    order: &'a Parents,
     notes: &'a [u64; 64],
 }
 
@@ -46,9 +47,9 @@ pub struct Visit {
 // where no call failed.
 fn receive(m: Tables, store: &mut [u64], t: usize, flags: Flags) -> Inherited
     requires addressable { Addressable m.sheet.now }
-    requires ready { Ready (form_of m.order.now) (bits_of m.sheet.now) m.notes.now store.old t 255 }
-    requires flagged { Flagged (form_of m.order.now) t flags }
-    ensures { Receives (form_of m.entry.order.now) (bits_of m.entry.sheet.now) m.entry.notes.now store.old t flags store.new result }
+    requires ready { Ready m.order.now (bits_of m.sheet.now) m.notes.now store.old t 255 }
+    requires flagged { Flagged m.order.now t flags }
+    ensures { Receives m.entry.order.now (bits_of m.entry.sheet.now) m.entry.notes.now store.old t flags store.new result }
 {
     if flags.all {
         return handing::keep_inherited(m.sheet, m.order, m.notes, store, t);
@@ -61,8 +62,8 @@ fn receive(m: Tables, store: &mut [u64], t: usize, flags: Flags) -> Inherited
 // A type takes what its parents hand on and is interpreted; its parents were, in the loop that calls this and not by recursion.
 fn inherit_annotations(m: Tables, store: &mut [u64], diagnosis: &mut [u8], v: Visit) -> Played
     requires addressable { Addressable m.sheet.now }
-    requires turn { Turn m.catalogue.now (bits_of m.sheet.now) m.notes.now (form_of m.order.now) store.old diagnosis.old v.place }
-    ensures { Plays m.entry.catalogue.now (bits_of m.entry.sheet.now) m.entry.notes.now (form_of m.entry.order.now) store.old diagnosis.old v store.new diagnosis.new result }
+    requires turn { Turn m.catalogue.now (bits_of m.sheet.now) m.notes.now m.order.now store.old diagnosis.old v.place }
+    ensures { Plays m.entry.catalogue.now (bits_of m.entry.sheet.now) m.entry.notes.now m.entry.order.now store.old diagnosis.old v store.new diagnosis.new result }
 {
     let place = v.place;
     let flags = hearing::flags_of(m.order, place, v.fresh, v.ok);
@@ -88,8 +89,8 @@ fn inherit_annotations(m: Tables, store: &mut [u64], diagnosis: &mut [u8], v: Vi
 // is written, so that no type more is played.
 fn play_all(m: Tables, store: &mut [u64], diagnosis: &mut [u8], trail: Trail) -> usize
     requires addressable { Addressable m.sheet.now }
-    requires all_ready { AllReady m.catalogue.now (bits_of m.sheet.now) m.notes.now (form_of m.order.now) store.old diagnosis.old trail }
-    ensures { AllPlayed m.entry.catalogue.now (bits_of m.entry.sheet.now) m.entry.notes.now (form_of m.entry.order.now) diagnosis.old trail diagnosis.new result }
+    requires all_ready { AllReady m.catalogue.now (bits_of m.sheet.now) m.notes.now m.order.now store.old diagnosis.old trail }
+    ensures { AllPlayed m.entry.catalogue.now (bits_of m.entry.sheet.now) m.entry.notes.now m.entry.order.now diagnosis.old trail diagnosis.new result }
 {
     let count = trail.count;
     let items = trail.items;
@@ -113,8 +114,8 @@ fn play_all(m: Tables, store: &mut [u64], diagnosis: &mut [u8], trail: Trail) ->
 // The same in a store of 1,601 numbers a type, for 64 types.
 fn play(m: Tables, diagnosis: &mut [u8], trail: Trail) -> usize
     requires addressable { Addressable m.sheet.now }
-    requires ready_in { ReadyIn m.catalogue.now (bits_of m.sheet.now) m.notes.now (form_of m.order.now) diagnosis.old trail }
-    ensures { AllPlayed m.entry.catalogue.now (bits_of m.entry.sheet.now) m.entry.notes.now (form_of m.entry.order.now) diagnosis.old trail diagnosis.new result }
+    requires ready_in { ReadyIn m.catalogue.now (bits_of m.sheet.now) m.notes.now m.order.now diagnosis.old trail }
+    ensures { AllPlayed m.entry.catalogue.now (bits_of m.entry.sheet.now) m.entry.notes.now m.entry.order.now diagnosis.old trail diagnosis.new result }
 {
     let mut store = [0u64; 102464];
     play_all(m, &mut store, diagnosis, trail)
@@ -123,15 +124,15 @@ fn play(m: Tables, diagnosis: &mut [u8], trail: Trail) -> usize
 // The rows of refusal 9: at most ROWS are written, and no other byte changes (FORMAT 8.2).
 pub fn apply_associate_annotations(
     s: &[u8],
-    t: &[u64; 1544],
-    l: &[u64; 577],
+    t: &Catalogue,
+    l: &Parents,
     notes: &[u64; 64],
     diagnosis: &mut [u8],
 ) -> Report
     requires addressable { Addressable s.now }
-    requires synthesizes { (x : Sheet) × Synthesizes x t.now (bits_of s.now) notes.now (form_of l.now) }
+    requires synthesizes { (x : Sheet) × Synthesizes x t.now (bits_of s.now) notes.now l.now }
     requires most_row_bytes_in_bounds { most_row_bytes ≤ length diagnosis.old }
-    ensures { Synthesized t.now (bits_of s.now) notes.now (form_of l.now) diagnosis.old diagnosis.new result.rows result.more }
+    ensures { Synthesized t.now (bits_of s.now) notes.now l.now diagnosis.old diagnosis.new result.rows result.more }
 {
     let trail = visiting::trail_of(l);
     let tables = Tables {

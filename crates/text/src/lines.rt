@@ -75,9 +75,9 @@ impl<'a> Records<'a> {
         let word = self.word();
         let is_virtual = self.number();
         write!(f, "R {name}.{word} {is_virtual} ")?;
-        self.print_parents(f)?;
+        self.print_list(f, |records, f| records.print_parent(f))?;
         f.write_str(" ")?;
-        self.print_marks(f)?;
+        self.print_list(f, |records, f| records.print_mark(f))?;
         f.write_str("\n")
     }
 
@@ -90,45 +90,43 @@ impl<'a> Records<'a> {
         writeln!(f, "E {name} {is_virtual}{is_trait} {word}")
     }
 
-    // The parents with commas between them, behind their count.
-    fn print_parents<W: fmt::Write>(&mut self, f: &mut fmt::Formatter<W>) -> fmt::Result {
-        let count = self.number();
-        if count == 0 {
-            return f.write_str("-");
-        }
+    // So many of what stands next, with a text between them.
+    fn print_between<W: fmt::Write, F: Fn(&mut Self, &mut fmt::Formatter<W>) -> fmt::Result>(
+        &mut self,
+        f: &mut fmt::Formatter<W>,
+        count: usize,
+        between: &str,
+        print: F,
+    ) -> fmt::Result
+        requires { F.IsAlwaysCallable print }
+    {
         for i in 0..count {
             if 0 < i {
-                f.write_str(",")?;
+                f.write_str(between)?;
             }
-            self.print_parent(f)?;
+            print(self, f)?;
         }
         Ok(())
+    }
+
+    // A list behind its count, with commas between; `-` where it is empty.
+    fn print_list<W: fmt::Write, F: Fn(&mut Self, &mut fmt::Formatter<W>) -> fmt::Result>(
+        &mut self,
+        f: &mut fmt::Formatter<W>,
+        print: F,
+    ) -> fmt::Result
+        requires { F.IsAlwaysCallable print }
+    {
+        match self.number() {
+            0 => f.write_str("-"),
+            count => self.print_between(f, count, ",", print),
+        }
     }
 
     // A parent: the words of its name with dots between them, behind their count.
     fn print_parent<W: fmt::Write>(&mut self, f: &mut fmt::Formatter<W>) -> fmt::Result {
-        for i in 0..self.number() {
-            if 0 < i {
-                f.write_str(".")?;
-            }
-            self.word().fmt(f)?;
-        }
-        Ok(())
-    }
-
-    // The marks with commas between them, behind their count.
-    fn print_marks<W: fmt::Write>(&mut self, f: &mut fmt::Formatter<W>) -> fmt::Result {
         let count = self.number();
-        if count == 0 {
-            return f.write_str("-");
-        }
-        for i in 0..count {
-            if 0 < i {
-                f.write_str(",")?;
-            }
-            self.print_mark(f)?;
-        }
-        Ok(())
+        self.print_between(f, count, ".", |records, f| records.word().fmt(f))
     }
 
     // `makelist`, or `derive:` and the tag.

@@ -5,6 +5,7 @@ use Rattle.std.proofs.Common.{sym, ap, ◌∙◌, subst, arith, ext_get_or, get_
 use Rattle.std.specs.Int.Bits.{bit_or}
 use Rattle.rows.specs.Rows.{has_bit}
 use Rattle.rows.specs.RowLaws.{bit-none, bit-one, bit-either}
+use Rattle.bitsets.specs.BitLaws.{bit-more}
 use Rattle.ordering.specs.Lists.{tab, tab-length, tab-at, elem, map-tab}
 use Rattle.ordering.specs.declared.Parents.{Parents}
 use Rattle.visiting.specs.Walk.{Stop, spots, walk}
@@ -32,15 +33,18 @@ pub record NothingHeld (r : Trail) : Type 0 where
   pub fresh : length r.fresh ≡ 64
   pub seen : r.seen ≡ 0
 
-pub marked-no : (flags i seen t : ℕ) → has_bit seen t ≡ true → Marked flags i seen t flags
-marked-no flags i seen t e = record { bits = λ j. sym (ap (λ (b : Bool). has_bit flags j || (eqb i j && not b)) e ∙ rw (and-false, or-false)) }
+-- what a set has with one number more
+pub ruleset one_more = (bit-more)
+
+pub marked_no : (flags i seen t : ℕ) → has_bit seen t ≡ true → Marked flags i seen t flags
+marked_no flags i seen t e = record { bits = λ j. sym (ap (λ (b : Bool). has_bit flags j || (eqb i j && not b)) e ∙ rw (and-false, or-false)) }
 
 -- the bit that the code sets
 byte-shifted : (i : ℕ) → i < 8 → 1 * 2 ^ i % 2 ^ 8 ≡ 2 ^ i
 byte-shifted i h = lib.Pow.shl_exact {a = 1} 1 i 8 (omega arith) (omega arith) ∙ native.Mathlib.Nat.one-mul (2 ^ i)
 
-pub marked-yes : (flags i seen t : ℕ) → i < 8 → has_bit seen t ≡ false → Marked flags i seen t (bit_or flags (1 * 2 ^ i % 2 ^ 8))
-marked-yes flags i seen t h e =
+pub marked_yes : (flags i seen t : ℕ) → i < 8 → has_bit seen t ≡ false → Marked flags i seen t (bit_or flags (1 * 2 ^ i % 2 ^ 8))
+marked_yes flags i seen t h e =
     record {
       bits = λ j.
           bit-either flags (1 * 2 ^ i % 2 ^ 8) j

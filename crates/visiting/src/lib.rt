@@ -3,9 +3,10 @@
 #![tactic(auto)]
 
 ghost use Rattle.std.specs.Prelude.{◌≡◌, ◌<◌, ◌≤◌};
-ghost use Rattle.order_table.specs.Form.{form_of};
 ghost use Rattle.visiting.specs.Trails.{Orderly, TrailOf};
 ghost use Rattle.visiting.specs.Holding.{Marked, Pushed, Held, ReachedFrom, NothingHeld};
+
+use ordering::Parents;
 
 // The places of the types reached, in order; for each, bit i is set if its listing i was the first to
 // reach that parent; and the places seen, as bits. Arrays beside their count: fixed memory, and no heap.
@@ -17,7 +18,35 @@ pub struct Trail {
     pub seen: u64,
 }
 
+impl Trail {
+    // No type is reached yet.
+    fn empty() -> Trail
+        ensures { NothingHeld result }
+    {
+        Trail {
+            count: 0,
+            items: [0; 64],
+            fresh: [0; 64],
+            seen: 0,
+        }
+    }
+
+    // One place more.
+    #[tactic(auto, using(crate::specs::Holding::one_more))]
+    fn push(&mut self, t: usize, flags: u8)
+        requires { (self.old.count < 64) × (t < 64) }
+        ensures { Pushed self.old t flags self.new }
+    {
+        let n = self.count;
+        self.items[n] = t as u8;
+        self.fresh[n] = flags;
+        self.count = n + 1;
+        self.seen = bitsets::with_one(self.seen, t);
+    }
+}
+
 // The flags of the listings so far, with bit i set if place t is not seen yet.
+#[tactic(auto, using(crate::specs::Holding::marked_no, crate::specs::Holding::marked_yes))]
 fn marked(flags: u8, i: usize, seen: u64, t: usize) -> u8
     requires { (i < 8) × (t < 64) }
     ensures { Marked flags i seen t result }
@@ -25,74 +54,36 @@ fn marked(flags: u8, i: usize, seen: u64, t: usize) -> u8
     if bitsets::has(seen, t) {
         return flags;
     }
-    let one: u8 = 1;
-    let bit = one << i;
-    flags | bit
+    flags | (1u8 << i)
 }
 
-// The trail with one place more.
-fn pushed(s: Trail, t: usize, flags: u8) -> Trail
-    requires { (s.count < 64) × (t < 64) }
-    ensures { Pushed s t flags result }
+// Tries type t. In an order the parents of t stand before it, so the place in the order falls at each call, and t is not
+// reached while its parents are tried.
+fn reach(l: &Parents, t: usize, trail: &mut Trail)
+    requires orderly { Orderly l.now }
+    requires t_bound { (t < l.now.count) × Held l.now trail.old }
+    ensures { ReachedFrom l.now t trail.old trail.new }
 {
-    let n = s.count;
-    let mut items = s.items;
-    let mut fresh = s.fresh;
-    items[n] = t as u8;
-    fresh[n] = flags;
-    Trail {
-        count: n + 1,
-        items,
-        fresh,
-        seen: bitsets::with_one(s.seen, t),
+    if bitsets::has(trail.seen, t) {
+        return;
     }
-}
-
-// The trail once type t was tried. In an order the parents of t stand before it, so the place in the
-// order falls at each call, and t is not reached while its parents are tried.
-fn reach(l: &[u64; 577], t: usize, s: Trail) -> Trail
-    requires orderly { Orderly (form_of l.now) }
-    requires t_bound { (t < (form_of l.now).count) × Held (form_of l.now) s }
-    ensures { ReachedFrom (form_of l.now) t s result }
-{
-    if bitsets::has(s.seen, t) {
-        return s;
-    }
-    let count = order_table::count_at(l, t);
-    let base = 8 * t;
-    let mut now = s;
     let mut flags: u8 = 0;
-    for i in 0..count {
-        let place = order_table::place_at(l, base + i);
-        flags = marked(flags, i, now.seen, place);
-        now = reach(l, place, now);
+    for i in 0..usize::from(l.counts[t]) {
+        let place = l.place(t, i);
+        flags = marked(flags, i, trail.seen, place);
+        reach(l, place, trail);
     }
-    pushed(now, t, flags)
-}
-
-// No type is reached yet.
-fn no_trail() -> Trail
-    ensures { NothingHeld result }
-{
-    let items = [0u8; 64];
-    let fresh = [0u8; 64];
-    Trail {
-        count: 0,
-        items,
-        fresh,
-        seen: 0,
-    }
+    trail.push(t, flags);
 }
 
 // The types that are reached when all are tried in name order.
-pub fn trail_of(l: &[u64; 577]) -> Trail
-    requires { Orderly (form_of l.now) }
-    ensures { TrailOf (form_of l.now) result }
+pub fn trail_of(l: &Parents) -> Trail
+    requires { Orderly l.now }
+    ensures { TrailOf l.now result }
 {
-    let types = order_table::types_in(l);
-    let mut s = no_trail();
-    for t in 0..types {
-        s = reach(l, t, s);
+    let mut trail = Trail::empty();
+    for t in 0..l.count {
+        reach(l, t, &mut trail);
     }
-    s
+    trail
 }

@@ -1,6 +1,6 @@
 use Rattle.definitions.specs.Answer.{order}
 use Rattle.access.specs.EndLaws.{unordered-so, ordered-so}
-use Rattle.access.specs.TableLaws.{drafts, sketch, found-is, placed-in, bits_are}
+use Rattle.access.specs.TableLaws.{drafts, sketch, found-is, bits_are}
 use Rattle.access.proofs.end_order.Goals as goal
 
 pub no_order-requires-clause-drafts : goal.no_order-requires-clause-drafts
@@ -14,9 +14,6 @@ returns-in_default c =
       due = λ bytes w.
           unordered-so order _ _ _ _ _ _ (sketch _ _ _ _ _ w _ _ _ _ o.1) _ _ _ n.result (found-is _ _ _ _ _ w _ _ _ _ o.1) n.ensures;
     }
-
-pub write_order-requires : goal.write_order-requires
-write_order-requires c = placed-in _ _ _ _ _ c.requires.decoded.whole _ _ _ c.in-Some.ensures
 
 pub returns : goal.returns
 returns c =

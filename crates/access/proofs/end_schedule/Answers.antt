@@ -1,12 +1,10 @@
 use mathlib.Core.Bool.{true}
 use mathlib.Core.Path.{sym, ◌∙◌}
-use native.Mathlib.Omega.{arith}
 use Rattle.definitions.specs.Answer.{schedule}
 use Rattle.item_refusal.specs.DecideLaws.{decides, refused-lost}
 use Rattle.access.specs.EndLaws.{unordered-so, scheduled-so}
 use Rattle.access.specs.TableLaws.{readable, drafts, sketch, found-is}
 use Rattle.access.specs.ScheduleLaws.{fillable, filled-for, refused-is, orderly}
-use borrow.Author.Rules.{rules}
 use Rattle.access.proofs.end_schedule.Goals as goal
 
 pub no_order-requires-clause-drafts : goal.no_order-requires-clause-drafts
@@ -21,29 +19,23 @@ returns-in_default c =
           unordered-so schedule _ _ _ _ _ _ (sketch _ _ _ _ _ w _ _ _ _ o.1) _ _ _ n.result (found-is _ _ _ _ _ w _ _ _ _ o.1) n.ensures;
     }
 
-pub fill-lost-requires : goal.fill-lost-requires
-fill-lost-requires c =
-    let w = c.requires.whole in
-    let o = c.in-Some.ensures in
-    let k = c.known-k in
-    record { addressable = omega (arith, w.holds.short); fillable = fillable _ _ _ _ _ w _ _ _ o k.result k.ensures }
+pub fill-lost-requires-clause-fillable : goal.fill-lost-requires-clause-fillable
+fill-lost-requires-clause-fillable c = let k = c.known-k in fillable _ _ _ _ _ c.requires.whole _ _ _ c.in-Some.ensures k.result k.ensures
 
-pub type_refused-requires : goal.type_refused-requires
-type_refused-requires c =
-    let s = c in
-    let w = s.requires.whole in
-    let o = c.in-Some.ensures in
+pub type_refused-requires-clause-filled_for : goal.type_refused-requires-clause-filled_for
+type_refused-requires-clause-filled_for c =
+    let w = c.requires.whole in
     let k = c.known-k in
     let g = c.fill-lost in
-    let x = decides _ g.result true (refused-lost _ g.result c.if-lost.true) in
-    record { filled_for = (w.s, filled-for _ _ _ _ _ w _ _ _ o k.result k.ensures _ g.result true g.ensures x); most_row_bytes_in_bounds = s.requires.most_row_bytes_in_bounds }
+    let x = decides g.new.t g.result true (refused-lost g.new.t g.result c.if-lost.true) in
+    (w.s, filled-for _ _ _ _ _ w _ _ _ c.in-Some.ensures k.result k.ensures _ g.result true g.ensures x)
 
 pub returns-then-lost : goal.returns-then-lost
 returns-then-lost c =
     let o = c.in-Some.ensures in
     let k = c.known-k in
     let g = c.fill-lost in
-    let x = decides _ g.result true (refused-lost _ g.result c.if-lost.true) in
+    let x = decides g.new.t g.result true (refused-lost g.new.t g.result c.if-lost.true) in
     let y = c.type_refused in
     record {
       due = λ w.
@@ -51,15 +43,13 @@ returns-then-lost c =
           (sym (refused-is _ _ _ _ _ w _ _ _ o k.result k.ensures _ g.result true g.ensures x)) _;
     }
 
-pub type_refused-requires-then-is_refused : goal.type_refused-requires-then-is_refused
-type_refused-requires-then-is_refused c =
-    let s = c in
-    let w = s.requires.whole in
-    let o = c.in-Some.ensures in
+pub type_refused-requires-then-is_refused-clause-filled_for : goal.type_refused-requires-then-is_refused-clause-filled_for
+type_refused-requires-then-is_refused-clause-filled_for c =
+    let w = c.requires.whole in
     let k = c.known-k in
     let g = c.fill-lost in
     let x = c.is_refused in
-    record { filled_for = (w.s, filled-for _ _ _ _ _ w _ _ _ o k.result k.ensures _ g.result x.result g.ensures x.ensures); most_row_bytes_in_bounds = s.requires.most_row_bytes_in_bounds }
+    (w.s, filled-for _ _ _ _ _ w _ _ _ c.in-Some.ensures k.result k.ensures _ g.result x.result g.ensures x.ensures)
 
 pub returns-then-is_refused : goal.returns-then-is_refused
 returns-then-is_refused c =
@@ -77,11 +67,10 @@ returns-then-is_refused c =
 pub write_schedule-requires : goal.write_schedule-requires
 write_schedule-requires c =
     let w = c.requires.whole in
-    let o = c.in-Some.ensures in
     let k = c.known-k in
     let g = c.fill-lost in
     let x = c.is_refused in
-    record { sheet = w.s; orderly = orderly _ _ _ _ _ w _ _ _ o k.result k.ensures _ g.result x.result g.ensures x.ensures c.if-is_refused.false }
+    record { sheet = w.s; orderly = orderly _ _ _ _ _ w _ _ _ c.in-Some.ensures k.result k.ensures _ g.result x.result g.ensures x.ensures c.if-is_refused.false }
 
 pub returns : goal.returns
 returns c =

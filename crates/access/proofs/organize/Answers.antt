@@ -1,22 +1,18 @@
-use mathlib.Core.Path.{refl, ◌∙◌}
+use mathlib.Core.Path.{refl}
 use Rattle.access.specs.TableLaws.{keys-fit, narrow, prepared, asked}
-use borrow.Author.Rules.{rules}
 use Rattle.access.proofs.organize.Goals as goal
 
 pub put_names-words-requires : goal.put_names-words-requires
-put_names-words-requires c =
-    let w = c.requires.decoded.whole in record { t_len = w.extensions.long; keys_fit = keys-fit _ _ _ _ _ w; width_bound = narrow _ _ _ _ _ w }
+put_names-words-requires c = let w = c.requires.decoded.whole in record { keys_fit = keys-fit _ _ _ _ _ w; width_bound = narrow _ _ _ _ _ w }
 
 pub put_parents-parents-requires : goal.put_parents-parents-requires
-put_parents-parents-requires c =
-    let w = c.requires.decoded.whole in record { t_len = c.put_names-words.ensures.long ∙ w.extensions.long; prepared = prepared _ _ _ _ _ w }
+put_parents-parents-requires c = record { prepared = prepared _ _ _ _ _ c.requires.decoded.whole }
 
 pub organize_type_map-requires : goal.organize_type_map-requires
 organize_type_map-requires c =
-    let s = c in
     let n = c.put_names-words in
     let p = c.put_parents-parents in
-    record { order_len = s.requires.places_len; asked = asked _ _ _ _ _ s.requires.decoded.whole _ _ n.result p.result n.ensures p.ensures }
+    asked _ _ _ _ _ c.requires.decoded.whole _ _ n.result p.result n.ensures p.ensures
 
 pub returns-then-not-organize_type_map : goal.returns-then-not-organize_type_map
 returns-then-not-organize_type_map c = (

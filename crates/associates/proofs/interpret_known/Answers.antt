@@ -19,4 +19,4 @@ pub returns : goal.returns
 returns c =
     let a = c.args in
     step-makes a.t.now a.site a.origin a.limit (reached a.s a.made.now) a.buf.now c.requires.ready.word c.requires.word_value.0 c.requires.word_value.1 _
-    c.in_default.ensures _ _ refl c.is_duplicate.ensures c.if-is_duplicate.false c.put_making.ensures
+    c.in_default.ensures _ _ refl c.is_duplicate.ensures c.if-is_duplicate.false c.push.ensures

@@ -1,7 +1,6 @@
 use Rattle.std.proofs.Common.{refl, sym, ap, ◌≡◌, ◌∙◌, arith}
 use Rattle.emitting.specs.Emitting.{State, emit-append, emit-most}
 use Rattle.emitting.specs.Emitting as emitting
-use Rattle.order_table.specs.Form.{form_of}
 use Rattle.diagnosis.specs.Emit.{emit}
 use Rattle.diagnosis.specs.Walk.{before, before-yes, before-no, before-all, at-start}
 use Rattle.diagnosis.proofs.generate_type_no_parent_errors.Goals as goal
@@ -13,7 +12,7 @@ loop-t-init c = refl
 
 pub find_cycles_or_bad_types-total-requires-clause-at : goal.find_cycles_or_bad_types-total-requires-clause-at
 find_cycles_or_bad_types-total-requires-clause-at c =
-    at-start (form_of c.args.l.now) c.args.placed c.requires.stage c.loop-t.t (omega (arith, c.types_in-t-end.ensures)) (sym c.has.ensures ∙ c.if-not-has.true)
+    at-start c.args.l.now c.args.placed c.requires.stage c.loop-t.t (omega arith) (sym c.has.ensures ∙ c.if-not-has.true)
 
 pub find_cycles_or_bad_types-total-requires-clause-limit_in_bounds : goal.find_cycles_or_bad_types-total-requires-clause-limit_in_bounds
 find_cycles_or_bad_types-total-requires-clause-limit_in_bounds c =
@@ -24,7 +23,7 @@ pub loop-t-preserved : goal.loop-t-preserved
 loop-t-preserved c =
     let a = c.args in
     let l = c.loop-t in
-    let p = form_of a.l.now in
+    let p = a.l.now in
     elim c.if-not-has.branch [
       | then-not-has w ↦
           rw (w.buf-is, w.total-is, before-yes p a.placed l.t (sym c.has.ensures ∙ w.if-not-has.true), emit-append, ← l.invariant)
@@ -35,7 +34,7 @@ loop-t-preserved c =
 pub returns : goal.returns
 returns c =
     let a = c.args in
-    let p = form_of a.l.now in
+    let p = a.l.now in
     let l = c.loop-t in
-    let e : l.t ≡ p.count = omega (arith, c.types_in-t-end.ensures) in
+    let e : l.t ≡ p.count = omega arith in
     l.invariant ∙ ap (emit a.limit (a.buf.now, 0)) (ap (before p a.placed) e ∙ before-all p a.placed c.requires.stage)

@@ -7,11 +7,10 @@ pub returns-then-self_stands : goal.returns-then-self_stands
 unfolding order_rows
 returns-then-self_stands c = rw (← c.self_stands.ensures, c.if-self_stands.true) c.self_errors.ensures
 
-pub generate_type_no_parent_errors-requires : goal.generate_type_no_parent_errors-requires
-generate_type_no_parent_errors-requires c =
-    let s = c in
+pub generate_type_no_parent_errors-requires-clause-stage : goal.generate_type_no_parent_errors-requires-clause-stage
+generate_type_no_parent_errors-requires-clause-stage c =
     let plain = plain-final _ (sym c.self_stands.ensures ∙ c.if-self_stands.false) in
-    record { stage = record { valid = s.requires.valid; plain = plain; places = c.place_all-placed.ensures.places plain }; limit_in_bounds = s.requires.limit_in_bounds }
+    record { valid = c.requires.valid; plain = plain; places = c.place_all-placed.ensures.places plain }
 
 pub returns : goal.returns
 unfolding order_rows

@@ -13,9 +13,9 @@ returns-in_err-name c =
     let l = c.loop in
     let a = c.args in
     let r = c.in_err-name.field-0.0 in
-    let bs = bits_of a.s.now in
+    let bs = bits_of a.s.bytes.now in
     rw (err_was _ r c.from_residual.ensures.1)
-    (sym (l.invariant.1 ∙ repeat-refused (of_names l.names) (name a.limit) _ (drop l.next.at bs) (fault_of r) (omega arith)
+    (sym (l.invariant.1 ∙ repeat-refused (of_names l.names) (name a.s.words) _ (drop l.next.at bs) (fault_of r) (omega arith)
     (sym c.read_name.ensures ∙ ap (of_parsed name_of bs) c.in_err-name.was)))
 
 pub loop-preserved : goal.loop-preserved
@@ -23,10 +23,10 @@ loop-preserved c =
     let l = c.loop in
     let a = c.args in
     let v = c.in_ok-name in
-    let bs = bits_of a.s.now in (
+    let bs = bits_of a.s.bytes.now in (
       omega (arith, c.push.ensures.1),
       l.invariant.1
-          ∙ repeat-next (of_names l.names) (name a.limit) a.n l.counter (drop l.next.at bs) (name_of v.name) (drop v.end.at bs) (omega arith)
+          ∙ repeat-next (of_names l.names) (name a.s.words) a.n l.counter (drop l.next.at bs) (name_of v.name) (drop v.end.at bs) (omega arith)
           (sym c.read_name.ensures ∙ ap (of_parsed name_of bs) v.was)
           ∙ rw c.push.ensures.0 refl,
     )
@@ -35,4 +35,4 @@ pub returns : goal.returns
 returns c =
     let l = c.loop in
     let a = c.args in
-    sym (l.invariant.1 ∙ repeat-none (of_names l.names) (name a.limit) _ (drop l.next.at (bits_of a.s.now)) (omega arith))
+    sym (l.invariant.1 ∙ repeat-none (of_names l.names) (name a.s.words) _ (drop l.next.at (bits_of a.s.bytes.now)) (omega arith))

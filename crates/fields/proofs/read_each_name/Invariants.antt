@@ -10,4 +10,4 @@ use Rattle.fields.proofs.read_each_name.Given as goal
 abbrev pub invariant-loop : goal.invariant-loop
 invariant-loop l =
     (l.names.count ≡ l.counter)
-    × (repeat (name l.limit) l.n (drop l.initial.next.at (bits_of l.s)) ≡ repeat_onto (of_names l.names) (name l.limit) (l.n - l.counter) (drop l.next.at (bits_of l.s)))
+    × (repeat (name l.s.words) l.n (drop l.initial.next.at (bits_of l.s.bytes.now)) ≡ repeat_onto (of_names l.names) (name l.s.words) (l.n - l.counter) (drop l.next.at (bits_of l.s.bytes.now)))

@@ -14,7 +14,7 @@ returns-in_err-n c = rw (err_was _ c.in_err-n.field-0.0 c.from_residual.ensures.
 pub read_each_name-requires : goal.read_each_name-requires
 read_each_name-requires c =
     let a = c.args in
-    let bs = bits_of a.s.now in
+    let bs = bits_of a.s.bytes.now in
     omega (arith, between_in 4 a.least a.most (drop a.c.at bs) c.in_ok-n.n _ (sym c.read_between.ensures ∙ ap (of_field bs) c.in_ok-n.was))
 
 pub returns : goal.returns

@@ -1,7 +1,6 @@
 use Rattle.definitions.specs.Bits.{bits_of}
-use Rattle.order_table.specs.Form.{form_of}
 use Rattle.handing.specs.Steps.{Gathering}
 use Rattle.handing.proofs.gather.Given as goal
 
 abbrev pub invariant-loop-i : goal.invariant-loop-i
-invariant-loop-i l = Gathering (form_of l.l) (bits_of l.s) l.notes l.store l.t l.flags l.i l.out
+invariant-loop-i l = Gathering l.l (bits_of l.s) l.notes l.store l.t l.flags l.i l.out

@@ -1,6 +1,5 @@
-use Rattle.order_table.specs.Form.{form_of}
 use Rattle.hearing.specs.Hearing.{FlagsTo}
 use Rattle.hearing.proofs.flags_of.Given as goal
 
 abbrev pub invariant-loop-i : goal.invariant-loop-i
-invariant-loop-i l = FlagsTo (form_of l.l) l.t l.fresh l.ok l.i l.flags
+invariant-loop-i l = FlagsTo l.l l.t l.fresh l.ok l.i l.flags

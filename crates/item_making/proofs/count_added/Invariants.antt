@@ -1,9 +1,6 @@
-use mathlib.Core.Path.{◌≡◌}
-use Prim.Native.Nat.{◌+◌}
-use Rattle.catalogue.specs.Layout.{extension_count_at}
-use Rattle.item_making.specs.Making.{members, total, Recorded}
+use Rattle.std.proofs.Common.{◌≡◌, ◌+◌, length}
+use Rattle.item_making.specs.Making.{Recorded, added}
 use Rattle.item_making.proofs.count_added.Given as goal
 
 abbrev pub invariant-loop-e : goal.invariant-loop-e
-invariant-loop-e l =
-    (goal.iterator-loop-e).can_next l.e-iterator × (goal.iterator-loop-e).is_finite l.e-iterator × (l.n + total (extension_count_at l.t) (members l.e-iterator.left) ≡ total (extension_count_at l.t) (members l.records)) × Recorded l.t l.e-iterator.left
+invariant-loop-e l = (l.n + length (added l.t l.e-iterator.left) ≡ length (added l.t l.records)) × Recorded l.t l.e-iterator.left

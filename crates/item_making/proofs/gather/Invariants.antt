@@ -1,6 +1,10 @@
-use Rattle.item_making.specs.MakingLaws.{GathersTo}
+use Rattle.std.proofs.Common.{◌≡◌, ◌+◌, ◌&&◌}
+use Rattle.definitions.specs.Bits.{odd}
+use Rattle.bitsets.specs.Bitsets.{members}
+use Rattle.item_making.specs.Making.{marks_in, all_virtual}
 use Rattle.item_making.proofs.gather.Given as goal
 
 abbrev pub invariant-loop-c : goal.invariant-loop-c
 invariant-loop-c l =
-    (goal.iterator-loop-c).can_next l.c-iterator × (goal.iterator-loop-c).is_finite l.c-iterator × GathersTo l.t (record { marks = l.initial.marks; flag = l.initial.flag }) l.set l.marks l.flag l.c-iterator.left
+    (l.marks + marks_in l.t (members l.c-iterator.left) ≡ l.fn.g.marks + marks_in l.t (members l.set))
+    × ((odd l.flag && all_virtual l.t (members l.c-iterator.left)) ≡ (odd l.fn.g.flag && all_virtual l.t (members l.set)))

@@ -12,9 +12,9 @@ pub put-at-requires : goal.put-at-requires
 put-at-requires c =
     let s = c in
     let a = s.args in
-    field_room a.buf.now a.pen a.held s.requires.full.0 (room_as (flushed-all a.held a.f c.if-held-f-le56.false) s.requires.room_for)
+    rw c.is_down.ensures (field_room a.buf.now a.pen a.held s.requires.full.0 (room_as (flushed-all a.held a.f c.if-held-f-le56.false) s.requires.room_for))
 
 pub returns : goal.returns
 returns c =
     let a = c.args in
-    adds-as (sym (flushed-all a.held a.f c.if-held-f-le56.false)) (record { items = omega arith; penned = c.put-at.ensures })
+    adds-as (sym (flushed-all a.held a.f c.if-held-f-le56.false)) (record { items = omega arith; penned = rw (← c.is_down.ensures) c.put-at.ensures })

@@ -1,15 +1,7 @@
-use mathlib.Core.Bool.{true, false}
-use mathlib.Core.Path.{◌≡◌}
-use borrow.Author.Tests.{tests}
 use borrow.Author.Rules.{rules}
-use Rattle.std.proofs.lemmas.Iterator.{cases_from_any}
-use Rattle.bitsets.specs.Bitsets.{members}
 use Rattle.item_refusal.specs.Tests.{passes}
-use Rattle.item_refusal.proofs.Asked.{walk-lists, any-asked}
+use Rattle.item_refusal.proofs.Asked.{walk-any}
 use Rattle.item_refusal.proofs.any_passes.Goals as goal
 
 pub returns : goal.returns
-returns c =
-    let a = c.args in
-    any-asked (passes a.t.now a.classes) (members a.types) _
-    (cases_from_any _ _ _ (λ x. passes a.t.now a.classes x ≡ true) (λ x. passes a.t.now a.classes x ≡ false) c.any.ensures.ran (walk-lists a.types c.members.ensures) (λ x q k. search (rules, tests)) (λ x q k. search (rules, tests)))
+returns c = let a = c.args in walk-any (passes a.t.now a.classes) a.types c.members.ensures (λ x b q k. search rules) c.any.ensures.ran

@@ -3,4 +3,4 @@ use Rattle.item_writer.proofs.fill_word.Given as goal
 
 abbrev pub invariant-loop-c : goal.invariant-loop-c
 invariant-loop-c l =
-    (goal.iterator-loop-c).can_next l.c-iterator × (goal.iterator-loop-c).is_finite l.c-iterator × FillsTo l.initial.words l.types l.k l.words l.c-iterator.left
+    FillsTo l.initial.words l.types l.k l.words l.c-iterator.left

@@ -3,4 +3,4 @@ use Rattle.item_writer.proofs.passing.Given as goal
 
 abbrev pub invariant-loop-p : goal.invariant-loop-p
 invariant-loop-p l =
-    (goal.iterator-loop-p).can_next l.p-iterator × (goal.iterator-loop-p).is_finite l.p-iterator × PassingTo l.t l.parents l.mask l.out l.p-iterator.left
+    PassingTo l.t l.parents l.mask l.out l.p-iterator.left

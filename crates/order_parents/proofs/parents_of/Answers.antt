@@ -9,10 +9,10 @@ pub loop-k-preserved : goal.loop-k-preserved
 loop-k-preserved c =
     let s = c.args in
     let l = c.loop-k in
-    parents-more s.t.now s.d.now s.row s.own l.k l.set _ l.whole _ _ c.parent_at-key.ensures c.type_of-place.ensures c.is_known-whole.ensures l.invariant
+    parents-more s.t.now s.d.now s.row s.own l.k l.set _ l.whole _ _ c.parent-key.ensures c.type_of-place.ensures c.is_known-whole.ensures l.invariant
 
 pub returns : goal.returns
 returns c =
     let s = c.args in
     let l = c.loop-k in
-    parents-all s.t.now s.d.now s.row s.own l.k _ (omega (arith, c.parent_count_at-k-end.ensures.0)) l.invariant
+    parents-all s.t.now s.d.now s.row s.own l.k _ (omega (arith, c.parent_count-k-end.ensures.0)) l.invariant

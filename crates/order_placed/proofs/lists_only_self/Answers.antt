@@ -1,15 +1,14 @@
 use Rattle.std.proofs.Common.{refl, ◌≡◌, ◌+◌, ◌*◌, true, false, rules, tests, arith}
 use Rattle.std.proofs.lemmas.Iterator.{cases_from_all, YieldsList-from_range}
 use Rattle.ordering.specs.Reading.{parent_at, listed, self_in}
-use Rattle.order_table.specs.Form.{form_of}
 use Rattle.order_placed.proofs.RangeLaws.{all_range}
 use Rattle.order_placed.proofs.lists_only_self.Goals as goal
 
 pub returns : goal.returns
 unfolding listed
 returns c =
-    let p = form_of c.args.l.now in
+    let p = c.args.l.now in
     let t = c.args.t in
-    all_range (λ i. parent_at p (8 * t + i)) (self_in p) _ _ c.count_at.ensures c.all.result
+    all_range (λ i. parent_at p (8 * t + i)) (self_in p) _ _ c.from.ensures c.all.result
     (cases_from_all _ _ _ (λ i. self_in p (parent_at p (8 * t + i)) ≡ true) (λ i. self_in p (parent_at p (8 * t + i)) ≡ false) c.all.ensures.ran
     (YieldsList-from_range 0 _ _ refl (omega arith)) (λ x q k. search (rules, tests)) (λ x q k. search (rules, tests)))

@@ -1,12 +1,11 @@
 use Rattle.std.proofs.Common.{sym, ◌∙◌, arith}
-use Rattle.order_table.specs.Form.{form_of}
 use Rattle.order_placed.specs.PlacingLaws.{joined-yes, joined-no}
 use Rattle.order_placed.proofs.place_more.Goals as goal
 use Rattle.order_placed.proofs.place_more.Goals.{then-is_free, else-is_free}
 
 pub loop-t-preserved : goal.loop-t-preserved
 loop-t-preserved c =
-    let p = form_of c.args.l.now in
+    let p = c.args.l.now in
     let l = c.loop-t in
     elim c.if-is_free.branch [
       | then-is_free w ↦

@@ -1,7 +1,6 @@
-use Rattle.order_table.specs.Form.{form_of}
 use Rattle.order_placed.specs.Placing.{Joined}
 use Rattle.order_placed.proofs.place_more.Given as goal
 
 -- The types passed that were free have joined.
 abbrev pub invariant-loop-t : goal.invariant-loop-t
-invariant-loop-t l = Joined (form_of l.l) l.t l.from l.out
+invariant-loop-t l = Joined l.l l.t l.from l.out

@@ -1,19 +1,15 @@
 use mathlib.Core.Path.{◌≡◌, ◌∙◌}
 use Prim.Native.Nat.{◌-◌}
 use native.Mathlib.Omega.{arith}
+use Rattle.std.proofs.Common.{rules}
 use borrow.Author.Tests.{eq-eqb, ne_eqb}
 use lib.ListN.{take}
 use Rattle.bitsets.specs.WalkLaws.{all-failed, all-passed, all_end}
 use Rattle.ordering.specs.Lists.{elem, elem_at}
 use Rattle.order_rounds.specs.Rounds.{all_listed_in}
-use Rattle.order_rounds.specs.StepLaws.{elem-none, none-lower}
+use Rattle.order_rounds.specs.StepLaws.{elem-none}
 use Rattle.order_rounds.proofs.all_placed.Goals as goal
 use Rattle.order_rounds.proofs.all_placed.Goals.{else-parents-test, then-parents-test+then-j-eq0}
-
-pub loop-j-preserved : goal.loop-j-preserved
-loop-j-preserved c =
-    let l = c.loop-j in
-    (omega (arith, l.invariant.0), none-lower c.args.order.now c.lowest-place.result l.j _ (omega arith) l.invariant.1 c.if-order-j.false)
 
 pub parents-preserved : goal.parents-preserved
 parents-preserved c =
@@ -21,9 +17,8 @@ parents-preserved c =
     let q = c.parents in
     let l = c.loop-j in
     let f = c.lowest-place in
-    let k = c.requires.0 in
     all-passed (λ b. elem b (take a.n a.order.now)) a.parents q.left f.result c.rest-left.result q.invariant f.ensures c.rest-left.ensures
-    (elem_at f.result a.order.now a.n (l.j - 1) (omega (arith, l.invariant.0)) (omega (arith, l.invariant.0, k, c.requires.1)) c.if-order-j.true)
+    (elem_at f.result a.order.now a.n (l.j - 1) (omega (arith, l.invariant.0)) (search rules) c.if-order-j.true)
 
 pub returns : goal.returns
 unfolding all_listed_in

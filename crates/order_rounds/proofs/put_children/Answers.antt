@@ -1,5 +1,4 @@
-use Rattle.std.proofs.Common.{◌≡◌, ◌∙◌, subst, arith}
-use Rattle.order_rounds.specs.Rounds.{ChildrenPut}
+use Rattle.std.proofs.Common.{◌∙◌}
 use Rattle.order_rounds.specs.StepLaws.{children-none, children-yes, children-no}
 use Rattle.order_rounds.proofs.put_children.Goals as goal
 use Rattle.order_rounds.proofs.put_children.Goals.{then-parents-eq0, else-parents-eq0}
@@ -11,16 +10,9 @@ pub loop-a-preserved : goal.loop-a-preserved
 loop-a-preserved c =
     let t = c.args.t.now in
     let l = c.loop-a in
-    let f = c.parents_at-parents in
     let g = c.add_child.ensures in
     let r = c.if-parents-eq0.out in
     elim c.if-parents-eq0.branch [
-      | then-parents-eq0 w ↦ children-yes t l.a l.children _ l.out f.result r f.ensures w.if-parents-eq0.true g (w.out-is ∙ w.with_one-out.ensures) l.invariant
-      | else-parents-eq0 w ↦ children-no t l.a l.children _ l.out f.result r f.ensures w.if-parents-eq0.false g w.out-is l.invariant
+      | then-parents-eq0 w ↦ children-yes t l.a l.children _ l.out r w.if-parents-eq0.true g (w.out-is ∙ w.with_one-out.ensures) l.invariant
+      | else-parents-eq0 w ↦ children-no t l.a l.children _ l.out r w.if-parents-eq0.false g w.out-is l.invariant
     ]
-
-pub returns : goal.returns
-returns c =
-    let l = c.loop-a in
-    let e : l.a ≡ c.args.count = omega arith in
-    subst (λ n. ChildrenPut c.args.t.now n l.children l.out) e l.invariant

@@ -2,7 +2,6 @@ use mathlib.Core.List.{List}
 use mathlib.Core.Path.{◌≡◌, sym, ap, ◌∙◌}
 use Prim.Native.Nat.{ℕ}
 use lib.ListN.{take}
-use Rattle.bitsets.specs.Bitsets.{less}
 use Rattle.catalogue.specs.Layout.{parents_at}
 use Rattle.order_rounds.specs.Rounds.{all_listed_in}
 use Rattle.order_rounds.specs.StepLaws.{others-in, ready-none, ready-yes, ready-no, ready-all}
@@ -17,7 +16,6 @@ asked : (c : After-all_placed) → all_listed_in (parents_at c.args.t.now c.in-S
 asked c =
     let out : List ℕ = take c.args.n c.args.order.now in
     sym (others-in (parents_at c.args.t.now c.in-Some.a) c.args.last out c.requires.all_placed)
-    ∙ ap (λ (x : ℕ). all_listed_in (less x c.args.last) out) (sym c.parents_at.ensures)
     ∙ ap (λ (x : ℕ). all_listed_in x out) (sym c.without-others.ensures)
     ∙ sym c.all_placed.ensures
 

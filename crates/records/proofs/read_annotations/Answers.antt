@@ -14,7 +14,7 @@ returns-in_err-n c = rw (err_was _ c.in_err-n.field-0.0 c.from_residual.ensures.
 pub read_each_annotation-requires : goal.read_each_annotation-requires
 read_each_annotation-requires c =
     let a = c.args in
-    let bs = bits_of a.s.now in
+    let bs = bits_of a.s.bytes.now in
     omega (arith, between_in 4 0 12 (drop a.c.at bs) c.in_ok-n.n _ (sym c.read_between.ensures ∙ ap (of_field bs) c.in_ok-n.was))
 
 pub returns : goal.returns

@@ -14,9 +14,9 @@ returns-in_err-annotation c =
     let l = c.loop in
     let a = c.args in
     let r = c.in_err-annotation.field-0.0 in
-    let bs = bits_of a.s.now in
+    let bs = bits_of a.s.bytes.now in
     rw (err_was _ r c.from_residual.ensures.1)
-    (sym (l.invariant.1 ∙ repeat-refused (of_annotations l.annotations) (annotation a.limit a.single) _ (drop l.next.at bs) (fault_of r) (omega arith)
+    (sym (l.invariant.1 ∙ repeat-refused (of_annotations l.annotations) (annotation a.s.words a.single) _ (drop l.next.at bs) (fault_of r) (omega arith)
     (sym c.read_annotation.ensures ∙ ap (of_parsed annotation_of bs) c.in_err-annotation.was)))
 
 pub loop-preserved : goal.loop-preserved
@@ -24,10 +24,10 @@ loop-preserved c =
     let l = c.loop in
     let a = c.args in
     let v = c.in_ok-annotation in
-    let bs = bits_of a.s.now in (
+    let bs = bits_of a.s.bytes.now in (
       omega (arith, c.push.ensures.1),
       l.invariant.1
-          ∙ repeat-next (of_annotations l.annotations) (annotation a.limit a.single) a.n l.counter (drop l.next.at bs) (annotation_of v.annotation) (drop v.end.at bs) (omega arith)
+          ∙ repeat-next (of_annotations l.annotations) (annotation a.s.words a.single) a.n l.counter (drop l.next.at bs) (annotation_of v.annotation) (drop v.end.at bs) (omega arith)
           (sym c.read_annotation.ensures ∙ ap (of_parsed annotation_of bs) v.was)
           ∙ rw c.push.ensures.0 refl,
     )
@@ -36,4 +36,4 @@ pub returns : goal.returns
 returns c =
     let l = c.loop in
     let a = c.args in
-    sym (l.invariant.1 ∙ repeat-none (of_annotations l.annotations) (annotation a.limit a.single) _ (drop l.next.at (bits_of a.s.now)) (omega arith))
+    sym (l.invariant.1 ∙ repeat-none (of_annotations l.annotations) (annotation a.s.words a.single) _ (drop l.next.at (bits_of a.s.bytes.now)) (omega arith))

@@ -10,4 +10,4 @@ use Rattle.records.proofs.read_each_annotation.Given as goal
 abbrev pub invariant-loop : goal.invariant-loop
 invariant-loop l =
     (l.annotations.count ≡ l.counter)
-    × (repeat (annotation l.limit l.single) l.n (drop l.initial.next.at (bits_of l.s)) ≡ repeat_onto (of_annotations l.annotations) (annotation l.limit l.single) (l.n - l.counter) (drop l.next.at (bits_of l.s)))
+    × (repeat (annotation l.s.words l.single) l.n (drop l.initial.next.at (bits_of l.s.bytes.now)) ≡ repeat_onto (of_annotations l.annotations) (annotation l.s.words l.single) (l.n - l.counter) (drop l.next.at (bits_of l.s.bytes.now)))

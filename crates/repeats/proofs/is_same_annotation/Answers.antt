@@ -1,14 +1,9 @@
-use mathlib.Core.Path.{sym, ◌∙◌}
-use borrow.Author.Tests.{eq-eqb, ne_eqb}
-use Rattle.repeats.specs.RepeatLaws.{same-annotation}
+use Rattle.std.proofs.Common.{sym, ◌∙◌, rules}
+use Rattle.repeats.specs.RepeatLaws.{same-annotation, unlike-kinds}
 use Rattle.repeats.proofs.is_same_annotation.Goals as goal
 
-pub returns-then-k-kind_of : goal.returns-then-k-kind_of
-returns-then-k-kind_of c =
-    let a = c.args in
-    c.is_same_content.ensures ∙ sym (same-annotation a.a a.b ∙ rw (← c.kind_of-k.ensures, ← c.kind_of.ensures, eq-eqb _ _ c.if-k-kind_of.true))
+pub returns-then-eq : goal.returns-then-eq
+returns-then-eq c = c.is_same_content.ensures ∙ sym (same-annotation c.args.a c.args.b (search rules))
 
-pub returns-else-k-kind_of : goal.returns-else-k-kind_of
-returns-else-k-kind_of c =
-    let a = c.args in
-    sym (same-annotation a.a a.b ∙ rw (← c.kind_of-k.ensures, ← c.kind_of.ensures, ne_eqb _ _ c.if-k-kind_of.false))
+pub returns-else-eq : goal.returns-else-eq
+returns-else-eq c = c.if-eq.false ∙ sym (unlike-kinds c.args.a c.args.b (search rules))

@@ -1,9 +1,9 @@
-use mathlib.Core.Path.{sym, ◌∙◌}
-use Rattle.repeats.specs.RepeatLaws.{twice-words}
+use Rattle.std.proofs.Common.{sym, ◌∙◌}
+use Rattle.repeats.specs.RepeatLaws.{twice-words, twice-none}
 use Rattle.repeats.proofs.repeats_word.Goals as goal
 
-pub returns-then-is_associate : goal.returns-then-is_associate
-returns-then-is_associate c = c.has_word_twice.ensures ∙ sym (twice-words c.args.a ∙ rw (← c.is_associate.ensures, c.if-is_associate.true))
+pub returns-in-Associate : goal.returns-in-Associate
+returns-in-Associate c = c.has_word_twice.ensures ∙ sym (twice-words c.args.a c.in-Associate.is)
 
-pub returns-else-is_associate : goal.returns-else-is_associate
-returns-else-is_associate c = sym (twice-words c.args.a ∙ rw (← c.is_associate.ensures, c.if-is_associate.false))
+pub returns-in-MakeList : goal.returns-in-MakeList
+returns-in-MakeList c = sym (twice-none c.args.a c.in-MakeList.is)

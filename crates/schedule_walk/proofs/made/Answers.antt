@@ -38,5 +38,5 @@ returns-in_err-rest c = let r = c.rule_at-rule.ensures in
 
 pub returns : goal.returns
 returns c = let r = c.rule_at-rule.ensures in
-    made-gone _ _ _ _ c.in_ok-head.ensures _ c.in_ok-is_virtual.ensures _ (has-rule r c.in_ok-count.ensures) _
+    made-gone _ _ _ _ c.in_ok-head.ensures _ c.in_ok-is_virtual.ensures _ (has-rule r c.in_ok-count.ensures) _ c.of_flag.ensures _
     (gone-from (ap (λ i. c.in_ok-head.head + 1 + i) r.width) c.in_ok-rest.ensures)

@@ -35,7 +35,7 @@ order_by_key-requires c =
     let x = c.read_lists in
     let l = c.in_ok-l.l in
     let h = listed bytes x.new.d x.new.t l (rw c.in_ok-l.was at x.ensures.0) in
-    ((rw c.in_ok-l.was at x.ensures.2).count, c.requires.2, low bytes x.new.d x.new.t l h)
+    ((rw c.in_ok-l.was at x.ensures.1).count, low bytes x.new.d x.new.t l h)
 
 pub returns-then-is_something_twice : goal.returns-then-is_something_twice
 returns-then-is_something_twice c =
@@ -48,7 +48,7 @@ returns-then-is_something_twice c =
     let n : Sizes = record { words = l.width; types = l.count; extensions = l.extensions } in
     let en = c.order_by_key.ensures in
     let entries = c.order_by_key.new.entries in
-    let z = sym (c.is_something_twice.ensures ∙ twice-is h.s (bits_of bytes) d entries t n (rw c.in_ok-l.was at x.ensures.2).count en h.width h.types h.extensions) in
+    let z = sym (c.is_something_twice.ensures ∙ twice-is h.s (bits_of bytes) d entries t n (rw c.in_ok-l.was at x.ensures.1).count en h.width h.types h.extensions) in
     back_as bytes _ 6 refl
     (twice-back bytes d t l h (sym c.is_bad_fill.ensures ∙ c.if-is_bad_fill.false) c.if-l.false (z ∙ c.if-is_something_twice.true))
 
@@ -63,5 +63,5 @@ returns c =
     let n : Sizes = record { words = l.width; types = l.count; extensions = l.extensions } in
     let en = c.order_by_key.ensures in
     let entries = c.order_by_key.new.entries in
-    let z = sym (c.is_something_twice.ensures ∙ twice-is h.s (bits_of bytes) d entries t n (rw c.in_ok-l.was at x.ensures.2).count en h.width h.types h.extensions) in
-    passes bytes d t l h (sym c.is_bad_fill.ensures ∙ c.if-is_bad_fill.false) c.if-l.false (z ∙ c.if-is_something_twice.false) c.requires.0 entries en x.ensures.1 (rw c.in_ok-l.was at x.ensures.2) _ refl refl refl refl refl
+    let z = sym (c.is_something_twice.ensures ∙ twice-is h.s (bits_of bytes) d entries t n (rw c.in_ok-l.was at x.ensures.1).count en h.width h.types h.extensions) in
+    passes bytes d t l h (sym c.is_bad_fill.ensures ∙ c.if-is_bad_fill.false) c.if-l.false (z ∙ c.if-is_something_twice.false) c.requires entries en (rw c.in_ok-l.was at x.ensures.1) _ refl refl refl refl refl

@@ -12,7 +12,7 @@ returns-in_err-types c =
     let x = c.read_types.ensures in
     let g = rw c.in_err-types.was at x.0 in
     rw (err_was _ c.in_err-types.field-0.0 c.from_residual.ensures.1)
-    (no-types (telling_in a.w) (drop a.w.at bs) _ g, record { draft = x.1; catalogue = c.requires.2.catalogue }, tt)
+    (no-types (telling_in a.w) (drop a.w.at bs) _ g, tt)
 
 pub returns-in_err-records : goal.returns-in_err-records
 returns-in_err-records c =
@@ -23,7 +23,7 @@ returns-in_err-records c =
     let g = rw c.in_ok-types.was at x.0 in
     let h = rw c.in_err-records.was at y.0 in
     rw (err_was _ c.in_err-records.field-0.0 c.from_residual-in_err-records.ensures.1)
-    (no-extensions (telling_in a.w) (drop a.w.at bs) _ (drop c.in_ok-types.next.at bs) g _ h, record { draft = x.1; catalogue = y.1 }, tt)
+    (no-extensions (telling_in a.w) (drop a.w.at bs) _ (drop c.in_ok-types.next.at bs) g _ h, tt)
 
 pub returns : goal.returns
 returns c =
@@ -35,8 +35,7 @@ returns c =
     let v = c.in_ok-records in
     let g = rw u.was at x.0 in
     let h = rw v.was at y.0 in
-    let k = rw u.was at x.2 in (
+    let k = rw u.was at x.1 in (
       records-read (telling_in a.w) (drop a.w.at bs) _ (drop u.next.at bs) g _ (drop v.end.at bs) h,
-      record { draft = x.1; catalogue = y.1 },
-      record { width = c.requires.1; count = k.0; extensions = rw v.was at y.2; notes = k.1 },
+      record { width = c.requires.1; count = k.0; extensions = rw v.was at y.1; notes = k.1 },
     )

@@ -16,24 +16,18 @@ use Rattle.sheet_extensions.proofs.read_each_record.Goals as goal
 pub loop-e-init : goal.loop-e-init
 loop-e-init c =
     let a = c.args in
-    (c.requires.3, few-none a.t.now, rw (sub-zero a.n, records-none a.t.now) refl)
-
-pub read_record-requires : goal.read_record-requires
-read_record-requires c =
-    let m = c.requires in
-    (m.0, m.1, omega (arith, m.2), c.loop-e.invariant.0)
+    (few-none a.t.now, rw (sub-zero a.n, records-none a.t.now) refl)
 
 pub returns-in_err-next : goal.returns-in_err-next
 returns-in_err-next c =
     let l = c.loop-e in
     let a = c.args in
     let x = c.read_record.ensures in
-    let bs = bits_of a.s.now in
+    let bs = bits_of a.s.bytes.now in
     let r = c.in_err-next.field-0.0 in
     rw (err_was _ r c.from_residual.ensures.1) (
-      sym (l.invariant.2 ∙ repeat-refused (records_in l.t l.e) (extension a.limit) _ (drop l.next.at bs) (fault_of r) (omega arith)
+      sym (l.invariant.1 ∙ repeat-refused (records_in l.t l.e) (extension a.s.words) _ (drop l.next.at bs) (fault_of r) (omega arith)
           (sym x.0 ∙ rw c.in_err-next.was refl)),
-      x.1.size ∙ l.invariant.0,
       tt,
     )
 
@@ -42,25 +36,23 @@ loop-e-preserved c =
     let l = c.loop-e in
     let a = c.args in
     let x = c.read_record.ensures in
-    let bs = bits_of a.s.now in
+    let bs = bits_of a.s.bytes.now in
     let v = c.in_ok-next in
     let u = c.read_record.new.t in (
-      x.1.size ∙ l.invariant.0,
-      few-more l.e l.t u x.1 (rw v.was at x.2) l.invariant.1,
-      l.invariant.2
-          ∙ repeat-next (records_in l.t l.e) (extension a.limit) a.n l.e (drop l.next.at bs) (record_in u l.e) (drop v.next.at bs) (omega arith)
+      few-more l.e l.t u x.1 (rw v.was at x.2) l.invariant.0,
+      l.invariant.1
+          ∙ repeat-next (records_in l.t l.e) (extension a.s.words) a.n l.e (drop l.next.at bs) (record_in u l.e) (drop v.next.at bs) (omega arith)
           (sym x.0 ∙ rw v.was refl)
-          ∙ rw (records-more l.e l.t u l.invariant.1 x.1) refl,
+          ∙ rw (records-more l.e l.t u l.invariant.0 x.1) refl,
     )
 
 pub returns : goal.returns
 returns c =
     let l = c.loop-e in
     let a = c.args in
-    let bs = bits_of a.s.now in
+    let bs = bits_of a.s.bytes.now in
     let q : l.e ≡ a.n = omega arith in (
       ap (λ (k : ℕ). done (records_in l.t k) (drop l.next.at bs)) (sym q)
-          ∙ sym (l.invariant.2 ∙ repeat-none (records_in l.t l.e) (extension a.limit) _ (drop l.next.at bs) (omega arith)),
-      l.invariant.0,
-      c.requires.2,
+          ∙ sym (l.invariant.1 ∙ repeat-none (records_in l.t l.e) (extension a.s.words) _ (drop l.next.at bs) (omega arith)),
+      c.requires,
     )

@@ -9,18 +9,17 @@ use Rattle.sheet_extensions.proofs.read_extensions.Goals as goal
 pub returns-in_err-n : goal.returns-in_err-n
 unfolding counted
 returns-in_err-n c =
-    rw (err_was _ c.in_err-n.field-0.0 c.from_residual.ensures.1) (rw (← c.read_between.ensures, c.in_err-n.was), c.requires.2, tt)
+    rw (err_was _ c.in_err-n.field-0.0 c.from_residual.ensures.1) (rw (← c.read_between.ensures, c.in_err-n.was), tt)
 
 pub read_each_record-requires : goal.read_each_record-requires
 read_each_record-requires c =
     let a = c.args in
-    let m = c.requires in
-    let bs = bits_of a.s.now in
+    let bs = bits_of a.s.bytes.now in
     let h = between_in 6 0 32 (drop a.c.at bs) c.in_ok-n.n _ (sym c.read_between.ensures ∙ ap (of_field bs) c.in_ok-n.was) in
-    (m.0, m.1, h.1, m.2)
+    h.1
 
 pub returns : goal.returns
 unfolding counted
 returns c =
     let e = c.read_each_record.ensures in
-    (rw (← c.read_between.ensures, c.in_ok-n.was) e.0, e.1, e.2)
+    (rw (← c.read_between.ensures, c.in_ok-n.was) e.0, e.1)

@@ -23,9 +23,9 @@ returns-in_err-key c =
     let l = c.loop-i in
     let a = c.args in
     let r = c.in_err-key.field-0.0 in
-    let bs = bits_of a.s.now in
+    let bs = bits_of a.s.bytes.now in
     rw (err_was _ r c.from_residual.ensures.1) (
-      sym (l.invariant.1 ∙ repeat-refused (names_from l.out a.base l.i) (name a.limit) _ (drop l.next.at bs) (fault_of r) (omega arith)
+      sym (l.invariant.1 ∙ repeat-refused (names_from l.out a.base l.i) (name a.s.words) _ (drop l.next.at bs) (fault_of r) (omega arith)
           (sym c.read_key.ensures ∙ ap (of_key_read bs) c.in_err-key.was)),
       l.invariant.0,
       tt,
@@ -36,11 +36,11 @@ loop-i-preserved c =
     let l = c.loop-i in
     let a = c.args in
     let v = c.in_ok-key in
-    let bs = bits_of a.s.now in
+    let bs = bits_of a.s.bytes.now in
     let h = l.invariant.0.size in (
       kept_set a.base (a.base + l.i) v.key a.out.now l.out l.invariant.0 (omega arith),
       l.invariant.1
-          ∙ repeat-next (names_from l.out a.base l.i) (name a.limit) a.n l.i (drop l.next.at bs) (name_of_key v.key) (drop v.end.at bs) (omega arith)
+          ∙ repeat-next (names_from l.out a.base l.i) (name a.s.words) a.n l.i (drop l.next.at bs) (name_of_key v.key) (drop v.end.at bs) (omega arith)
           (sym c.read_key.ensures ∙ ap (of_key_read bs) v.was)
           ∙ rw (names_more l.out a.base l.i v.key (omega arith)) refl,
     )
@@ -50,8 +50,8 @@ returns c =
     let l = c.loop-i in
     let a = c.args in
     let e : l.i ≡ a.n = omega arith in (
-      ap (λ (k : ℕ). done (names_from l.out a.base k) (drop l.next.at (bits_of a.s.now))) (sym e)
-          ∙ sym (l.invariant.1 ∙ repeat-none (names_from l.out a.base l.i) (name a.limit) _ (drop l.next.at (bits_of a.s.now)) (omega arith)),
+      ap (λ (k : ℕ). done (names_from l.out a.base k) (drop l.next.at (bits_of a.s.bytes.now))) (sym e)
+          ∙ sym (l.invariant.1 ∙ repeat-none (names_from l.out a.base l.i) (name a.s.words) _ (drop l.next.at (bits_of a.s.bytes.now)) (omega arith)),
       l.invariant.0,
       omega arith,
     )

@@ -10,4 +10,4 @@ use Rattle.sheet_keys.proofs.read_each_key.Given as goal
 abbrev pub invariant-loop-i : goal.invariant-loop-i
 invariant-loop-i l =
     Kept l.base l.initial.out l.out
-    × (repeat (name l.limit) l.n (drop l.initial.next.at (bits_of l.s)) ≡ repeat_onto (names_from l.out l.base l.i) (name l.limit) (l.n - l.i) (drop l.next.at (bits_of l.s)))
+    × (repeat (name l.s.words) l.n (drop l.initial.next.at (bits_of l.s.bytes.now)) ≡ repeat_onto (names_from l.out l.base l.i) (name l.s.words) (l.n - l.i) (drop l.next.at (bits_of l.s.bytes.now)))

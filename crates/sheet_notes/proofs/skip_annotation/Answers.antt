@@ -1,15 +1,21 @@
-use Rattle.fields.specs.FieldLaws.{err_was}
+use Rattle.std.proofs.Common.{sym, ap, ◌∙◌}
+use Rattle.definitions.specs.Bits.{bits_of}
+use Rattle.fields.specs.Fields.{of_field}
+use Rattle.fields.specs.FieldLaws.{err_was, between_in}
 use Rattle.sheet_notes.specs.NoteLaws.{annotation-steps}
 use Rattle.sheet_notes.proofs.skip_annotation.Goals as goal
 
-pub returns-in_err-kind : goal.returns-in_err-kind
-returns-in_err-kind c =
-    rw (err_was _ c.in_err-kind.field-0.0 c.from_residual.ensures.1, annotation-steps _ _ _, ← c.read_between.ensures, c.in_err-kind.was)
+pub returns-in_err-number : goal.returns-in_err-number
+returns-in_err-number c =
+    rw (err_was _ c.in_err-number.field-0.0 c.from_residual.ensures.1, annotation-steps _ _ _, ← c.read_between.ensures, c.in_err-number.was)
+
+pub of-kind-requires : goal.of-kind-requires
+of-kind-requires c = (between_in _ _ _ _ _ _ (sym c.read_between.ensures ∙ ap (of_field (bits_of c.args.s.bytes.now)) c.in_ok-number.was)).1
 
 pub returns-then-is_nested_in_two : goal.returns-then-is_nested_in_two
 returns-then-is_nested_in_two c =
-    rw (annotation-steps _ _ _, ← c.read_between.ensures, c.in_ok-kind.was, ← c.is_nested_in_two.ensures, c.if-is_nested_in_two.true)
+    rw (annotation-steps _ _ _, ← c.read_between.ensures, c.in_ok-number.was, ← c.of-kind.ensures, ← c.is_nested_in_two.ensures, c.if-is_nested_in_two.true)
 
 pub returns : goal.returns
 returns c =
-    rw (annotation-steps _ _ _, ← c.read_between.ensures, c.in_ok-kind.was, ← c.is_nested_in_two.ensures, c.if-is_nested_in_two.false) c.skip_rows.ensures
+    rw (annotation-steps _ _ _, ← c.read_between.ensures, c.in_ok-number.was, ← c.of-kind.ensures, ← c.is_nested_in_two.ensures, c.if-is_nested_in_two.false) c.skip_rows.ensures

@@ -8,4 +8,4 @@ use Rattle.sheet_notes.proofs.skip_each_annotation.Given as goal
 
 abbrev pub invariant-loop : goal.invariant-loop
 invariant-loop l =
-    steps (annotation l.limit l.single) l.n (drop l.initial.next.at (bits_of l.s)) ≡ steps (annotation l.limit l.single) (l.n - l.counter) (drop l.next.at (bits_of l.s))
+    steps (annotation l.s.words l.single) l.n (drop l.initial.next.at (bits_of l.s.bytes.now)) ≡ steps (annotation l.s.words l.single) (l.n - l.counter) (drop l.next.at (bits_of l.s.bytes.now))

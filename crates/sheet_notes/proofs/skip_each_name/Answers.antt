@@ -15,18 +15,18 @@ returns-in_err-end c =
     let l = c.loop in
     let a = c.args in
     let r = c.in_err-end.field-0.0 in
-    let bs = bits_of a.s.now in
-    rw (err_was _ r c.from_residual.ensures.1) (sym (l.invariant ∙ step-refused (name a.limit) _ (drop l.next.at bs) (fault_of r) (omega arith) (ap forget (sym c.read_key.ensures ∙ ap (of_key_read bs) c.in_err-end.was))))
+    let bs = bits_of a.s.bytes.now in
+    rw (err_was _ r c.from_residual.ensures.1) (sym (l.invariant ∙ step-refused (name a.s.words) _ (drop l.next.at bs) (fault_of r) (omega arith) (ap forget (sym c.read_key.ensures ∙ ap (of_key_read bs) c.in_err-end.was))))
 
 pub loop-preserved : goal.loop-preserved
 loop-preserved c =
     let l = c.loop in
     let a = c.args in
-    let bs = bits_of a.s.now in
-    l.invariant ∙ step-next (name a.limit) a.n l.counter (drop l.next.at bs) (drop c.in_ok-end.end.at bs) (omega arith) (ap forget (sym c.read_key.ensures ∙ ap (of_key_read bs) c.in_ok-end.was))
+    let bs = bits_of a.s.bytes.now in
+    l.invariant ∙ step-next (name a.s.words) a.n l.counter (drop l.next.at bs) (drop c.in_ok-end.end.at bs) (omega arith) (ap forget (sym c.read_key.ensures ∙ ap (of_key_read bs) c.in_ok-end.was))
 
 pub returns : goal.returns
 returns c =
     let l = c.loop in
     let a = c.args in
-    sym (l.invariant ∙ step-none (name a.limit) _ (drop l.next.at (bits_of a.s.now)) (omega arith))
+    sym (l.invariant ∙ step-none (name a.s.words) _ (drop l.next.at (bits_of a.s.bytes.now)) (omega arith))

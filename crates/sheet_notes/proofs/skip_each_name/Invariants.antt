@@ -8,4 +8,4 @@ use Rattle.sheet_notes.proofs.skip_each_name.Given as goal
 
 abbrev pub invariant-loop : goal.invariant-loop
 invariant-loop l =
-    steps (name l.limit) l.n (drop l.initial.next.at (bits_of l.s)) ≡ steps (name l.limit) (l.n - l.counter) (drop l.next.at (bits_of l.s))
+    steps (name l.s.words) l.n (drop l.initial.next.at (bits_of l.s.bytes.now)) ≡ steps (name l.s.words) (l.n - l.counter) (drop l.next.at (bits_of l.s.bytes.now))

@@ -6,9 +6,9 @@ use Rattle.sheet_notes.proofs.skip_names.Goals as goal
 pub returns-in_err-n : goal.returns-in_err-n
 returns-in_err-n c =
     let a = c.args in
-    rw (err_was _ c.in_err-n.field-0.0 c.from_residual.ensures.1, counted-steps (name a.limit) 4 0 15 _, ← c.read_between.ensures, c.in_err-n.was)
+    rw (err_was _ c.in_err-n.field-0.0 c.from_residual.ensures.1, counted-steps (name a.s.words) 4 0 15 _, ← c.read_between.ensures, c.in_err-n.was)
 
 pub returns : goal.returns
 returns c =
     let a = c.args in
-    rw (counted-steps (name a.limit) 4 0 15 _, ← c.read_between.ensures, c.in_ok-n.was) c.skip_each_name.ensures
+    rw (counted-steps (name a.s.words) 4 0 15 _, ← c.read_between.ensures, c.in_ok-n.was) c.skip_each_name.ensures

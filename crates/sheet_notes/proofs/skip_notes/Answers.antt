@@ -10,4 +10,4 @@ returns-then-window-eq0 c =
     let w = c.window in
     let i = c in
     let a = i.args in
-    notes-none a.limit a.single (bits_of a.s.now) a.c.at (omega (arith, length-bits_of a.s.now, i.if-at-s.true)) (sym w.ensures ∙ c.if-window-eq0.true)
+    notes-none a.s.words a.single (bits_of a.s.bytes.now) a.c.at (omega (arith, length-bits_of a.s.bytes.now, i.if-at-s.true)) (sym w.ensures ∙ c.if-window-eq0.true)

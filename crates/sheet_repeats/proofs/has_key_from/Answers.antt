@@ -5,27 +5,20 @@ use Rattle.lists.specs.Places.{any_step, any-end}
 use lib.Dec.{eqb}
 use borrow.Author.Tests.{eq-eqb, ne_eqb}
 use Prim.Native.Nat.{◌<◌}
-use mathlib.Core.Path.{refl, sym, ◌∙◌}
+use mathlib.Core.Path.{sym, ◌∙◌}
 use native.Mathlib.Omega.{arith}
 use Rattle.sheet_repeats.proofs.has_key_from.Goals as goal
 
--- src/lib.rt:37:5
-pub loop-j-init : goal.loop-j-init
-loop-j-init c = refl
-
--- src/lib.rt:39:13
-pub returns-then-key-extension_key_at : goal.returns-then-key-extension_key_at
-returns-then-key-extension_key_at c =
+pub returns-then-key-t : goal.returns-then-key-t
+returns-then-key-t c =
     let l = c.loop-j in
     let a = c.args in
     let t = a.t.now in
     let h : l.j < a.n = omega arith in
     let s = any_step (eqb a.key) (keys_in t a.n) l.j 0 (omega (arith, h, length-keys t a.n)) in
     let k = key_in t a.n l.j h in
-    let e = c.extension_key_at.ensures in
-    sym (l.invariant ∙ s ∙ rw (k, eq-eqb a.key (extension_key_at t l.j) (c.if-key-extension_key_at.true ∙ e)))
+    sym (l.invariant ∙ s ∙ rw (k, eq-eqb a.key (extension_key_at t l.j) c.if-key-t.true))
 
--- src/lib.rt:37:5
 pub loop-j-preserved : goal.loop-j-preserved
 loop-j-preserved c =
     let l = c.loop-j in
@@ -34,10 +27,8 @@ loop-j-preserved c =
     let h : l.j < a.n = omega arith in
     let s = any_step (eqb a.key) (keys_in t a.n) l.j 0 (omega (arith, h, length-keys t a.n)) in
     let k = key_in t a.n l.j h in
-    let e = c.extension_key_at.ensures in
-    l.invariant ∙ s ∙ rw (k, ne_eqb a.key (extension_key_at t l.j) (λ q. c.if-key-extension_key_at.false (q ∙ sym e)))
+    l.invariant ∙ s ∙ rw (k, ne_eqb a.key (extension_key_at t l.j) c.if-key-t.false)
 
--- src/lib.rt:32:1
 pub returns : goal.returns
 returns c =
     let l = c.loop-j in

@@ -3,15 +3,10 @@ use Rattle.sheet_repeats.specs.Twice.{keys_in}
 use Rattle.lists.specs.Places.{repeats-step, repeats-end}
 use lib.Dec.{eqb}
 use Prim.Native.Nat.{◌<◌}
-use mathlib.Core.Path.{refl, sym, ◌∙◌}
+use mathlib.Core.Path.{sym, ◌∙◌}
 use native.Mathlib.Omega.{arith}
 use Rattle.sheet_repeats.proofs.has_key_twice.Goals as goal
 
--- src/lib.rt:59:5
-pub loop-i-init : goal.loop-i-init
-loop-i-init c = refl
-
--- src/lib.rt:61:13
 pub returns-then-has_key_from : goal.returns-then-has_key_from
 returns-then-has_key_from c =
     let l = c.loop-i in
@@ -19,10 +14,9 @@ returns-then-has_key_from c =
     let t = a.t.now in
     let h : l.i < a.n = omega arith in
     let s = repeats-step eqb (keys_in t a.n) l.i 0 (omega (arith, h, length-keys t a.n)) in
-    let k = key_in t a.n l.i h ∙ sym c.extension_key_at.ensures in
+    let k = key_in t a.n l.i h in
     sym (l.invariant ∙ s ∙ rw (k, ← c.has_key_from.ensures, c.if-has_key_from.true))
 
--- src/lib.rt:59:5
 pub loop-i-preserved : goal.loop-i-preserved
 loop-i-preserved c =
     let l = c.loop-i in
@@ -30,10 +24,9 @@ loop-i-preserved c =
     let t = a.t.now in
     let h : l.i < a.n = omega arith in
     let s = repeats-step eqb (keys_in t a.n) l.i 0 (omega (arith, h, length-keys t a.n)) in
-    let k = key_in t a.n l.i h ∙ sym c.extension_key_at.ensures in
+    let k = key_in t a.n l.i h in
     l.invariant ∙ s ∙ rw (k, ← c.has_key_from.ensures, c.if-has_key_from.false)
 
--- src/lib.rt:54:1
 pub returns : goal.returns
 returns c =
     let l = c.loop-i in

@@ -3,35 +3,20 @@ use Rattle.lists.specs.Places.{ascends-step, ascends-end}
 use Rattle.lists.specs.Lists.{ascends}
 use lib.Seq
 use lib.ListN.{length, take}
-use borrow.Author.Tests.{lt-ltb, le-ltb}
+use borrow.Author.Tests.{le-ltb}
 use Prim.Native.Nat.{◌+◌, ◌-◌}
-use mathlib.Core.Path.{◌≡◌, refl, sym, ap, ◌∙◌}
+use mathlib.Core.Path.{◌≡◌, sym, ap, ◌∙◌}
 use mathlib.Core.Bool.{false, not}
 use native.Mathlib.Omega.{arith}
+use Rattle.std.proofs.Common.{rules}
 use Rattle.sheet_repeats.proofs.has_name_twice.Goals as goal
-
-pub loop-i-init : goal.loop-i-init
-loop-i-init c = refl
-
-pub loop-i-preserved : goal.loop-i-preserved
-loop-i-preserved c =
-    let l = c.loop-i in
-    let a = c.args in
-    let m = take a.n a.entries.now in
-    let q : length m ≡ a.n = Seq.length-take-le a.n a.entries.now (omega (arith, c.requires.0, c.requires.1)) in
-    let e : l.i - 1 + 1 ≡ l.i = omega arith in
-    let f : l.i + 1 - 1 ≡ l.i = omega arith in
-    let g = rw e at (ascends-step entry_before m (l.i - 1) 0 (omega (arith, q))) in
-    let x = Seq.get_or-take a.n a.entries.now (l.i - 1) 0 (omega arith) in
-    let y = Seq.get_or-take a.n a.entries.now l.i 0 (omega arith) in
-    rw f (l.invariant ∙ g ∙ rw (x, y, lt-ltb _ _ c.if-entries-i.false))
 
 pub returns-then-entries-i : goal.returns-then-entries-i
 returns-then-entries-i c =
     let l = c.loop-i in
     let a = c.args in
     let m = take a.n a.entries.now in
-    let q : length m ≡ a.n = Seq.length-take-le a.n a.entries.now (omega (arith, c.requires.0, c.requires.1)) in
+    let q : length m ≡ a.n = Seq.length-take-le a.n a.entries.now (search rules) in
     let e : l.i - 1 + 1 ≡ l.i = omega arith in
     let g = rw e at (ascends-step entry_before m (l.i - 1) 0 (omega (arith, q))) in
     let x = Seq.get_or-take a.n a.entries.now (l.i - 1) 0 (omega arith) in
@@ -44,5 +29,5 @@ returns c =
     let l = c.loop-i in
     let a = c.args in
     let m = take a.n a.entries.now in
-    let q : length m ≡ a.n = Seq.length-take-le a.n a.entries.now (omega (arith, c.requires.0, c.requires.1)) in
+    let q : length m ≡ a.n = Seq.length-take-le a.n a.entries.now (search rules) in
     sym (ap not (l.invariant ∙ ascends-end entry_before m (l.i - 1) 0 (omega (arith, q))))

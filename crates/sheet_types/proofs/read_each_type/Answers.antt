@@ -17,24 +17,18 @@ use Rattle.sheet_types.proofs.read_each_type.Goals as goal
 pub loop-i-init : goal.loop-i-init
 loop-i-init c =
     let a = c.args in
-    (c.requires.3, read_none _ _ _, rw (sub-zero a.n, types-none a.limit (bits_of a.s.now) a.d.now) refl)
-
-pub read_type-requires : goal.read_type-requires
-read_type-requires c =
-    let m = c.requires in
-    (m.0, m.1, omega (arith, m.2), c.loop-i.invariant.0)
+    (read_none _ _ _, rw (sub-zero a.n, types-none a.s.words (bits_of a.s.bytes.now) a.d.now) refl)
 
 pub returns-in_err-next : goal.returns-in_err-next
 returns-in_err-next c =
     let l = c.loop-i in
     let a = c.args in
     let e = c.read_type.ensures in
-    let bs = bits_of a.s.now in
+    let bs = bits_of a.s.bytes.now in
     let r = c.in_err-next.field-0.0 in
     rw (err_was _ r c.from_residual.ensures.1) (
-      sym (l.invariant.2 ∙ repeat-refused (types_in a.limit bs l.d l.i) (type_info a.limit) _ (drop l.next.at bs) (fault_of r) (omega arith)
+      sym (l.invariant.1 ∙ repeat-refused (types_in a.s.words bs l.d l.i) (type_info a.s.words) _ (drop l.next.at bs) (fault_of r) (omega arith)
           (sym e.0 ∙ rw c.in_err-next.was refl)),
-      e.1.size ∙ l.invariant.0,
       tt,
     )
 
@@ -43,25 +37,23 @@ loop-i-preserved c =
     let l = c.loop-i in
     let a = c.args in
     let e = c.read_type.ensures in
-    let bs = bits_of a.s.now in
+    let bs = bits_of a.s.bytes.now in
     let v = c.in_ok-next in
     let u = c.read_type.new.d in (
-      e.1.size ∙ l.invariant.0,
-      read_more a.limit bs l.i l.d u e.1 (rw v.was at e.2) l.invariant.1,
-      l.invariant.2
-          ∙ repeat-next (types_in a.limit bs l.d l.i) (type_info a.limit) a.n l.i (drop l.next.at bs) (type_in a.limit bs u l.i) (drop v.next.at bs) (omega arith)
+      read_more a.s.words bs l.i l.d u e.1 (rw v.was at e.2) l.invariant.0,
+      l.invariant.1
+          ∙ repeat-next (types_in a.s.words bs l.d l.i) (type_info a.s.words) a.n l.i (drop l.next.at bs) (type_in a.s.words bs u l.i) (drop v.next.at bs) (omega arith)
           (sym e.0 ∙ rw v.was refl)
-          ∙ rw (types_more a.limit bs l.i l.d u e.1) refl,
+          ∙ rw (types_more a.s.words bs l.i l.d u e.1) refl,
     )
 
 pub returns : goal.returns
 returns c =
     let l = c.loop-i in
     let a = c.args in
-    let bs = bits_of a.s.now in
+    let bs = bits_of a.s.bytes.now in
     let q : l.i ≡ a.n = omega arith in (
-      ap (λ (k : ℕ). done (types_in a.limit bs l.d k) (drop l.next.at bs)) (sym q)
-          ∙ sym (l.invariant.2 ∙ repeat-none (types_in a.limit bs l.d l.i) (type_info a.limit) _ (drop l.next.at bs) (omega arith)),
-      l.invariant.0,
-      (c.requires.2, subst (NotesRead a.limit bs l.d) q l.invariant.1),
+      ap (λ (k : ℕ). done (types_in a.s.words bs l.d k) (drop l.next.at bs)) (sym q)
+          ∙ sym (l.invariant.1 ∙ repeat-none (types_in a.s.words bs l.d l.i) (type_info a.s.words) _ (drop l.next.at bs) (omega arith)),
+      (c.requires, subst (NotesRead a.s.words bs l.d) q l.invariant.0),
     )

@@ -1,22 +1,6 @@
 use mathlib.Core.Path.{sym, ◌∙◌}
-use native.Mathlib.Omega.{arith}
-use Rattle.sheet_types.specs.TopLaws.{whole_top, large-top, many-top, other-top, short-top, no_top}
+use Rattle.sheet_types.specs.TopLaws.{other-top, short-top, no_top}
 use Rattle.sheet_types.proofs.top_near_end.Goals as goal
-
-pub returns-then-h-ge192 : goal.returns-then-h-ge192
-returns-then-h-ge192 c =
-    let b = c in
-    (large-top _ _ _ _ (sym b.read.ensures ∙ b.in-Some.is) (omega arith), tt)
-
-pub returns-then-h-gt8 : goal.returns-then-h-gt8
-returns-then-h-gt8 c =
-    let b = c in
-    (many-top _ _ _ _ (sym b.read.ensures ∙ b.in-Some.is) (omega arith) (omega arith), tt)
-
-pub returns-else-h-gt8 : goal.returns-else-h-gt8
-returns-else-h-gt8 c =
-    let b = c in
-    (whole_top _ _ _ _ (sym b.read.ensures ∙ b.in-Some.is) (omega arith) (omega arith), (omega arith, omega arith))
 
 pub returns-then-v-eq3 : goal.returns-then-v-eq3
 returns-then-v-eq3 c =

@@ -11,4 +11,4 @@ use Rattle.sheet_within.proofs.is_plain_each.Given as goal
 
 abbrev pub invariant-loop : goal.invariant-loop
 invariant-loop l =
-    (xs : List Annotation) × (repeat (annotation l.limit l.single) l.n (drop l.at (bits_of l.s)) ≡ repeat_onto xs (annotation l.limit l.single) (l.n - l.counter) (drop l.p (bits_of l.s))) × Apart xs l.top
+    (xs : List Annotation) × (repeat (annotation l.s.words l.single) l.n (drop l.at (bits_of l.s.bytes.now)) ≡ repeat_onto xs (annotation l.s.words l.single) (l.n - l.counter) (drop l.p (bits_of l.s.bytes.now))) × Apart xs l.top

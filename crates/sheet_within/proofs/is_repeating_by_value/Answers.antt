@@ -8,13 +8,13 @@ use Rattle.sheet_within.proofs.is_repeating_by_value.Goals as goal
 pub returns-in-Ok : goal.returns-in-Ok
 returns-in-Ok c =
     let a = c.args in
-    let bs = bits_of a.s.now in
+    let bs = bits_of a.s.bytes.now in
     let r = c.read_annotations in
-    c.is_repeating.ensures ∙ ap repeats_in (rw c.in-Ok.is at (by_value a.limit a.single bs (drop a.at bs) r.result c.requires.2 r.ensures))
+    c.is_repeating.ensures ∙ ap repeats_in (rw c.in-Ok.is at (by_value a.s.words a.single bs (drop a.at bs) r.result c.requires r.ensures))
 
 pub returns-in-Err : goal.returns-in-Err
 returns-in-Err c =
     let a = c.args in
-    let bs = bits_of a.s.now in
+    let bs = bits_of a.s.bytes.now in
     let r = c.read_annotations in
-    absurd (rw c.in-Err.is at (by_value a.limit a.single bs (drop a.at bs) r.result c.requires.2 r.ensures))
+    absurd (rw c.in-Err.is at (by_value a.s.words a.single bs (drop a.at bs) r.result c.requires r.ensures))

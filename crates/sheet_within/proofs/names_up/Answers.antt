@@ -17,11 +17,11 @@ pub loop-preserved : goal.loop-preserved
 loop-preserved c =
     let l = c.loop in
     let a = c.args in
-    let bs = bits_of a.s.now in
+    let bs = bits_of a.s.bytes.now in
     let v = c.in-Ok in
     let e = sym c.read_key.ensures ∙ ap (of_key_read bs) v.is in (
       l.invariant.0 ++ (name_of_key v.key ∷ []),
-      l.invariant.1 ∙ repeat-next l.invariant.0 (name a.limit) a.n l.counter (drop l.next.at bs) (name_of_key v.key) (drop v.end.at bs) (omega arith) e,
+      l.invariant.1 ∙ repeat-next l.invariant.0 (name a.s.words) a.n l.counter (drop l.next.at bs) (name_of_key v.key) (drop v.end.at bs) (omega arith) e,
       rising-more l.invariant.0 a.low l.top v.key l.invariant.2 (omega (arith, c.if-a-top.false)),
     )
 
@@ -29,12 +29,12 @@ pub returns : goal.returns
 returns c =
     let l = c.loop in
     let a = c.args in
-    let bs = bits_of a.s.now in
+    let bs = bits_of a.s.bytes.now in
     let r = l.invariant.2 in
     record {
       names = record {
         rows = l.invariant.0;
-        read = l.invariant.1 ∙ repeat-none l.invariant.0 (name a.limit) _ (drop l.next.at bs) (omega arith);
+        read = l.invariant.1 ∙ repeat-none l.invariant.0 (name a.s.words) _ (drop l.next.at bs) (omega arith);
         once = r.once;
         from = r.from;
         below = r.below;

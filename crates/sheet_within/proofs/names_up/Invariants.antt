@@ -10,4 +10,4 @@ use Rattle.sheet_within.proofs.names_up.Given as goal
 
 abbrev pub invariant-loop : goal.invariant-loop
 invariant-loop l =
-    (rows : List (List ℕ)) × (repeat (name l.limit) l.n (drop l.at (bits_of l.s)) ≡ repeat_onto rows (name l.limit) (l.n - l.counter) (drop l.next.at (bits_of l.s))) × Rising rows l.low l.top
+    (rows : List (List ℕ)) × (repeat (name l.s.words) l.n (drop l.at (bits_of l.s.bytes.now)) ≡ repeat_onto rows (name l.s.words) (l.n - l.counter) (drop l.next.at (bits_of l.s.bytes.now))) × Rising rows l.low l.top

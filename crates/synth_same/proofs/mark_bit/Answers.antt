@@ -1,9 +1,7 @@
 use mathlib.Core.Path.{sym, ap, ◌∙◌}
-use Prim.Native.Nat.{ℕ, ◌-◌}
 use native.Mathlib.Omega.{arith}
-use Rattle.rows.specs.Rows.{has_bit}
 use Rattle.synth_classes.specs.Doms.{doms_left}
-use Rattle.synth_same.specs.MarkLaws.{width-some, width-no, seeking-start, seeking-next, seeking-same, seeking-found, seeking-end}
+use Rattle.synth_same.specs.MarkLaws.{width-some, width-no, seeking-start, seeking-next, seeking-same, seeking-found}
 use Rattle.synth_same.proofs.mark_bit.Goals as goal
 
 pub loop-dom-init : goal.loop-dom-init
@@ -11,10 +9,9 @@ loop-dom-init c = seeking-start _ _ _ _ _ (ap doms_left c.into_iter-dom-iterator
 
 pub returns-then-left-width : goal.returns-then-left-width
 returns-then-left-width c =
-    let w = c.width_at-width in
     let e = sym c.in-Some-class_place.ensures in
-    c.has.ensures ∙ ap (λ (x : ℕ). has_bit x (w.result - 1 - c.loop-dom.left)) c.marks_at.ensures
-    ∙ seeking-found _ _ _ _ _ _ c.in-Some.dom _ _ _ c.in-Some.ensures.steps e (width-some _ _ _ _ _ e w.ensures.0) (omega arith) c.loop-dom.invariant
+    c.has.ensures
+    ∙ seeking-found _ _ _ _ _ _ c.in-Some.dom _ _ _ c.in-Some.ensures.steps e (width-some _ _ _ _ _ e c.width_at-width.ensures.0) (omega arith) c.loop-dom.invariant
 
 pub loop-dom-preserved-in-Some-class_place : goal.loop-dom-preserved-in-Some-class_place
 loop-dom-preserved-in-Some-class_place c =
@@ -22,6 +19,3 @@ loop-dom-preserved-in-Some-class_place c =
 
 pub loop-dom-preserved : goal.loop-dom-preserved
 loop-dom-preserved c = seeking-same _ _ _ _ _ _ c.in-Some.dom _ c.in-Some.ensures.steps (width-no _ _ _ (sym c.in_default.ensures)) c.loop-dom.invariant
-
-pub returns : goal.returns
-returns c = seeking-end _ _ _ _ _ _ c.in-None.ensures.steps.0 c.loop-dom.invariant

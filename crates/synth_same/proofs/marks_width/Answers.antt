@@ -1,14 +1,10 @@
 use mathlib.Core.Path.{sym, ap, ◌∙◌}
-use native.Mathlib.Omega.{arith}
 use Rattle.synth_classes.specs.Doms.{doms_left}
-use Rattle.synth_same.specs.MarkLaws.{width-some, width-no, counting-start, counting-next, counting-same, counting-room, counting-end}
+use Rattle.synth_same.specs.MarkLaws.{width-some, width-no, counting-start, counting-next, counting-same}
 use Rattle.synth_same.proofs.marks_width.Goals as goal
 
 pub loop-dom-init : goal.loop-dom-init
 loop-dom-init c = counting-start _ _ _ _ (ap doms_left c.into_iter-dom-iterator.ensures.into_iter_gives ∙ c.of-dom-items.ensures)
-
-pub overflow_add-n : goal.overflow_add-n
-overflow_add-n c = omega (arith, counting-room _ _ _ _ _ c.in-Some.dom _ c.in-Some.ensures.steps c.loop-dom.invariant, c.width_at-n.ensures.1)
 
 pub loop-dom-preserved-in-Some-class_place : goal.loop-dom-preserved-in-Some-class_place
 loop-dom-preserved-in-Some-class_place c =
@@ -17,6 +13,3 @@ loop-dom-preserved-in-Some-class_place c =
 
 pub loop-dom-preserved : goal.loop-dom-preserved
 loop-dom-preserved c = counting-same _ _ _ _ _ c.in-Some.dom _ c.in-Some.ensures.steps (width-no _ _ _ (sym c.in_default.ensures)) c.loop-dom.invariant
-
-pub returns : goal.returns
-returns c = counting-end _ _ _ _ _ c.in-None.ensures.steps.0 c.loop-dom.invariant

@@ -1,6 +1,5 @@
-use Rattle.order_table.specs.Form.{form_of}
 use Rattle.visiting.specs.Going.{Trying}
 use Rattle.visiting.proofs.trail_of.Given as goal
 
 abbrev pub invariant-loop-t : goal.invariant-loop-t
-invariant-loop-t l = Trying (form_of l.l) l.t l.s
+invariant-loop-t l = Trying l.l l.t l.trail

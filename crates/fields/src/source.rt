@@ -1,0 +1,13 @@
+// A sheet whose words are counted.
+ghost use Rattle.std.specs.Prelude.{◌≤◌};
+ghost use Rattle.bits.specs.Reading.{Addressable};
+
+// The bytes of a sheet, lent, and how many words it has: each word field is below that (FORMAT 2.5).
+#[derive(Clone, Copy)]
+pub struct Sheet<'a> {
+    pub bytes: &'a [u8],
+    pub words: usize,
+    ghost addressable: { Addressable bytes.now },
+    // 255 stands for no word.
+    ghost few: { words ≤ 255 },
+}

@@ -1,0 +1,13 @@
+-- The numbers of the kinds of annotations (FORMAT 2.7).
+use Rattle.std.specs.Prelude.{ℕ}
+use Rattle.records.specs.declared.Kind.{Kind}
+use Rattle.records.specs.declared.Kind.TheVariants.{MakeList, Associate, NestAssociate, Alias, Inherit, Derive, NoDerive}
+
+abbrev pub number_of : Kind → ℕ
+number_of MakeList = 0
+number_of Associate = 1
+number_of NestAssociate = 2
+number_of Alias = 3
+number_of Inherit = 4
+number_of Derive = 5
+number_of NoDerive = 6
