@@ -15,6 +15,7 @@ use Rattle.definitions.specs.Answer.{Call, order, schedule, schedule_of}
 use Rattle.line_laws.specs.Statements.{Readable, line_map, any_refused}
 use Rattle.synthesis_laws.specs.Rows.{rows-are-tested}
 use Rattle.sheet_draft.specs.declared.Draft.{Draft}
+use Rattle.sheet_draft.specs.declared.entry.Entry.{Entry}
 use Rattle.catalogue.specs.declared.Catalogue.{Catalogue}
 use Rattle.order_compact.specs.Reading.{Drawn}
 use Rattle.order_listing.specs.Listing.{Listing}
@@ -33,7 +34,7 @@ listed-so bits l l' d a q = answered a _ l' d _ q.answer due
     due = by (ltb (length l) (size (length bits))) (λ s. rw (q.listing, s)) (λ s. rw (q.listing, s))
 
 -- 8 is due to either call where there is no order
-pub unordered-so : (call : Call) (t : Catalogue) (d : Draft) (entries : List ℕ) (n w : ℕ) (m : TypeMap) → Drawn m t d entries n w → (l b b' : List ℕ) (a : Answer) → has_order m ≡ false
+pub unordered-so : (call : Call) (t : Catalogue) (d : Draft) (entries : List Entry) (n w : ℕ) (m : TypeMap) → Drawn m t d entries n w → (l b b' : List ℕ) (a : Answer) → has_order m ≡ false
     → Unordered t d entries n w b b' a → Answered a l b' (ended call m l b)
 unfolding ended
 unordered-so call t d entries n w m e l b b' a f q = answered-as a l b' _ _ (q.due m e l) (sym (rw f))

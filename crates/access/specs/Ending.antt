@@ -9,6 +9,7 @@ use Rattle.definitions.specs.OrderRows.{order_rows}
 use Rattle.definitions.specs.Packing.{row_bytes}
 use Rattle.definitions.specs.Answer.{Call, Outcome, schedule_of, bits_written, synthesis_rows, overwrite}
 use Rattle.sheet_draft.specs.declared.Draft.{Draft}
+use Rattle.sheet_draft.specs.declared.entry.Entry.{Entry}
 use Rattle.catalogue.specs.declared.Catalogue.{Catalogue}
 use Rattle.order_compact.specs.Reading.{Drawn}
 use Rattle.answers.specs.Answers.{Answer, parts, Answered}
@@ -43,5 +44,5 @@ ended call m listing diagnosis =
 -- ---- what the parts of the code leave
 
 -- 8, for every map that the draft has
-pub record Unordered (t : Catalogue) (d : Draft) (entries : List ℕ) (n w : ℕ) (entry exit : List ℕ) (r : Answer) : Type 0 where
+pub record Unordered (t : Catalogue) (d : Draft) (entries : List Entry) (n w : ℕ) (entry exit : List ℕ) (r : Answer) : Type 0 where
   pub due : (m : TypeMap) → Drawn m t d entries n w → (listing : List ℕ) → Answered r listing exit (diagnosed 8 (order_rows m) listing entry)

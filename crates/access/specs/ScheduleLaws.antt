@@ -1,5 +1,5 @@
 -- What the schedule call works on: the tables where rows are written, and the catalogue where it is filled.
-use Rattle.std.specs.Prelude.{Bool, true, false, List, ◌≡◌, ℕ, ◌*◌, ◌<◌, length}
+use Rattle.std.specs.Prelude.{Bool, true, false, List, ◌≡◌, ℕ, ◌*◌, ◌<◌, length, Option}
 use Rattle.std.proofs.Common.{refl, sym, ap, ◌∙◌, subst, arith}
 use Rattle.lists.specs.Tabulating.{tabulate, tabulate-same}
 use Rattle.definitions.specs.Bits.{bits_of}
@@ -9,13 +9,15 @@ use Rattle.definitions.specs.Order.{has_order}
 use Rattle.line_laws.specs.Statements.{line_map, any_refused}
 use Rattle.rows.specs.Rows.{has_bit}
 use Rattle.ordering.specs.declared.Parents.{Parents}
+use Rattle.own_associates.specs.declared.Location.{Location}
 use Rattle.synthesis.specs.Synthesized.{Synthesizes, Synthesized}
 use Rattle.synth_places.specs.Places as places
 use Rattle.synth_places.specs.PlaceLaws.{readable, noted}
 use Rattle.sheet_extensions.specs.Records as extensions
-use Rattle.sheet_decode.specs.declared.Decoding.{Decoding}
+use Rattle.sheet_draft.specs.declared.Decoding.{Decoding}
 use Rattle.sheet_decode.specs.Decodes.{Whole}
 use Rattle.sheet_draft.specs.declared.Draft.{Draft}
+use Rattle.sheet_draft.specs.declared.entry.Entry.{Entry}
 use Rattle.catalogue.specs.Catalogue.{Catalogued}
 use Rattle.catalogue.specs.declared.Catalogue.{Catalogue}
 use Rattle.order_parents.specs.MapLaws.{parent-sets, childed-are}
@@ -24,35 +26,34 @@ use Rattle.order_compact.specs.Reading as compact
 use Rattle.order_compact.specs.Reading.{Compacts}
 use Rattle.order_compact.specs.SheetLaws.{drafts-of, drawn-of}
 use Rattle.item_entries.specs.Entries.{firsts_of, seconds_of}
-use Rattle.item_draft.specs.declared.Known.{Known}
+use Rattle.item_draft.specs.declared.Placing.{Placing}
 use Rattle.item_draft.specs.Fill.{Drawn, NamesStand, record_in, Stands, Fillable, Fills}
 use Rattle.item_draft.specs.Standing.{record-as, records-stand}
 use Rattle.item_draft.specs.Rows as rows
 use Rattle.item_refusal.specs.Tests.{Decides}
 use Rattle.item_schedule.specs.Schedule.{Orderly}
 use Rattle.answers.specs.Answers.{Answer, parts, answer_of}
-use Rattle.access.specs.declared.Placing.{Placing}
-use Rattle.access.specs.Tables.{known_of, Looked, FilledFor, RowsDue}
+use Rattle.access.specs.Tables.{Looked, FilledFor, RowsDue}
 use Rattle.access.specs.TableLaws as tables
 use Rattle.access.specs.EndLaws.{rows-so}
 
 -- ---- the rows of 9
 
-module _ (bytes : List ℕ) (d : Draft) (entries : List ℕ) (t : Catalogue) (n : Decoding) (s : Sheet) (f : FilledFor s bytes d entries t n) where
+module _ (bytes : List ℕ) (d : Draft) (entries : List Entry) (t : Catalogue) (n : Decoding) (s : Sheet) (f : FilledFor s bytes d entries t n) where
   abbrev bs : List Bool
   bs = bits_of bytes
 
   pub drafts : Drafts d entries n.count
-  drafts = drafts-of s bs d entries n.count f.drawn.drafted f.drawn.entered.long f.drawn.sorted f.drawn.within
+  drafts = drafts-of s bs d entries n.count f.drawn.drafted f.drawn.entered f.drawn.sorted f.drawn.within
 
   pub standing : places.Readable n.width (bits_of bytes) d entries n.count
   standing = subst (λ (W : ℕ). places.Readable W bs d entries n.count) (sym f.width) (readable s bs d entries n.count f.drawn)
 
-  pub synthesizes : (p : Parents) (notes : List ℕ) → Compacts t d entries n.count n.own p → places.Numbered n.width (bits_of bytes) d entries n.count notes
+  pub synthesizes : (p : Parents) (notes : List (Option Location)) → Compacts t d entries n.count n.own p → places.Located n.width (bits_of bytes) d entries n.count notes
       → Synthesizes s t (bits_of bytes) notes p
   synthesizes p notes c k =
       let r = c.reads (type_map_of s) f.sketch in
-      let q = subst (λ (W : ℕ). places.Numbered W bs d entries n.count notes) f.width k in
+      let q = subst (λ (W : ℕ). places.Located W bs d entries n.count notes) f.width k in
       let e : p.count ≡ n.count = r.count ∙ rows.count-types s bs d entries n.count f.drawn in
       record {
         held = record {
@@ -65,8 +66,8 @@ module _ (bytes : List ℕ) (d : Draft) (entries : List ℕ) (t : Catalogue) (n 
         known = record { readable = f.drawn.readable; within = f.drawn.within; listed = f.catalogued.listed };
       }
 
-pub rows-due : (bytes : List ℕ) (d : Draft) (entries : List ℕ) (t : Catalogue) (n : Decoding) (p : Parents) (notes : List ℕ) → Compacts t d entries n.count n.own p
-    → places.Numbered n.width (bits_of bytes) d entries n.count notes → (b b' : List ℕ) (count : ℕ) (more : Bool) (a : Answer)
+pub rows-due : (bytes : List ℕ) (d : Draft) (entries : List Entry) (t : Catalogue) (n : Decoding) (p : Parents) (notes : List (Option Location)) → Compacts t d entries n.count n.own p
+    → places.Located n.width (bits_of bytes) d entries n.count notes → (b b' : List ℕ) (count : ℕ) (more : Bool) (a : Answer)
     → Synthesized t (bits_of bytes) notes p b b' count more → answer_of a ≡ parts 9 0 count more → RowsDue bytes d entries t n b b' a
 rows-due bytes d entries t n p notes c k b b' count more a q u = record {
   due = λ s f r l. rows-so s f.drawn.readable f.order l b b' count more a r (q.written s (synthesizes bytes d entries t n s f p notes c k)) u;
@@ -74,7 +75,7 @@ rows-due bytes d entries t n p notes c k b b' count more a q u = record {
 
 -- ---- the catalogue
 
-module _ (bytes : List ℕ) (d : Draft) (entries : List ℕ) (t : Catalogue) (n : Decoding) (w : Whole bytes d entries t n) (u : Catalogue) (places : List ℕ) (r : Placing) (o : Looked d entries t u n places true r) where
+module _ (bytes : List ℕ) (d : Draft) (entries : List Entry) (t : Catalogue) (n : Decoding) (w : Whole bytes d entries t n) (u : Catalogue) (places : List ℕ) (r : Placing) (o : Looked d entries t u n places true r) where
   abbrev s : Sheet
   s = w.s
 
@@ -99,7 +100,7 @@ module _ (bytes : List ℕ) (d : Draft) (entries : List ℕ) (t : Catalogue) (n 
   unfolding type_map_of
   word-is = w.resource
 
-  pub stands : Stands w.s (bits_of bytes) d entries places u (known_of n r)
+  pub stands : Stands w.s (bits_of bytes) d entries places u n r
   stands =
       let q = tables.rows_before bytes d entries t n w o.named u r.words o.parents o.names o.put in
       let p = parent-sets m d entries n.count (n.own * 256) o.named u o.parents q o.put in
@@ -115,18 +116,15 @@ module _ (bytes : List ℕ) (d : Draft) (entries : List ℕ) (t : Catalogue) (n 
         extensions = records;
       }
 
-  pub fillable : (k : Known) → k ≡ known_of n r → Fillable (bits_of bytes) d entries places u k
-  fillable k q = rw q (record { sheet = s; stands = stands })
+  pub fillable : Fillable (bits_of bytes) d entries places u n r
+  fillable = record { sheet = s; stands = stands }
 
   pub has-order : has_order (type_map_of w.s) ≡ true
   has-order = tables.found-is bytes d entries t n w u places true r o
 
-  module _ (k : Known) (q : k ≡ known_of n r) (v : Catalogue) (lost b : Bool) (g : Fills (bits_of bytes) d entries places u k v lost) (x : Decides v lost b) where
-    filled : Fills (bits_of bytes) d entries places u (known_of n r) v lost
-    filled = subst (λ (y : Known). Fills (bits_of bytes) d entries places u y v lost) q g
-
+  module _ (v : Catalogue) (lost b : Bool) (g : Fills (bits_of bytes) d entries places u n r v lost) (x : Decides v lost b) where
     catalogued : Catalogued s v
-    catalogued = filled.catalogued s stands
+    catalogued = g.catalogued s stands
 
     drawn : Drawn s (bits_of bytes) d entries n.count
     drawn = tables.drawn bytes d entries t n w
@@ -138,14 +136,14 @@ module _ (bytes : List ℕ) (d : Draft) (entries : List ℕ) (t : Catalogue) (n 
       width = w.width;
       sketch =
           subst (λ (y : ℕ). compact.Drawn m v d entries n.count y) (sym (tables.self-is bytes d entries t n w))
-          (drawn-of s (bits_of bytes) d entries n.count w.drafted w.entered.long drawn.sorted v (tables.within bytes d entries t n w) catalogued.listed (tables.listable bytes d entries t n w));
+          (drawn-of s (bits_of bytes) d entries n.count w.drafted w.entered drawn.sorted v (tables.within bytes d entries t n w) catalogued.listed (tables.listable bytes d entries t n w));
       catalogued = catalogued;
       order = has-order;
     }
 
     -- the test of the catalogue is that of the map
     pub refused-is : b ≡ any_refused (line_map w.s)
-    refused-is = x.right s (tables.readable bytes d entries t n w) (tables.within bytes d entries t n w) catalogued (filled.lost s stands)
+    refused-is = x.right s (tables.readable bytes d entries t n w) (tables.within bytes d entries t n w) catalogued (g.lost s stands)
 
     pub orderly : b ≡ false → Orderly w.s v places n.count
     orderly e = record {

@@ -1,6 +1,6 @@
 -- What the tables say of the map, at each step of a call.
 use Rattle.std.specs.Prelude.{Bool, true, List, map, ◌≡◌, refl, ℕ, zero, suc, ◌*◌, ◌≤◌, ◌<◌, length}
-use Rattle.std.proofs.Math.Path.{sym, ap}
+use Rattle.std.proofs.Math.Path.{sym, ap, subst}
 use Rattle.std.proofs.Common.{◌∙◌, arith}
 use Rattle.std.proofs.Math.ListN.{get_or}
 use Rattle.lists.specs.Tests.{never}
@@ -17,11 +17,13 @@ use Rattle.line_laws.specs.Within as line-within
 use Rattle.ordering.specs.Lists.{tab}
 use Rattle.ordering.specs.Reading.{type_at}
 use Rattle.ordering.specs.Compact.{Within}
+use Rattle.fields.specs.Keys.{key_of}
 use Rattle.sheet_draft.specs.Draft.{parent_at, parent_count_at}
 use Rattle.sheet_draft.specs.declared.Draft.{Draft}
+use Rattle.sheet_draft.specs.declared.entry.Entry.{Entry}
 use Rattle.sheet_types.specs.Rows.{is_done}
 use Rattle.sheet_order.specs.RowLaws.{rows-by-name}
-use Rattle.sheet_decode.specs.declared.Decoding.{Decoding}
+use Rattle.sheet_draft.specs.declared.Decoding.{Decoding}
 use Rattle.sheet_decode.specs.Decodes.{Whole}
 use Rattle.catalogue.specs.Layout.{key_at}
 use Rattle.catalogue.specs.declared.Catalogue.{Catalogue}
@@ -32,6 +34,7 @@ use Rattle.item_entries.specs.EntryLaws.{key-at}
 use Rattle.item_draft.specs.Fill.{Drawn, NamesStand}
 use Rattle.item_draft.specs.Standing.{names_stand, looked-bits, looked-most, parents-listed, parents-small}
 use Rattle.item_draft.specs.Rows as rows
+use Rattle.item_draft.specs.declared.Placing.{Placing}
 use Rattle.order_parents.specs.declared.Found.{Found}
 use Rattle.order_parents.specs.Parents.{row_of, Prepared, ParentsPut}
 use Rattle.order_parents.specs.Known.{Looks, Rows}
@@ -42,7 +45,6 @@ use Rattle.order_compact.specs.Compact.{Drafts}
 use Rattle.order_compact.specs.Reading as compact
 use Rattle.order_compact.specs.SheetLaws.{names_of, drafts-of}
 use Rattle.order_listing.specs.Order.{name_of, names_in, order_in, Placed}
-use Rattle.access.specs.declared.Placing.{Placing}
 use Rattle.access.specs.Tables.{Looked}
 use Rattle.access.specs.ReadLaws as read
 
@@ -56,7 +58,15 @@ done_at : {A : Type 0} (p : Parsed A) → is_done p ≡ true → (a : A) × (res
 done_at (done a rest) e = (a, rest, refl)
 done_at (refused r) e = never e refl
 
-module _ (bytes : List ℕ) (d : Draft) (entries : List ℕ) (t : Catalogue) (n : Decoding) (w : Whole bytes d entries t n) where
+-- the parents that were put, by the key of the one word of `self`
+pub own-put : (d : Draft) (entries : List Entry) (n w key : ℕ) (old new : Catalogue) (f : Found) → key ≡ key_of (record { first = w; second = 255 })
+    → ParentsPut d entries key n old new f → ParentsPut d entries (w * 256) n old new f
+own-put d entries n w key old new f e = subst (λ (k : ℕ). ParentsPut d entries k n old new f) (e ∙ one)
+  where
+    one : key_of (record { first = w; second = 255 }) ≡ w * 256
+    one = omega arith
+
+module _ (bytes : List ℕ) (d : Draft) (entries : List Entry) (t : Catalogue) (n : Decoding) (w : Whole bytes d entries t n) where
   abbrev s : Sheet
   s = w.s
 
@@ -76,7 +86,7 @@ module _ (bytes : List ℕ) (d : Draft) (entries : List ℕ) (t : Catalogue) (n 
   listable = read.readable bytes s w.holds
 
   sorted : ByName s bs d entries n.count
-  sorted = rows-by-name (length s.words) bs d n.count w.drafted.few entries w.entered
+  sorted = rows-by-name (length s.words) bs d n.count entries w.entered
 
   pub drawn : Drawn w.s (bits_of bytes) d entries n.count
   drawn = record {
@@ -95,10 +105,10 @@ module _ (bytes : List ℕ) (d : Draft) (entries : List ℕ) (t : Catalogue) (n 
   narrow = omega (arith, w.width, within.words)
 
   pub prepared : Prepared d entries n.count
-  prepared = prepared-of s bs d entries n.count w.drafted w.entered.long sorted within
+  prepared = prepared-of s bs d entries n.count w.drafted w.entered sorted within
 
   pub drafts : Drafts d entries n.count
-  drafts = drafts-of s bs d entries n.count w.drafted w.entered.long sorted within
+  drafts = drafts-of s bs d entries n.count w.drafted w.entered sorted within
 
   pub self-is : n.own ≡ (type_map_of w.s).self
   unfolding type_map_of
@@ -144,7 +154,7 @@ module _ (bytes : List ℕ) (d : Draft) (entries : List ℕ) (t : Catalogue) (n 
     pub sketched : compact.Drawn (type_map_of w.s) new d entries n.count n.own
     sketched = record {
       rows = listed-rows new words stand;
-      names = names_of s bs d entries n.count w.drafted w.entered.long sorted;
+      names = names_of s bs d entries n.count w.drafted w.entered sorted;
       within = listable;
       word = self-is;
     }

@@ -7,41 +7,41 @@ use Rattle.definitions.specs.Order.{has_order}
 use Rattle.definitions.specs.Answer.{most_row_bytes, order, schedule}
 use Rattle.line_laws.specs.Statements.{line_map, any_refused}
 use Rattle.sheet_draft.specs.declared.Draft.{Draft}
+use Rattle.sheet_draft.specs.declared.entry.Entry.{Entry}
 use Rattle.catalogue.specs.Catalogue.{Catalogued}
 use Rattle.catalogue.specs.declared.Catalogue.{Catalogue}
 use Rattle.item_draft.specs.Fill.{Drawn}
-use Rattle.item_draft.specs.declared.Known.{Known}
+use Rattle.item_draft.specs.declared.Placing.{Placing}
 use Rattle.item_names.specs.Names.{NamesPut}
 use Rattle.item_entries.specs.Entries.{firsts_of, seconds_of}
 use Rattle.order_parents.specs.declared.Found.{Found}
 use Rattle.order_parents.specs.Parents.{ParentsPut}
 use Rattle.order_rounds.specs.Organized.{Organized}
 use Rattle.order_compact.specs.Reading as compact
-use Rattle.sheet_decode.specs.declared.Decoding.{Decoding}
+use Rattle.sheet_draft.specs.declared.Decoding.{Decoding}
 use Rattle.sheet_decode.specs.Decodes.{Whole}
 use Rattle.answers.specs.declared.Refusal.{Refusal}
 use Rattle.answers.specs.Answers.{Answer, Answered}
 use Rattle.answers.specs.Telling.{Refuses}
-use Rattle.access.specs.declared.Placing.{Placing}
 use Rattle.access.specs.Ending.{ended}
 
 -- The bytes are refused by none of 1 to 7, and the tables have their sheet (FORMAT 7.3).
-pub record Taken (s : List ℕ) (room : ℕ) (d : Draft) (entries : List ℕ) (t : Catalogue) (r : Decoding) : Type 0 where
+pub record Taken (s : List ℕ) (room : ℕ) (d : Draft) (entries : List Entry) (t : Catalogue) (r : Decoding) : Type 0 where
   pub short : length s ≤ 40960
   pub enough : most_row_bytes ≤ room
   pub whole : Whole s d entries t r
 
 -- Or they are refused by each call that lends a diagnosis slice of so many bytes, and both slices stay (FORMAT 7.3).
-abbrev pub Takes : List ℕ → ℕ → Draft → List ℕ → Catalogue → Result Decoding Refusal → Type 0
+abbrev pub Takes : List ℕ → ℕ → Draft → List Entry → Catalogue → Result Decoding Refusal → Type 0
 Takes s room d entries t r = MatchResult r (λ n. Taken s room d entries t n) (λ e. Refuses s room e)
 
 -- Some bytes hold the sheet of which the tables have the types.
-pub record Decoded (d : Draft) (entries : List ℕ) (t : Catalogue) (n : Decoding) : Type 0 where
+pub record Decoded (d : Draft) (entries : List Entry) (t : Catalogue) (n : Decoding) : Type 0 where
   pub bytes : List ℕ
   pub whole : Whole bytes d entries t n
 
 -- Names and parents of the types went into the decoder's table, and the order was looked for (FORMAT 3.2).
-pub record Looked (d : Draft) (entries : List ℕ) (old new : Catalogue) (n : Decoding) (places : List ℕ) (found : Bool) (r : Placing) : Type 0 where
+pub record Looked (d : Draft) (entries : List Entry) (old new : Catalogue) (n : Decoding) (places : List ℕ) (found : Bool) (r : Placing) : Type 0 where
   pub named : Catalogue
   pub parents : Found
   pub names : NamesPut (firsts_of entries) (seconds_of entries) n.count n.width old named r.words
@@ -50,20 +50,16 @@ pub record Looked (d : Draft) (entries : List ℕ) (old new : Catalogue) (n : De
   pub organized : Organized new n.count parents.whole places found
 
 -- There is one, or none.
-abbrev pub Organizes : Draft → List ℕ → Catalogue → Catalogue → Decoding → List ℕ → Option Placing → Type 0
+abbrev pub Organizes : Draft → List Entry → Catalogue → Catalogue → Decoding → List ℕ → Option Placing → Type 0
 Organizes d entries old new n places r =
     MatchOption r ((p : Placing) × Looked d entries old new n places false p) (λ p. Looked d entries old new n places true p)
 
 -- What the order-only call owes to each sheet of which the tables have the types (FORMAT 7.3, 7.4).
-pub record Ordered (d : Draft) (entries : List ℕ) (t : Catalogue) (n : Decoding) (listing diagnosis : List ℕ) (r : Answer) (listing' diagnosis' : List ℕ) : Type 0 where
+pub record Ordered (d : Draft) (entries : List Entry) (t : Catalogue) (n : Decoding) (listing diagnosis : List ℕ) (r : Answer) (listing' diagnosis' : List ℕ) : Type 0 where
   pub due : (bytes : List ℕ) (w : Whole bytes d entries t n) → Answered r listing' diagnosis' (ended order (type_map_of w.s) listing diagnosis)
 
--- What is known when the catalogue is filled.
-abbrev pub known_of : Decoding → Placing → Known
-known_of n o = record { count = n.count; words = o.words; extensions = n.extensions; resource = n.resource; childed = o.childed; width = n.width }
-
 -- The tables have the sheet that the bytes hold: its draft, and the catalogue of its map, which has an order (FORMAT 3.2).
-pub record FilledFor (s : Sheet) (bytes : List ℕ) (d : Draft) (entries : List ℕ) (t : Catalogue) (n : Decoding) : Type 0 where
+pub record FilledFor (s : Sheet) (bytes : List ℕ) (d : Draft) (entries : List Entry) (t : Catalogue) (n : Decoding) : Type 0 where
   pub short : length bytes ≤ 40960
   pub drawn : Drawn s (bits_of bytes) d entries n.count
   pub width : n.width ≡ length s.words
@@ -72,10 +68,10 @@ pub record FilledFor (s : Sheet) (bytes : List ℕ) (d : Draft) (entries : List 
   pub order : has_order (type_map_of s) ≡ true
 
 -- 9 is due to each such sheet of which a type is refused (FORMAT 8.11).
-pub record RowsDue (bytes : List ℕ) (d : Draft) (entries : List ℕ) (t : Catalogue) (n : Decoding) (entry exit : List ℕ) (r : Answer) : Type 0 where
+pub record RowsDue (bytes : List ℕ) (d : Draft) (entries : List Entry) (t : Catalogue) (n : Decoding) (entry exit : List ℕ) (r : Answer) : Type 0 where
   pub due : (s : Sheet) → FilledFor s bytes d entries t n → any_refused (line_map s) ≡ true → (listing : List ℕ)
       → Answered r listing exit (ended schedule (type_map_of s) listing entry)
 
 -- What the schedule call owes to the sheet that the bytes hold (FORMAT 7.3, 7.4).
-pub record Scheduled (bytes : List ℕ) (d : Draft) (entries : List ℕ) (t : Catalogue) (n : Decoding) (listing diagnosis : List ℕ) (r : Answer) (listing' diagnosis' : List ℕ) : Type 0 where
+pub record Scheduled (bytes : List ℕ) (d : Draft) (entries : List Entry) (t : Catalogue) (n : Decoding) (listing diagnosis : List ℕ) (r : Answer) (listing' diagnosis' : List ℕ) : Type 0 where
   pub due : (w : Whole bytes d entries t n) → Answered r listing' diagnosis' (ended schedule (type_map_of w.s) listing diagnosis)

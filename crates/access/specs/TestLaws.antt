@@ -5,9 +5,10 @@ use Rattle.definitions.specs.Map.{type_map_of}
 use Rattle.definitions.specs.Answer as rules
 use Rattle.definitions.specs.Answer.{most_row_bytes, Call, Outcome, outcome}
 use Rattle.sheet_draft.specs.declared.Draft.{Draft}
+use Rattle.sheet_draft.specs.declared.entry.Entry.{Entry}
 use Rattle.catalogue.specs.declared.Catalogue.{Catalogue}
 use Rattle.sheet_decode.specs.Decodes.{Back, Decodes}
-use Rattle.sheet_decode.specs.declared.Decoding.{Decoding}
+use Rattle.sheet_draft.specs.declared.Decoding.{Decoding}
 use Rattle.answers.specs.declared.Refusal.{Refusal}
 use Rattle.answers.specs.Answers.{Answer, Answered, input_of}
 use Rattle.answers.specs.Telling.{Refuses}
@@ -25,13 +26,13 @@ turns-back s room h g r b = record {
 }
 
 -- what the decoder answers is what the tests leave
-pub takes : (s : List ℕ) (room : ℕ) (d : Draft) (entries : List ℕ) (t : Catalogue) → length s ≤ 40960 → most_row_bytes ≤ room → (r : Result Decoding Refusal) → Decodes s d entries t r
+pub takes : (s : List ℕ) (room : ℕ) (d : Draft) (entries : List Entry) (t : Catalogue) → length s ≤ 40960 → most_row_bytes ≤ room → (r : Result Decoding Refusal) → Decodes s d entries t r
     → Takes s room d entries t r
 takes s room d entries t h g (Ok n) w = record { short = h; enough = g; whole = w }
 takes s room d entries t h g (Err e) b = turns-back s room h g e b
 
 -- what ends a call is due to it
-pub due-so : (s : List ℕ) (room : ℕ) (d : Draft) (entries : List ℕ) (t : Catalogue) (x : Decoding) (p : Taken s room d entries t x) (call : Call) (l f l' f' : List ℕ) (a : Answer) → length f ≡ room
+pub due-so : (s : List ℕ) (room : ℕ) (d : Draft) (entries : List Entry) (t : Catalogue) (x : Decoding) (p : Taken s room d entries t x) (call : Call) (l f l' f' : List ℕ) (a : Answer) → length f ≡ room
     → Answered a l' f' (ended call (type_map_of p.whole.s) l f) → Answered a l' f' (outcome (input_of call s l f))
 due-so s room d entries t x p call l f l' f' a k n =
     answered-as a l' f' _ _ n (sym (remains call s l f p.short (let e = p.enough in omega arith) p.whole.s p.whole.holds))

@@ -1,7 +1,7 @@
 // The public calls.
 #![tactic(auto)]
 
-ghost use Rattle.std.specs.Prelude.{◌≡◌, ◌≤◌, length};
+ghost use Rattle.std.specs.Prelude.{◌≤◌, length};
 ghost use Rattle.definitions.specs.Records.{Sheet};
 ghost use Rattle.definitions.specs.Answer.{most_row_bytes, outcome};
 ghost use Rattle.order_compact.specs.Compact.{Drafts};
@@ -9,20 +9,21 @@ ghost use Rattle.sheet_decode.specs.Decodes.{Whole};
 ghost use Rattle.answers.specs.Answers.{answer_of, Answered, order_input, schedule_input};
 ghost use Rattle.access.specs.Ending.{Unordered};
 ghost use Rattle.access.specs.Lines.{LinesListed};
-ghost use Rattle.access.specs.Tables.{Takes, Decoded, Organizes, Ordered, known_of, FilledFor, RowsDue, Scheduled};
+ghost use Rattle.access.specs.Tables.{Takes, Decoded, Organizes, Ordered, FilledFor, RowsDue, Scheduled};
 
 use answers::{Answer, Refusal};
 use catalogue::Catalogue;
-use item_draft::Known;
+use fields::{Key, Name};
+use item_draft::Placing;
 use ordering::Parents;
-use sheet_decode::Decoding;
-use sheet_draft::Draft;
+use sheet_draft::{Decoding, Draft, Entry};
 
 // 8: the map has no order; its rows are written (FORMAT 8.3 to 8.5).
+// The slice's room is a clause here and below: a struct that lends it would have each say that it stays the same slice.
 fn no_order(
     t: &Catalogue,
     d: &Draft,
-    entries: &[u64; 64],
+    entries: &[Entry; 64],
     n: Decoding,
     diagnosis: &mut [u8],
 ) -> Answer
@@ -41,7 +42,7 @@ fn take(
     sheet: &[u8],
     room: usize,
     d: &mut Draft,
-    entries: &mut [u64; 64],
+    entries: &mut [Entry; 64],
     t: &mut Catalogue,
 ) -> Result<Decoding, Refusal>
     ensures { Takes sheet.now room d.new entries.new t.new result }
@@ -50,18 +51,11 @@ fn take(
     sheet_decode::decode(sheet, d, entries, t)
 }
 
-// What is known where there is an order: how many words are the last of a name, and the types that are a parent.
-#[derive(Clone, Copy)]
-struct Placing {
-    words: usize,
-    childed: u64,
-}
-
 // Puts the names and the parents of the types into the catalogue, and looks for the order.
 fn organize(
     t: &mut Catalogue,
     d: &Draft,
-    entries: &[u64; 64],
+    entries: &[Entry; 64],
     n: Decoding,
     places: &mut [u64; 64],
 ) -> Option<Placing>
@@ -69,7 +63,11 @@ fn organize(
     ensures { Organizes d.now entries.now t.old t.new n places.new result }
 {
     let words = item_entries::put_names(t, entries, n.count, n.width);
-    let parents = order_parents::put_parents(t, d, entries, n.count, n.own as u64 * 256);
+    let own = Name {
+        first: n.own,
+        second: 255,
+    };
+    let parents = order_parents::put_parents(t, d, entries, n.count, Key::from(own));
     if !order_rounds::organize_type_map(t, n.count, parents.whole, places) {
         return None;
     }
@@ -83,7 +81,7 @@ fn organize(
 fn end_order(
     t: &mut Catalogue,
     d: &Draft,
-    entries: &[u64; 64],
+    entries: &[Entry; 64],
     n: Decoding,
     listing: &mut [u8],
     diagnosis: &mut [u8],
@@ -104,24 +102,10 @@ pub fn order(sheet: &[u8], listing: &mut [u8], diagnosis: &mut [u8]) -> Answer
     ensures { Answered result listing.new diagnosis.new (outcome (order_input sheet.now listing.old diagnosis.old)) }
 {
     let mut d = Draft::blank();
-    let mut entries = [0u64; 64];
+    let mut entries = [Entry::blank(); 64];
     let mut t = Catalogue::blank();
     let n = take(sheet, diagnosis.len(), &mut d, &mut entries, &mut t)?;
     end_order(&mut t, &d, &entries, n, listing, diagnosis)
-}
-
-// What the filling of the catalogue is told.
-fn known(n: Decoding, o: Placing) -> Known
-    ensures { result ≡ known_of n o }
-{
-    Known {
-        count: n.count,
-        words: o.words,
-        extensions: n.extensions,
-        resource: n.resource as usize,
-        childed: o.childed,
-        width: n.width,
-    }
 }
 
 // 9: a type is refused; the rows of the synthesis are written (FORMAT 8.6 to 8.11). The catalogue of the map is filled.
@@ -129,7 +113,7 @@ fn type_refused(
     sheet: &[u8],
     t: &Catalogue,
     d: &Draft,
-    entries: &[u64; 64],
+    entries: &[Entry; 64],
     n: Decoding,
     diagnosis: &mut [u8],
 ) -> Answer
@@ -139,7 +123,7 @@ fn type_refused(
 {
     let mut l = Parents::blank();
     order_compact::fill(&mut l, t, d, entries, n.count, n.own);
-    let mut notes = [0u64; 64];
+    let mut notes = [None; 64];
     synth_places::fill(&mut notes, sheet, d, entries, n.count, n.width);
     let report = synthesis::apply_associate_annotations(sheet, t, &l, &notes, diagnosis);
     Err(Refusal::TypeRefused(report))
@@ -151,7 +135,7 @@ fn end_schedule(
     sheet: &[u8],
     t: &mut Catalogue,
     d: &Draft,
-    entries: &[u64; 64],
+    entries: &[Entry; 64],
     n: Decoding,
     listing: &mut [u8],
     diagnosis: &mut [u8],
@@ -164,8 +148,7 @@ fn end_schedule(
     let Some(o) = organize(t, d, entries, n, &mut places) else {
         return no_order(t, d, entries, n, diagnosis);
     };
-    let k = known(n, o);
-    let lost = item_draft::fill(t, sheet, d, entries, &places, k);
+    let lost = item_draft::fill(t, sheet, d, entries, &places, n, o);
     if lost {
         return type_refused(sheet, t, d, entries, n, diagnosis);
     }
@@ -181,7 +164,7 @@ pub fn schedule(sheet: &[u8], listing: &mut [u8], diagnosis: &mut [u8]) -> Answe
     ensures lines_listed { LinesListed sheet.now listing.old listing.new (answer_of result).number }
 {
     let mut d = Draft::blank();
-    let mut entries = [0u64; 64];
+    let mut entries = [Entry::blank(); 64];
     let mut t = Catalogue::blank();
     let n = take(sheet, diagnosis.len(), &mut d, &mut entries, &mut t)?;
     end_schedule(sheet, &mut t, &d, &entries, n, listing, diagnosis)

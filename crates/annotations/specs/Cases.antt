@@ -5,8 +5,9 @@ use Rattle.rows.specs.declared.Row.{Row}
 use Rattle.rows.specs.Rows.{has, empty}
 use Rattle.rows.specs.Lists.{between}
 use Rattle.definitions.specs.Records.{Dom, associate, inherit}
-use Rattle.annotations.specs.declared.AnnotationInfo.{AnnotationInfo}
-use Rattle.annotations.specs.Reading.{doms_of, resources_in, names_in, info_of, Held}
+use Rattle.records.specs.declared.Kind.TheVariants.{Associate, Inherit}
+use Rattle.annotations.specs.declared.info.AnnotationInfo.{AnnotationInfo}
+use Rattle.annotations.specs.Reading.{doms_of, resources_in, names_in, info_of}
 
 -- none, and the words 0, 63, 64, 191, 192, 199
 abbrev edge_doms : Row
@@ -14,15 +15,13 @@ edge_doms = record { a = 3; b = 3; c = 0; d = 259 }
 
 abbrev edges : AnnotationInfo
 edges = record {
-  kind = 1;
+  kind = Associate;
   tag = 0;
   count = 6;
   words = 0 ∷ 63 ∷ 64 ∷ 191 ∷ 192 ∷ 199 ∷ replicate 9 0;
   doms = replicate 15 edge_doms;
+  few = omega arith;
 }
-
-pub edges-held : Held edges
-edges-held = record { kind = omega arith; few = omega arith }
 
 abbrev edge_dom_list : List Dom
 edge_dom_list = [] ∷ (0 ∷ []) ∷ (63 ∷ []) ∷ (64 ∷ []) ∷ (191 ∷ []) ∷ (192 ∷ []) ∷ (199 ∷ []) ∷ []
@@ -34,11 +33,12 @@ edges-read = refl
 -- an Inherit of the names `5` and `199.7`
 abbrev two_names : AnnotationInfo
 two_names = record {
-  kind = 4;
+  kind = Inherit;
   tag = 0;
   count = 2;
   words = 5 ∷ 7 ∷ replicate 13 0;
   doms = record { a = 1; b = 0; c = 0; d = 0 } ∷ record { a = 0; b = 0; c = 0; d = 256 } ∷ replicate 13 empty;
+  few = omega arith;
 }
 
 pub names-read : info_of two_names ≡ inherit ((5 ∷ []) ∷ (199 ∷ 7 ∷ []) ∷ [])

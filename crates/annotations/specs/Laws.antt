@@ -4,7 +4,7 @@ use mathlib.Core.List.{List, [], ◌∷◌, ◌++◌, map, append-nil}
 use Rattle.std.specs.Prelude.{◌⊎◌, ◌≡◌, ℕ, zero, suc, ◌+◌, ◌<◌, ◌≤◌, eqb, ltb}
 use Rattle.std.proofs.Common.{inl, inr, ⊎_elim, ap₂, ◌∙◌, add-one, le_of_suc-le-suc, not-suc-le-zero, arith, take-suc, take-suc-set, length-take-le}
 use Rattle.std.proofs.Math.Path.{refl, sym, ap}
-use borrow.Author.Tests.{eq-eqb, ne_eqb, eqb-true, eqb-false, lt-ltb, le-ltb}
+use borrow.Author.Tests.{eq-eqb, ne_eqb, lt-ltb, le-ltb}
 use lib.ListN.{length, get_or, take, set}
 use Rattle.std.proofs.lemmas.List.{take-set-le}
 use Rattle.std.specs.Bool.{then_some}
@@ -20,8 +20,11 @@ use Rattle.definitions.specs.Records.{Dom, AssociatedResource}
 use Rattle.definitions.specs.Comparisons.{dom_before}
 use Rattle.definitions.specs.Checks.{kind_of, resources_of}
 use Rattle.definitions.specs.Annotations.{Overlap, nothing, whole, by_word, overlaps, overlap_of, alias_of, same_alias, has_associated_word, doms_in, united, shared, less, some_if, with_resources, unless_empty, intersection_by, intersection, difference_by, difference}
-use Rattle.annotations.specs.declared.AnnotationInfo.{AnnotationInfo}
-use Rattle.annotations.specs.Reading.{dom_at, doms_of, pairs, resources_in, of_kind, info_of, part_of, Held, With}
+use Rattle.records.specs.declared.Kind.{Kind}
+use Rattle.records.specs.declared.Kind.TheVariants.{MakeList, Associate, NestAssociate, Alias, Inherit, Derive, NoDerive}
+use Rattle.records.specs.Kinds.{number_of}
+use Rattle.annotations.specs.declared.info.AnnotationInfo.{AnnotationInfo}
+use Rattle.annotations.specs.Reading.{dom_at, doms_of, pairs, resources_in, of_kind, info_of, part_of, overlap_at, With}
 
 -- ---- resources in two arrays
 
@@ -236,30 +239,29 @@ module _ (ws out : List ℕ) (ds sets : List Row) (k i : ℕ) (p : i < length ws
 
 -- ---- kinds
 
-kind-is : (k t : ℕ) (us : List AssociatedResource) → k < 7 → kind_of (of_kind k t us) ≡ k
-kind-is zero t us h = refl
-kind-is (suc zero) t us h = refl
-kind-is (suc (suc zero)) t us h = refl
-kind-is (suc (suc (suc zero))) t us h = refl
-kind-is (suc (suc (suc (suc zero)))) t us h = refl
-kind-is (suc (suc (suc (suc (suc zero))))) t us h = refl
-kind-is (suc (suc (suc (suc (suc (suc zero)))))) t us h = refl
-kind-is (suc (suc (suc (suc (suc (suc (suc k))))))) t us h = absurd (omega arith)
+kind-is : (k : Kind) (t : ℕ) (us : List AssociatedResource) → kind_of (of_kind (number_of k) t us) ≡ number_of k
+kind-is MakeList t us = refl
+kind-is Associate t us = refl
+kind-is NestAssociate t us = refl
+kind-is Alias t us = refl
+kind-is Inherit t us = refl
+kind-is Derive t us = refl
+kind-is NoDerive t us = refl
 
 -- the decision of the code is the definition's
-pub overlap-is : (x y : AnnotationInfo) → Held x → Held y → overlap_of (info_of x) (info_of y) ≡ get_or (get_or overlaps x.kind []) y.kind nothing
+pub overlap-is : (x y : AnnotationInfo) → overlap_of (info_of x) (info_of y) ≡ overlap_at x.kind y.kind
 unfolding overlap_of info_of
-overlap-is x y h g = rw (kind-is x.kind x.tag (resources_in x) h.kind, kind-is y.kind y.tag (resources_in y) g.kind)
+overlap-is x y = rw (kind-is x.kind x.tag (resources_in x), kind-is y.kind y.tag (resources_in y))
 
 -- by the case that the kinds decide
-module _ (x y : AnnotationInfo) (h : Held x) (g : Held y) (o : Overlap) (e : get_or (get_or overlaps x.kind []) y.kind nothing ≡ o) where
+module _ (x y : AnnotationInfo) (o : Overlap) (e : overlap_at x.kind y.kind ≡ o) where
   pub intersection-by : intersection_by o (info_of x) (info_of y) ≡ intersection (info_of x) (info_of y)
   unfolding intersection
-  intersection-by = ap (λ (q : Overlap). intersection_by q (info_of x) (info_of y)) (sym e ∙ sym (overlap-is x y h g))
+  intersection-by = ap (λ (q : Overlap). intersection_by q (info_of x) (info_of y)) (sym e ∙ sym (overlap-is x y))
 
   pub difference-by : difference_by o (info_of x) (info_of y) ≡ difference (info_of x) (info_of y)
   unfolding difference
-  difference-by = ap (λ (q : Overlap). difference_by q (info_of x) (info_of y)) (sym e ∙ sym (overlap-is x y h g))
+  difference-by = ap (λ (q : Overlap). difference_by q (info_of x) (info_of y)) (sym e ∙ sym (overlap-is x y))
 
 abbrev pub is_by_word : Overlap → Bool
 is_by_word nothing = false
@@ -302,67 +304,67 @@ remade : (x r : AnnotationInfo) (us : List AssociatedResource) → With x us r �
     → part_of (then_some (ltb 0 r.count) r) ≡ unless_empty (info_of x) us
 remade x r us w e = part_then (ltb 0 r.count) r ∙ ap (λ (n : ℕ). some_if (ltb 0 n) (info_of r)) w.count ∙ ap₂ some_if (not_null us) (sym e)
 
-with-is : (k : ℕ) (x r : AnnotationInfo) (us : List AssociatedResource) → With x us r → x.kind ≡ k → with_resources (of_kind k x.tag (resources_in x)) us ≡ of_kind k r.tag us
+with-is : (k : ℕ) (x r : AnnotationInfo) (us : List AssociatedResource) → With x us r → number_of x.kind ≡ k → with_resources (of_kind k x.tag (resources_in x)) us ≡ of_kind k r.tag us
     → with_resources (info_of x) us ≡ info_of r
 unfolding info_of
 with-is k x r us w e q =
     ap (λ (j : ℕ). with_resources (of_kind j x.tag (resources_in x)) us) e ∙ q
-    ∙ ap₂ (λ (j : ℕ) (vs : List AssociatedResource). of_kind j r.tag vs) (sym (w.kind ∙ e)) (sym w.resources)
+    ∙ ap₂ (λ (j : ℕ) (vs : List AssociatedResource). of_kind j r.tag vs) (sym (ap number_of w.kind ∙ e)) (sym w.resources)
 
 pub record ByWord (x y : AnnotationInfo) : Type 0 where
   pub left : resources_of (info_of x) ≡ resources_in x
   pub right : resources_of (info_of y) ≡ resources_in y
   pub made : (r : AnnotationInfo) (us : List AssociatedResource) → With x us r → part_of (then_some (ltb 0 r.count) r) ≡ unless_empty (info_of x) us
 
-resources-one : (x : AnnotationInfo) → x.kind ≡ 1 → resources_of (info_of x) ≡ resources_in x
+resources-one : (x : AnnotationInfo) → number_of x.kind ≡ 1 → resources_of (info_of x) ≡ resources_in x
 unfolding info_of
 resources-one x e = rw e
 
-resources-two : (x : AnnotationInfo) → x.kind ≡ 2 → resources_of (info_of x) ≡ resources_in x
+resources-two : (x : AnnotationInfo) → number_of x.kind ≡ 2 → resources_of (info_of x) ≡ resources_in x
 unfolding info_of
 resources-two x e = rw e
 
-pub matched-by-word : (x y : AnnotationInfo) → get_or (get_or overlaps x.kind []) y.kind nothing ≡ by_word → ByWord x y
+pub matched-by-word : (x y : AnnotationInfo) → overlap_at x.kind y.kind ≡ by_word → ByWord x y
 matched-by-word x y e =
     ⊎_elim
-    (λ (w : (x.kind ≡ 1) × (y.kind ≡ 1)).
+    (λ (w : (number_of x.kind ≡ 1) × (number_of y.kind ≡ 1)).
     record {
       left = resources-one x w.0;
       right = resources-one y w.1;
       made = λ r us q. remade x r us q (with-is 1 x r us q w.0 refl);
     })
-    (λ (w : (x.kind ≡ 2) × (y.kind ≡ 2)).
+    (λ (w : (number_of x.kind ≡ 2) × (number_of y.kind ≡ 2)).
     record {
       left = resources-two x w.0;
       right = resources-two y w.1;
       made = λ r us q. remade x r us q (with-is 2 x r us q w.0 refl);
     })
-    (by-word x.kind y.kind (ap is_by_word e))
+    (by-word (number_of x.kind) (number_of y.kind) (ap is_by_word e))
 
 -- ---- aliases
 
-no-alias : (k t : ℕ) (us : List AssociatedResource) → (k ≡ 3 → ⊥) → alias_of (of_kind k t us) ≡ []
-no-alias zero t us h = refl
-no-alias (suc zero) t us h = refl
-no-alias (suc (suc zero)) t us h = refl
-no-alias (suc (suc (suc zero))) t us h = absurd (h refl)
-no-alias (suc (suc (suc (suc zero)))) t us h = refl
-no-alias (suc (suc (suc (suc (suc zero))))) t us h = refl
-no-alias (suc (suc (suc (suc (suc (suc k)))))) t us h = refl
+no-alias : (k : Kind) (t : ℕ) (us : List AssociatedResource) → (k ≡ Alias → ⊥) → alias_of (of_kind (number_of k) t us) ≡ []
+no-alias MakeList t us h = refl
+no-alias Associate t us h = refl
+no-alias NestAssociate t us h = refl
+no-alias Alias t us h = absurd (h refl)
+no-alias Inherit t us h = refl
+no-alias Derive t us h = refl
+no-alias NoDerive t us h = refl
 
 module _ (x y : AnnotationInfo) where
-  pub alias-none : (x.kind ≡ 3 → ⊥) → not (eqb y.kind 3) ≡ same_alias (info_of x) (info_of y)
+  pub alias-right : (x.kind ≡ Alias → ⊥) → y.kind ≡ Alias → false ≡ same_alias (info_of x) (info_of y)
   unfolding same_alias info_of
-  alias-none h =
-      rw (no-alias x.kind x.tag (resources_in x) h)
-      (by (eqb y.kind 3)
-      (λ e. let q : y.kind ≡ 3 = eqb-true _ _ e in rw q refl)
-      (λ e. rw (e, no-alias y.kind y.tag (resources_in y) (eqb-false _ _ e)) refl))
+  alias-right h e = rw (no-alias x.kind x.tag (resources_in x) h, e)
 
-  pub alias-left : x.kind ≡ 3 → (y.kind ≡ 3 → ⊥) → false ≡ same_alias (info_of x) (info_of y)
+  pub alias-none : (x.kind ≡ Alias → ⊥) → (y.kind ≡ Alias → ⊥) → true ≡ same_alias (info_of x) (info_of y)
+  unfolding same_alias info_of
+  alias-none h g = rw (no-alias x.kind x.tag (resources_in x) h, no-alias y.kind y.tag (resources_in y) g)
+
+  pub alias-left : x.kind ≡ Alias → (y.kind ≡ Alias → ⊥) → false ≡ same_alias (info_of x) (info_of y)
   unfolding same_alias info_of
   alias-left e h = rw (e, no-alias y.kind y.tag (resources_in y) h)
 
-  pub alias-both : x.kind ≡ 3 → y.kind ≡ 3 → eqb x.tag y.tag ≡ same_alias (info_of x) (info_of y)
+  pub alias-both : x.kind ≡ Alias → y.kind ≡ Alias → eqb x.tag y.tag ≡ same_alias (info_of x) (info_of y)
   unfolding same_alias info_of
   alias-both e q = rw (e, q) (sym (and-true (eqb x.tag y.tag)))

@@ -1,5 +1,5 @@
 -- An annotation as the code holds it, read as the definitions' AnnotationInfo.
-use Rattle.std.specs.Prelude.{List, [], ◌∷◌, map, ◌≡◌, ℕ, zero, suc, ◌<◌, ◌≤◌, take, length, Option, Some, None}
+use Rattle.std.specs.Prelude.{List, [], ◌∷◌, map, ◌≡◌, ℕ, zero, suc, take, get_or, length, Option, Some, None}
 use Rattle.std.proofs.Math.Option.{none, some}
 use Rattle.lists.specs.Lists.{each}
 use Rattle.rows.specs.declared.Row.{Row}
@@ -7,8 +7,10 @@ use Rattle.rows.specs.Rows.{has}
 use Rattle.rows.specs.Lists.{below}
 use Rattle.definitions.specs.Records.{Name, Dom, AssociatedResource, AnnotationOf, make_list, associate, nest_associate, alias, inherit, derive, no_derive}
 use Rattle.definitions.specs.Comparisons.{dotted}
-use Rattle.definitions.specs.Annotations.{nothing, whole, by_word}
-use Rattle.annotations.specs.declared.AnnotationInfo.{AnnotationInfo}
+use Rattle.definitions.specs.Annotations.{overlaps, nothing, whole, by_word}
+use Rattle.records.specs.declared.Kind.{Kind}
+use Rattle.records.specs.Kinds.{number_of}
+use Rattle.annotations.specs.declared.info.AnnotationInfo.{AnnotationInfo}
 use Rattle.annotations.specs.declared.Overlap.{Overlap}
 
 -- a dom set as a row of bits, in the order of doms (FORMAT 1.6): 0 is none, d + 1 the word d
@@ -43,24 +45,22 @@ of_kind (suc (suc (suc (suc (suc zero))))) t us = derive t
 of_kind (suc (suc (suc (suc (suc (suc k)))))) t us = no_derive
 
 unfoldable pub info_of : AnnotationInfo → AnnotationOf AssociatedResource
-info_of x = of_kind x.kind x.tag (resources_in x)
+info_of x = of_kind (number_of x.kind) x.tag (resources_in x)
+
+-- what two annotations of these kinds have in common
+abbrev pub overlap_at : Kind → Kind → Rattle.definitions.specs.Annotations.Overlap
+overlap_at k j = get_or (get_or overlaps (number_of k) []) (number_of j) nothing
 
 -- what is left of an annotation, or what two share, if there is any
 unfoldable pub part_of : Option AnnotationInfo → Rattle.std.proofs.Math.Option.Option (AnnotationOf AssociatedResource)
 part_of None = none
 part_of (Some x) = some (info_of x)
 
--- what every annotation of the code meets
-pub record Held (x : AnnotationInfo) : Type 0 where
-  pub kind : x.kind < 7
-  pub few : x.count ≤ 15
-
 -- r is x with other resources
 pub record With (x : AnnotationInfo) (us : List AssociatedResource) (r : AnnotationInfo) : Type 0 where
   pub resources : resources_in r ≡ us
   pub kind : r.kind ≡ x.kind
   pub tag : r.tag ≡ x.tag
-  pub few : r.count ≤ 15
   pub count : r.count ≡ length us
 
 -- the definitions' case of each case

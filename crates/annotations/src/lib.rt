@@ -1,26 +1,18 @@
 // `AnnotationInfo::intersection` and `difference`, after annotations.rs.
 #![tactic(auto)]
 
-ghost use Rattle.std.specs.Prelude.{◌≡◌, ◌++◌, [], ◌<◌, ◌≤◌, ltb, get_or};
+ghost use Rattle.std.specs.Prelude.{◌≡◌, ◌++◌, [], ltb};
 ghost use Rattle.std.specs.Bool.{then_some};
 ghost use Rattle.lists.specs.Lists.{set_of};
 ghost use Rattle.definitions.specs.Comparisons.{dom_before};
-ghost use Rattle.definitions.specs.Annotations.{overlaps, nothing, same_alias, has_associated_word, doms_in, shared, less, intersection, difference};
-ghost use Rattle.annotations.specs.Reading.{Held, doms_of, resources_in, info_of, as_overlap, part_of, With};
+ghost use Rattle.definitions.specs.Annotations.{same_alias, has_associated_word, doms_in, shared, less, intersection, difference};
+ghost use Rattle.annotations.specs.Reading.{doms_of, resources_in, info_of, overlap_at, as_overlap, part_of, With};
 
+mod info;
+
+pub use info::AnnotationInfo;
+use records::Kind;
 use rows::Row;
-
-// An annotation by value: the number that a sheet gives its kind (FORMAT 2.7), the word of an Alias or the tag of a Derive,
-// and the resources of an associate, words ascending, each with its dom set as a row of bits: 0 is none, d + 1 the word d.
-// The names of an Inherit stand there as well, `a.b` as the word b with the dom a.
-#[derive(Clone, Copy)]
-pub struct AnnotationInfo {
-    pub kind: u8,
-    pub tag: u8,
-    pub count: usize,
-    pub words: [u8; 15],
-    pub doms: [Row; 15],
-}
 
 // What two annotations have in common: nothing; the whole, if they are equal; the resources of equal words.
 #[derive(Clone, Copy, PartialEq, Eq)]
@@ -30,102 +22,92 @@ pub enum Overlap {
     ByWord,
 }
 
-// By the two kinds alone, which have the numbers that a sheet gives them (FORMAT 2.7).
-pub fn overlap_of(k: u8, j: u8) -> Overlap
-    requires { (k < 7) × (j < 7) }
-    ensures { as_overlap result ≡ get_or (get_or overlaps k []) j nothing }
+// By the two kinds alone.
+pub fn overlap_of(k: Kind, j: Kind) -> Overlap
+    ensures { as_overlap result ≡ overlap_at k j }
 {
     match k {
-        // MakeList
-        0 => match j {
-            0 => Overlap::Whole,
-            1 => Overlap::Nothing,
-            2 => Overlap::Nothing,
-            3 => Overlap::Nothing,
-            4 => Overlap::Nothing,
-            5 => Overlap::Nothing,
-            _ => Overlap::Nothing,
+        Kind::MakeList => match j {
+            Kind::MakeList => Overlap::Whole,
+            Kind::Associate => Overlap::Nothing,
+            Kind::NestAssociate => Overlap::Nothing,
+            Kind::Alias => Overlap::Nothing,
+            Kind::Inherit => Overlap::Nothing,
+            Kind::Derive => Overlap::Nothing,
+            Kind::NoDerive => Overlap::Nothing,
         },
-        // Associate
-        1 => match j {
-            0 => Overlap::Nothing,
-            1 => Overlap::ByWord,
-            2 => Overlap::Nothing, // unlike kinds give none, these two as well
-            3 => Overlap::Nothing,
-            4 => Overlap::Nothing,
-            5 => Overlap::Nothing,
-            _ => Overlap::Nothing,
+        Kind::Associate => match j {
+            Kind::MakeList => Overlap::Nothing,
+            Kind::Associate => Overlap::ByWord,
+            Kind::NestAssociate => Overlap::Nothing, // unlike kinds give none, these two as well
+            Kind::Alias => Overlap::Nothing,
+            Kind::Inherit => Overlap::Nothing,
+            Kind::Derive => Overlap::Nothing,
+            Kind::NoDerive => Overlap::Nothing,
         },
-        // NestAssociate
-        2 => match j {
-            0 => Overlap::Nothing,
-            1 => Overlap::Nothing,
-            2 => Overlap::ByWord,
-            3 => Overlap::Nothing,
-            4 => Overlap::Nothing,
-            5 => Overlap::Nothing,
-            _ => Overlap::Nothing,
+        Kind::NestAssociate => match j {
+            Kind::MakeList => Overlap::Nothing,
+            Kind::Associate => Overlap::Nothing,
+            Kind::NestAssociate => Overlap::ByWord,
+            Kind::Alias => Overlap::Nothing,
+            Kind::Inherit => Overlap::Nothing,
+            Kind::Derive => Overlap::Nothing,
+            Kind::NoDerive => Overlap::Nothing,
         },
-        // Alias
-        3 => match j {
-            0 => Overlap::Nothing,
-            1 => Overlap::Nothing,
-            2 => Overlap::Nothing,
-            3 => Overlap::Whole,
-            4 => Overlap::Nothing,
-            5 => Overlap::Nothing,
-            _ => Overlap::Nothing,
+        Kind::Alias => match j {
+            Kind::MakeList => Overlap::Nothing,
+            Kind::Associate => Overlap::Nothing,
+            Kind::NestAssociate => Overlap::Nothing,
+            Kind::Alias => Overlap::Whole,
+            Kind::Inherit => Overlap::Nothing,
+            Kind::Derive => Overlap::Nothing,
+            Kind::NoDerive => Overlap::Nothing,
         },
-        // Inherit
-        4 => match j {
-            0 => Overlap::Nothing,
-            1 => Overlap::Nothing,
-            2 => Overlap::Nothing,
-            3 => Overlap::Nothing,
-            4 => Overlap::Nothing, // two Inherit give none
-            5 => Overlap::Nothing,
-            _ => Overlap::Nothing,
+        Kind::Inherit => match j {
+            Kind::MakeList => Overlap::Nothing,
+            Kind::Associate => Overlap::Nothing,
+            Kind::NestAssociate => Overlap::Nothing,
+            Kind::Alias => Overlap::Nothing,
+            Kind::Inherit => Overlap::Nothing, // two Inherit give none
+            Kind::Derive => Overlap::Nothing,
+            Kind::NoDerive => Overlap::Nothing,
         },
-        // Derive
-        5 => match j {
-            0 => Overlap::Nothing,
-            1 => Overlap::Nothing,
-            2 => Overlap::Nothing,
-            3 => Overlap::Nothing,
-            4 => Overlap::Nothing,
-            5 => Overlap::Nothing, // two Derive give none
-            _ => Overlap::Nothing,
+        Kind::Derive => match j {
+            Kind::MakeList => Overlap::Nothing,
+            Kind::Associate => Overlap::Nothing,
+            Kind::NestAssociate => Overlap::Nothing,
+            Kind::Alias => Overlap::Nothing,
+            Kind::Inherit => Overlap::Nothing,
+            Kind::Derive => Overlap::Nothing, // two Derive give none
+            Kind::NoDerive => Overlap::Nothing,
         },
-        // NoDerive
-        _ => match j {
-            0 => Overlap::Nothing,
-            1 => Overlap::Nothing,
-            2 => Overlap::Nothing,
-            3 => Overlap::Nothing,
-            4 => Overlap::Nothing,
-            5 => Overlap::Nothing,
-            _ => Overlap::Whole,
+        Kind::NoDerive => match j {
+            Kind::MakeList => Overlap::Nothing,
+            Kind::Associate => Overlap::Nothing,
+            Kind::NestAssociate => Overlap::Nothing,
+            Kind::Alias => Overlap::Nothing,
+            Kind::Inherit => Overlap::Nothing,
+            Kind::Derive => Overlap::Nothing,
+            Kind::NoDerive => Overlap::Whole,
         },
     }
 }
 
 // Whether the two have the same Alias, or neither has one: the law's test, which is no equality of the structs.
 pub fn same_alias(x: AnnotationInfo, y: AnnotationInfo) -> bool
-    requires { Held x × Held y }
     ensures { result ≡ same_alias (info_of x) (info_of y) }
 {
-    if x.kind != 3 {
-        return y.kind != 3;
+    match x.kind {
+        Kind::Alias => match y.kind {
+            Kind::Alias => x.tag == y.tag,
+            _ => false,
+        },
+        _ => !matches!(y.kind, Kind::Alias),
     }
-    if y.kind != 3 {
-        return false;
-    }
-    x.tag == y.tag
 }
 
 // Whether it has a resource of that word.
 pub fn has_word(y: AnnotationInfo, w: u8) -> bool
-    requires { Held y }
     ensures { result ≡ has_associated_word (resources_in y) w }
 {
     let count = y.count;
@@ -135,7 +117,6 @@ pub fn has_word(y: AnnotationInfo, w: u8) -> bool
 
 // The doms d, and those that y gives the word (FORMAT 8.8).
 pub fn united(d: Row, y: AnnotationInfo, w: u8) -> Row
-    requires { Held y }
     ensures { doms_of result ≡ set_of dom_before (doms_of d ++ doms_in (resources_in y) w) }
 {
     let count = y.count;
@@ -154,7 +135,6 @@ pub fn united(d: Row, y: AnnotationInfo, w: u8) -> Row
 // The resources of x whose words y has as well, with the doms of both (FORMAT 8.8). A resource is stored at k, and k moves on
 // if the word is shared.
 pub fn shared_resources(x: AnnotationInfo, y: AnnotationInfo) -> AnnotationInfo
-    requires { Held x × Held y }
     ensures { With x (shared (resources_in x) (resources_in y)) result }
 {
     let count = x.count;
@@ -185,7 +165,6 @@ pub fn shared_resources(x: AnnotationInfo, y: AnnotationInfo) -> AnnotationInfo
 // The resources of x whose words y has not (FORMAT 8.8). A resource is stored at k, and k moves on if it stays. One function
 // for both would take a flag that turns the test and says whether doms are united; the law has two, `shared` and `less`.
 pub fn less_resources(x: AnnotationInfo, y: AnnotationInfo) -> AnnotationInfo
-    requires { Held x × Held y }
     ensures { With x (less (resources_in x) (resources_in y)) result }
 {
     let count = x.count;
@@ -222,7 +201,6 @@ fn unless_empty(x: AnnotationInfo) -> Option<AnnotationInfo>
 // What two annotations share (FORMAT 8.8): x itself, if x and y are equal and of a kind that is shared whole; the shared
 // resources of two associates of one kind; otherwise none.
 pub fn intersection(x: AnnotationInfo, y: AnnotationInfo) -> Option<AnnotationInfo>
-    requires { Held x × Held y }
     ensures { part_of result ≡ intersection (info_of x) (info_of y) }
 {
     match overlap_of(x.kind, y.kind) {
@@ -235,7 +213,6 @@ pub fn intersection(x: AnnotationInfo, y: AnnotationInfo) -> Option<AnnotationIn
 // What x has and y has not (FORMAT 8.8): none of an equal annotation of a kind that is shared whole; the other resources of
 // an associate less one of its kind; otherwise x, even where both are equal Derives or Inherits.
 pub fn difference(x: AnnotationInfo, y: AnnotationInfo) -> Option<AnnotationInfo>
-    requires { Held x × Held y }
     ensures { part_of result ≡ difference (info_of x) (info_of y) }
 {
     match overlap_of(x.kind, y.kind) {

@@ -1,5 +1,5 @@
 -- One word of an annotation: what it comes to, and what the code then holds.
-use Rattle.std.specs.Prelude.{Bool, true, false, List, [], ◌∷◌, map, ◌≡◌, ℕ, ◌+◌, ◌*◌, ◌≤◌, ◌<◌, length}
+use Rattle.std.specs.Prelude.{Bool, true, false, List, [], ◌∷◌, map, ◌≡◌, ℕ, ◌+◌, ◌≤◌, ◌<◌, length}
 use Rattle.lists.specs.Lists.{filter, first_of}
 use Rattle.rows.specs.declared.Row.{Row}
 use Rattle.definitions.specs.Records as records
@@ -9,15 +9,15 @@ use Rattle.definitions.specs.Synthesis.{Verdict, unknown_classes, ends, no_resou
 use Rattle.line_laws.specs.Statements.{line_map}
 use Rattle.law_classes.specs.Sets.{type_at}
 use Rattle.catalogue.specs.declared.Catalogue.{Catalogue}
-use Rattle.synth_classes.specs.declared.Site.{Site}
+use Rattle.synth_classes.specs.declared.site.Site.{Site}
 use Rattle.synth_classes.specs.declared.Origin.{Origin}
 use Rattle.synth_classes.specs.Made.{classes_of, created}
 use Rattle.synth_classes.specs.Known.{Known}
+use Rattle.emitting.specs.declared.Writer.{Writer}
+use Rattle.emitting.specs.Writing.{state, SameSlice}
 use Rattle.interpretation.specs.Emit.{emit}
 use Rattle.interpretation.specs.Judged.{is_unknown, is_other}
-use Rattle.duplicates.specs.declared.Makings.{Makings}
-use Rattle.duplicates.specs.Held.{held_items}
-use Rattle.associates.specs.declared.Progress.{Progress}
+use Rattle.duplicates.specs.Held.{Makings, held_items}
 use Rattle.associates.specs.declared.Standing.{Standing}
 use Rattle.associates.specs.declared.Standing.TheVariants.{Going, Failed, Ended}
 
@@ -25,7 +25,6 @@ use Rattle.associates.specs.declared.Standing.TheVariants.{Going, Failed, Ended}
 pub record Reached : Type 0 where
   pub failed : Bool
   pub ended : Bool
-  pub rows : ℕ
   pub made : Makings
 
 -- an annotation that ended failed as well
@@ -39,8 +38,12 @@ ended_in Going = false
 ended_in Failed = false
 ended_in Ended = true
 
-abbrev pub reached : Progress → Makings → Reached
-reached p made = record { failed = failed_in p.standing; ended = ended_in p.standing; rows = p.rows; made = made }
+abbrev pub reached : Standing → Makings → Reached
+reached s made = record { failed = failed_in s; ended = ended_in s; made = made }
+
+-- before the first word
+abbrev pub begun : Makings → Reached
+begun made = record { failed = false; ended = false; made = made }
 
 -- the rows that a verdict adds
 abbrev pub rows_in : LineType → ℕ → Verdict → List records.Row
@@ -81,25 +84,25 @@ unfoldable pub verdict_of : LineMap → ℕ → ℕ → Row → ℕ → Bool →
 verdict_of m T r doms ps failed is =
     judge failed (filter (is_unknown m) (classes_of doms r)) (first_of (is_other m) (classes_of doms r)) (is_duplicate m (type_at m T) r (created m T r doms ps) is)
 
--- p is s behind a word with that verdict
-pub record SteppedBy (m : LineMap) (T r : ℕ) (doms : Row) (ps limit : ℕ) (s : Reached) (b : List ℕ) (p : Reached) (b' : List ℕ) (v : Verdict) : Type 0 where
-  pub rows : (b', p.rows) ≡ emit limit (b, s.rows) (rows_in (type_at m T) r v)
+-- p is s behind a word with that verdict, and so is what is written
+pub record SteppedBy (m : LineMap) (T r : ℕ) (doms : Row) (ps : ℕ) (s : Reached) (w : Writer) (p : Reached) (w' : Writer) (v : Verdict) : Type 0 where
+  pub rows : state w' ≡ emit w.limit (state w) (rows_in (type_at m T) r v)
   pub ended : p.ended ≡ ends_in v
   pub failed : p.failed ≡ fails_in v
   pub items : items_held m T p.made ≡ items_in (type_at m T) r (created m T r doms ps) (items_held m T s.made) v
 
-abbrev pub SteppedIn : LineMap → ℕ → ℕ → Row → ℕ → ℕ → Reached → List ℕ → Reached → List ℕ → Type 0
-SteppedIn m T r doms ps limit s b p b' = SteppedBy m T r doms ps limit s b p b' (verdict_of m T r doms ps s.failed (items_held m T s.made))
+abbrev pub SteppedIn : LineMap → ℕ → ℕ → Row → ℕ → Reached → Writer → Reached → Writer → Type 0
+SteppedIn m T r doms ps s w p w' = SteppedBy m T r doms ps s w p w' (verdict_of m T r doms ps s.failed (items_held m T s.made))
 
 -- the same for every sheet whose catalogue it is; at most one making was added
-pub record Stepped (t : Catalogue) (site : Site) (o : Origin) (limit : ℕ) (s : Reached) (b : List ℕ) (p : Reached) (b' : List ℕ) : Type 0 where
+pub record Stepped (t : Catalogue) (site : Site) (o : Origin) (s : Reached) (w : Writer) (p : Reached) (w' : Writer) : Type 0 where
+  pub same : SameSlice w w'
   pub count : p.made.count ≤ s.made.count + 1
   pub right : (x : Sheet) → Known x t → site.place < length (line_map x).types
-      → SteppedIn (line_map x) site.place site.word o.doms o.parents limit s b p b'
+      → SteppedIn (line_map x) site.place site.word o.doms o.parents s w p w'
 
--- what a word needs: room for one making more and for the rows
-pub record Ready (site : Site) (limit : ℕ) (s : Reached) (b : List ℕ) : Type 0 where
+-- what a word needs: room for one making more
+pub record Ready (site : Site) (made : Makings) : Type 0 where
   pub place : site.place < 64
   pub word : site.word < 255
-  pub room : s.made.count < 380
-  pub slice : 6 * limit ≤ length b
+  pub room : made.count < 380

@@ -18,17 +18,18 @@ use Rattle.fields.specs.Fields.{two_words}
 use Rattle.line_laws.specs.Statements.{line_map}
 use Rattle.law_classes.specs.Sets.{type_at}
 use Rattle.catalogue.specs.declared.Catalogue.{Catalogue}
-use Rattle.synth_classes.specs.declared.Site.{Site}
+use Rattle.synth_classes.specs.declared.site.Site.{Site}
 use Rattle.synth_classes.specs.declared.Origin.{Origin}
 use Rattle.synth_classes.specs.Classes.{unknown_at, other_at}
 use Rattle.synth_classes.specs.Made.{class_name, classes_of, created}
 use Rattle.synth_classes.specs.Walks.{found-first, found-none}
 use Rattle.synth_classes.specs.Known.{Known, name-known}
-use Rattle.interpretation.specs.Emit.{emit_bytes, emit, name-bytes}
+use Rattle.emitting.specs.declared.Writer.{Writer}
+use Rattle.emitting.specs.Writing.{state, same_self, Adds}
+use Rattle.interpretation.specs.Emit.{emit_bytes, emit, Emits, name-bytes}
 use Rattle.interpretation.specs.Judged.{is_unknown, is_other, unknown_doms, name_in, unknown_row}
 use Rattle.interpretation.specs.JudgedLaws.{row-bytes, unknown-classes, other-classes, first-with, first-without}
-use Rattle.duplicates.specs.declared.Makings.{Makings}
-use Rattle.duplicates.specs.Held.{Keeps, Repeated}
+use Rattle.duplicates.specs.Held.{Makings, Keeps, Repeated}
 use Rattle.emitting.specs.Emitting.{State}
 use Rattle.emitting.specs.Emitting as emitting
 use Rattle.associates.specs.Step.{Reached, items_held, verdict_of, SteppedBy, Stepped}
@@ -92,9 +93,9 @@ unfolding emitting.emit
 no_rows limit st = refl
 
 -- the step of the verdict that was reached
-pub by-verdict : {t : LineMap} {T r : ℕ} {doms : Row} {ps limit : ℕ} {s : Reached} {b : List ℕ} {p : Reached} {b' : List ℕ} {v w : Verdict} → v ≡ w →
-    SteppedBy t T r doms ps limit s b p b' w → SteppedBy t T r doms ps limit s b p b' v
-by-verdict {t} {T} {r} {doms} {ps} {limit} {s} {b} {p} {b'} e x = subst (λ z. SteppedBy t T r doms ps limit s b p b' z) (sym e) x
+pub by-verdict : {t : LineMap} {T r : ℕ} {doms : Row} {ps : ℕ} {s : Reached} {w : Writer} {p : Reached} {w' : Writer} {v u : Verdict} → v ≡ u →
+    SteppedBy t T r doms ps s w p w' u → SteppedBy t T r doms ps s w p w' v
+by-verdict {t} {T} {r} {doms} {ps} {s} {w} {p} {w'} e x = subst (λ z. SteppedBy t T r doms ps s w p w' z) (sym e) x
 
 -- ---- the steps
 
@@ -113,7 +114,7 @@ null-map : {A B : Type 0} (f : A → B) (l : List A) → null (map f l) ≡ null
 null-map f [] = refl
 null-map f (x ∷ l) = refl
 
-module _ (t : Catalogue) (site : Site) (o : Origin) (limit : ℕ) (s : Reached) (b : List ℕ) (hw : site.word < 255) where
+module _ (t : Catalogue) (site : Site) (o : Origin) (s : Reached) (w : Writer) (hw : site.word < 255) where
   abbrev T : ℕ
   T = site.place
 
@@ -128,10 +129,11 @@ module _ (t : Catalogue) (site : Site) (o : Origin) (limit : ℕ) (s : Reached) 
   unknown-null x k = ap null (unknown-classes x t k o.doms r hw) ∙ null-map (class_name r) ds
 
   -- unknown classes have their rows
-  pub step-unknown : (n : ℕ) (b' : List ℕ) → null ds ≡ false → (b', n) ≡ emit limit (b, s.rows) (map (unknown_row t T r) ds)
-      → Stepped t site o limit s b (record { failed = true; ended = true; rows = n; made = s.made }) b'
-  step-unknown n b' e w =
+  pub step-unknown : (w' : Writer) → null ds ≡ false → Emits w w' (map (unknown_row t T r) ds)
+      → Stepped t site o s w (record { failed = true; ended = true; made = s.made }) w'
+  step-unknown w' e a =
       record {
+        same = a.same;
         count = omega arith;
         right = λ x k h.
             let m = line_map x in
@@ -140,10 +142,10 @@ module _ (t : Catalogue) (site : Site) (o : Origin) (limit : ℕ) (s : Reached) 
             (verdict-unknown m T r o.doms o.parents s.failed (items_held m T s.made) (unknown-null x k ∙ e))
             (record {
               rows =
-                  w
-                  ∙ ap (λ (N : Name). emit limit (b, s.rows) (map (λ d. record { kind = 4; subject = N; other = class_name r d; word = r ∷ [] }) ds)) (name-known x t k T h)
-                  ∙ ap (emit limit (b, s.rows)) (sym (map-map (class_row 4 (type_at m T) r) (class_name r) ds))
-                  ∙ ap (λ l. emit limit (b, s.rows) (c l)) (sym (unknown-classes x t k o.doms r hw));
+                  a.state
+                  ∙ ap (λ (N : Name). emit w.limit (state w) (map (λ d. record { kind = 4; subject = N; other = class_name r d; word = r ∷ [] }) ds)) (name-known x t k T h)
+                  ∙ ap (emit w.limit (state w)) (sym (map-map (class_row 4 (type_at m T) r) (class_name r) ds))
+                  ∙ ap (λ l. emit w.limit (state w) (c l)) (sym (unknown-classes x t k o.doms r hw));
               ended = refl;
               failed = refl;
               items = refl;
@@ -151,23 +153,25 @@ module _ (t : Catalogue) (site : Site) (o : Origin) (limit : ℕ) (s : Reached) 
       }
 
   -- behind a word that failed the annotation ends
-  pub step-ends : null ds ≡ true → s.failed ≡ true → Stepped t site o limit s b (record { failed = true; ended = true; rows = s.rows; made = s.made }) b
+  pub step-ends : null ds ≡ true → s.failed ≡ true → Stepped t site o s w (record { failed = true; ended = true; made = s.made }) w
   step-ends e f =
       record {
+        same = same_self w;
         count = omega arith;
         right = λ x k h.
             by-verdict
             (verdict-ends (line_map x) T r o.doms o.parents s.failed (items_held (line_map x) T s.made) (unknown-null x k ∙ e) f)
-            (record { rows = no_rows limit _; ended = refl; failed = refl; items = refl });
+            (record { rows = no_rows w.limit (state w); ended = refl; failed = refl; items = refl });
       }
 
   module _ (e : null ds ≡ true) (f : s.failed ≡ false) (first : Option ℕ) (found : first ≡ find (other_at t r) (below (has o.doms) 201)) where
     -- a class that is no resource
-    pub step_other : (d n u v y z : ℕ) (b' : List ℕ) → first ≡ Some d → two_words u v ≡ name_in t T → two_words y z ≡ class_name r d
-        → (b', n) ≡ emit_bytes limit (b, s.rows) (5 ∷ u ∷ v ∷ y ∷ z ∷ r ∷ [])
-        → Stepped t site o limit s b (record { failed = true; ended = false; rows = n; made = s.made }) b'
-    step_other d n u v y z b' l p q w =
+    pub step_other : (d u v y z : ℕ) (w' : Writer) → first ≡ Some d → two_words u v ≡ name_in t T → two_words y z ≡ class_name r d
+        → Adds w w' (emit_bytes w.limit (state w) (5 ∷ u ∷ v ∷ y ∷ z ∷ r ∷ []))
+        → Stepped t site o s w (record { failed = true; ended = false; made = s.made }) w'
+    step_other d u v y z w' l p q a =
         record {
+          same = a.same;
           count = omega arith;
           right = λ x k h.
               let m = line_map x in
@@ -175,7 +179,7 @@ module _ (t : Catalogue) (site : Site) (o : Origin) (limit : ℕ) (s : Reached) 
               by-verdict
               (verdict-other m T r o.doms o.parents s.failed (items_held m T s.made) (class_name r d) (unknown-null x k ∙ e) f (first-with (is_other m) (classes_of o.doms r) _ _ i))
               (record {
-                rows = row_one limit 5 (type_at m T) r u v y z (class_name r d) (b, s.rows) (b', n) (sym (p ∙ name-known x t k T h)) (sym q) w;
+                rows = row_one w.limit 5 (type_at m T) r u v y z (class_name r d) (state w) (state w') (sym (p ∙ name-known x t k T h)) (sym q) a.state;
                 ended = refl;
                 failed = refl;
                 items = refl;
@@ -188,18 +192,19 @@ module _ (t : Catalogue) (site : Site) (o : Origin) (limit : ℕ) (s : Reached) 
         (other-classes x t k o.doms r hw ∙ ap (map (class_name r)) (found-none o.doms (other_at t r) (sym found ∙ l)))
 
     -- a duplicate
-    pub step-duplicate : (n u v : ℕ) (c : Bool) (b' : List ℕ) → first ≡ None → Repeated t site o s.made s.made.count c → c ≡ true → two_words u v ≡ name_in t T
-        → (b', n) ≡ emit_bytes limit (b, s.rows) (6 ∷ u ∷ v ∷ 255 ∷ 255 ∷ r ∷ [])
-        → Stepped t site o limit s b (record { failed = true; ended = false; rows = n; made = s.made }) b'
-    step-duplicate n u v c b' l a g p w =
+    pub step-duplicate : (u v : ℕ) (c : Bool) (w' : Writer) → first ≡ None → Repeated t site o s.made s.made.count c → c ≡ true → two_words u v ≡ name_in t T
+        → Adds w w' (emit_bytes w.limit (state w) (6 ∷ u ∷ v ∷ 255 ∷ 255 ∷ r ∷ []))
+        → Stepped t site o s w (record { failed = true; ended = false; made = s.made }) w'
+    step-duplicate u v c w' l a g p b =
         record {
+          same = b.same;
           count = omega arith;
           right = λ x k h.
               let m = line_map x in
               by-verdict
               (verdict-last m T r o.doms o.parents s.failed (items_held m T s.made) true (unknown-null x k ∙ e) f (none_other x k l) (sym g ∙ a.right x k h))
               (record {
-                rows = row-none limit 6 (type_at m T) r u v (b, s.rows) (b', n) (sym (p ∙ name-known x t k T h)) w;
+                rows = row-none w.limit 6 (type_at m T) r u v (state w) (state w') (sym (p ∙ name-known x t k T h)) b.state;
                 ended = refl;
                 failed = refl;
                 items = refl;
@@ -208,13 +213,14 @@ module _ (t : Catalogue) (site : Site) (o : Origin) (limit : ℕ) (s : Reached) 
 
     -- a making
     pub step-makes : (c : Bool) (made : Makings) → first ≡ None → Repeated t site o s.made s.made.count c → c ≡ false → Keeps s.made r o.doms o.parents made
-        → Stepped t site o limit s b (record { failed = false; ended = false; rows = s.rows; made = made }) b
-    step-makes c made l a g w =
+        → Stepped t site o s w (record { failed = false; ended = false; made = made }) w
+    step-makes c made l a g b =
         record {
-          count = omega (arith, w.count);
+          same = same_self w;
+          count = omega (arith, b.count);
           right = λ x k h.
               let m = line_map x in
               by-verdict
               (verdict-last m T r o.doms o.parents s.failed (items_held m T s.made) false (unknown-null x k ∙ e) f (none_other x k l) (sym g ∙ a.right x k h))
-              (record { rows = no_rows limit _; ended = refl; failed = refl; items = w.items m T });
+              (record { rows = no_rows w.limit (state w); ended = refl; failed = refl; items = b.items m T });
         }

@@ -1,13 +1,14 @@
 // One word of an annotation, which `interpret_associate` of compile.rs goes through.
 #![tactic(auto)]
 
-ghost use Rattle.std.specs.Prelude.{true, false, ◌≡◌};
+ghost use Rattle.std.specs.Prelude.{true, ◌≡◌};
 ghost use Rattle.lists.specs.Lists.{null};
 ghost use Rattle.interpretation.specs.Judged.{unknown_doms};
-ghost use Rattle.associates.specs.Step.{failed_in, reached, Ready, Stepped};
+ghost use Rattle.associates.specs.Step.{begun, reached, Ready, Stepped};
 
 use catalogue::Catalogue;
-use duplicates::Makings;
+use duplicates::{Making, Makings};
+use emitting::Writer;
 use interpretation::Reason;
 use synth_classes::{Origin, Site};
 
@@ -21,51 +22,34 @@ pub enum Standing {
     Ended,
 }
 
-// How far an annotation is: how it stands, and the count of rows.
-#[derive(Clone, Copy)]
-pub struct Progress {
-    pub standing: Standing,
-    pub rows: usize,
-}
-
 // A word whose classes are all declared: a row of kind 5 for its first class of another variant, else one of kind 6 for a
 // duplicate, else its making (FORMAT 8.10).
 fn interpret_known(
     t: &Catalogue,
     site: Site,
     origin: Origin,
-    s: Progress,
     made: &mut Makings,
-    buf: &mut [u8],
-    limit: usize,
-) -> Progress
-    requires ready { Ready site limit (reached s made.old) buf.old }
-    requires word_value { (null (unknown_doms t.now origin.doms site.word) ≡ true) × (failed_in s.standing ≡ false) }
-    ensures { Stepped t.now site origin limit (reached s made.old) buf.old (reached result made.new) buf.new }
+    out: &mut Writer<'_>,
+) -> Standing
+    requires ready { Ready site made.old }
+    requires word_value { null (unknown_doms t.now origin.doms site.word) ≡ true }
+    ensures { Stepped t.now site origin (begun made.old) out.old (reached result made.new) out.new }
 {
     let subject = synth_classes::name_at(t, site.place);
     if let Some(dom) = interpretation::first_other(t, origin.doms, site.word) {
         let class = synth_classes::class_name(dom as usize, site.word);
-        let reason = Reason::NoResource(class);
-        let rows = interpretation::put_reason(buf, limit, s.rows, subject, reason, site.word);
-        return Progress {
-            standing: Standing::Failed,
-            rows,
-        };
+        interpretation::put_reason(out, subject, Reason::NoResource(class), site.word);
+        return Standing::Failed;
     }
     if duplicates::is_duplicate(t, site, origin, made) {
-        let reason = Reason::Duplicate;
-        let rows = interpretation::put_reason(buf, limit, s.rows, subject, reason, site.word);
-        return Progress {
-            standing: Standing::Failed,
-            rows,
-        };
+        interpretation::put_reason(out, subject, Reason::Duplicate, site.word);
+        return Standing::Failed;
     }
-    made.push(site.word, origin);
-    Progress {
-        standing: Standing::Going,
-        rows: s.rows,
-    }
+    made.push(Making {
+        word: site.word,
+        origin,
+    });
+    Standing::Going
 }
 
 // One word of an annotation (FORMAT 8.10). Unknown classes have their rows and end the annotation. Behind a word with a row
@@ -74,34 +58,19 @@ pub fn interpret_word(
     t: &Catalogue,
     site: Site,
     origin: Origin,
-    s: Progress,
+    s: Standing,
     made: &mut Makings,
-    buf: &mut [u8],
-    limit: usize,
-) -> Progress
-    requires { Ready site limit (reached s made.old) buf.old }
-    ensures { Stepped t.now site origin limit (reached s made.old) buf.old (reached result made.new) buf.new }
+    out: &mut Writer<'_>,
+) -> Standing
+    requires { Ready site made.old }
+    ensures { Stepped t.now site origin (reached s made.old) out.old (reached result made.new) out.new }
 {
     if interpretation::first_unknown(t, origin.doms, site.word).is_some() {
-        let rows = interpretation::unknown_rows(
-            t,
-            site.place,
-            origin.doms,
-            site.word,
-            buf,
-            limit,
-            s.rows,
-        );
-        return Progress {
-            standing: Standing::Ended,
-            rows,
-        };
+        interpretation::unknown_rows(t, site.place, origin.doms, site.word, out);
+        return Standing::Ended;
     }
-    match s.standing {
-        Standing::Going => interpret_known(t, site, origin, s, made, buf, limit),
-        Standing::Failed | Standing::Ended => Progress {
-            standing: Standing::Ended,
-            rows: s.rows,
-        },
+    match s {
+        Standing::Going => interpret_known(t, site, origin, made, out),
+        Standing::Failed | Standing::Ended => Standing::Ended,
     }
 }

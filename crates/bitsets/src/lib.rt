@@ -1,4 +1,5 @@
-// Sets of numbers below 64, one number each: k stands in the set where bit k is 1.
+// Sets of numbers below 64, one number each: k stands in the set where bit k is 1. Such a number is no type of its own: each
+// index, shift and comparison would open it, three for each clause that says what it is below.
 #![tactic(auto)]
 
 ghost use Rattle.std.specs.Prelude.{◌≡◌, ◌<◌};

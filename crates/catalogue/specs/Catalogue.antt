@@ -1,5 +1,6 @@
 -- What it means that a table is the catalogue of a sheet's map.
 use Rattle.std.specs.Prelude.{Bool, false, cond, List, [], ◌∷◌, ◌≡◌, ℕ, ◌+◌, ◌-◌, ◌*◌, ◌/◌, ◌%◌, ◌≤◌, ◌<◌, eqb, length}
+use Rattle.std.proofs.Common.{ap, ◌∙◌, arith}
 use Rattle.lists.specs.Lists.{each}
 use Rattle.lists.specs.Tabulating.{tabulate}
 use Rattle.definitions.specs.Bits.{to_bits}
@@ -13,7 +14,7 @@ use Rattle.ordering.specs.Lists.{below}
 use Rattle.rows.specs.Rows.{has_bit}
 use Rattle.law_classes.specs.Sets.{some, one_word, word_of, masked, own_set, above_set, passed_set, type_at, SetIs}
 use Rattle.law_classes.specs.Numbers.{Fits}
-use Rattle.catalogue.specs.Layout.{key_at, head_at, marks_at, tally_at, parents_at, own_at, above_at, passed_at, word_at, mask_at, owner_at}
+use Rattle.catalogue.specs.Layout.{key_at, head_at, marks_at, tally_at, mark_width, parents_at, own_at, above_at, passed_at, word_at, mask_at, owner_at}
 use Rattle.catalogue.specs.Layout.{extension_key_at, extension_count_at, extension_parent_at, first_at, second_at}
 use Rattle.catalogue.specs.declared.Catalogue.{Catalogue}
 
@@ -43,7 +44,7 @@ trait_head h = eqb (h / 16 % 2) 1
 
 -- The parents that the records with a key add.
 unfoldable pub parents_in : Catalogue → ℕ → List Name
-parents_in t e = tabulate (λ j. name_of_key (extension_parent_at t (8 * e + j))) (extension_count_at t e)
+parents_in t e = tabulate (λ j. name_of_key (extension_parent_at t e j)) (extension_count_at t e)
 
 unfoldable pub added_in : Catalogue → ℕ → List Name
 added_in t key = each (parents_in t) (below (λ e. eqb (extension_key_at t e) key) (t.extension_count))
@@ -60,6 +61,10 @@ module _ (s : Sheet) (t : Catalogue) where
     pub mark_count : tally_at t a % 8 ≡ length (type_at (line_map s) a).marks
     pub mark_bits : to_bits (tally_at t a / 8) (marks_at t a) ≡ each mark_bits (type_at (line_map s) a).marks
     pub tally : tally_at t a < 512
+
+  -- The bits of its marks: a tally is below 512, so that their number is below 64.
+  pub marks-wide : (a : ℕ) → Entry a → to_bits (mark_width t a) (marks_at t a) ≡ each mark_bits (type_at (line_map s) a).marks
+  marks-wide a x = let w : mark_width t a ≡ tally_at t a / 8 = omega (arith, x.tally) in ap (λ (n : ℕ). to_bits n (marks_at t a)) w ∙ x.mark_bits
 
   -- What stands in the table of the types alone, before sets are made.
   pub record Listed : Type 0 where
@@ -89,7 +94,7 @@ module _ (s : Sheet) (t : Catalogue) where
     pub few : t.extension_count ≤ 32
     pub counts : (e : ℕ) → e < t.extension_count → extension_count_at t e ≤ 8
     pub keys : (e : ℕ) → e < t.extension_count → extension_key_at t e < 16777216
-    pub parents : (e j : ℕ) → e < t.extension_count → j < extension_count_at t e → extension_parent_at t (8 * e + j) < 65536
+    pub parents : (e j : ℕ) → e < t.extension_count → j < extension_count_at t e → extension_parent_at t e j < 65536
     pub added : (a r : ℕ) → a < length (line_map s).types → r < length s.words
         → added_in t (key_at t a * 256 + r) ≡ extension_parents (line_map s) (type_at (line_map s) a).name r
     pub extended : (a r : ℕ) → a < length (line_map s).types → r < length s.words → has_bit (t.extended) a ≡ false

@@ -1,5 +1,5 @@
 -- What stands at a place of a column of the catalogue; 0 past its end.
-use Rattle.std.specs.Prelude.{ℕ, ◌/◌, ◌%◌, get_or, replicate}
+use Rattle.std.specs.Prelude.{[], ℕ, ◌/◌, ◌%◌, get_or, replicate}
 use Rattle.std.specs.Int.Bits.{bit_and}
 use Rattle.catalogue.specs.declared.Catalogue.{Catalogue}
 
@@ -18,6 +18,10 @@ marks_at t a = get_or t.marks a 0
 -- How many bits the marks of a type have, times 8, and how many marks there are.
 abbrev pub tally_at : Catalogue → ℕ → ℕ
 tally_at t a = get_or t.tallies a 0
+
+-- How many bits the marks of a type have.
+abbrev pub mark_width : Catalogue → ℕ → ℕ
+mark_width t a = tally_at t a / 8 % 64
 
 -- The set of a type's parents.
 abbrev pub parents_at : Catalogue → ℕ → ℕ
@@ -55,9 +59,9 @@ extension_key_at t e = get_or t.extension_keys e 0
 abbrev pub extension_count_at : Catalogue → ℕ → ℕ
 extension_count_at t e = get_or t.extension_counts e 0
 
--- The parents of the extension records, as keys: those of record e from 8 * e on.
-abbrev pub extension_parent_at : Catalogue → ℕ → ℕ
-extension_parent_at t j = get_or t.extension_parents j 0
+-- Parent j of an extension record, as a key.
+abbrev pub extension_parent_at : Catalogue → ℕ → ℕ → ℕ
+extension_parent_at t e j = get_or (get_or t.extension_parents e []) j 0
 
 -- The set of the types whose first word is w.
 abbrev pub first_at : Catalogue → ℕ → ℕ
@@ -87,7 +91,7 @@ blank = record {
   masks = replicate 64 0;
   extension_keys = replicate 32 0;
   extension_counts = replicate 32 0;
-  extension_parents = replicate 256 0;
+  extension_parents = replicate 32 (replicate 8 0);
   firsts = replicate 256 0;
   seconds = replicate 256 0;
   count = 0;

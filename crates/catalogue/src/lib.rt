@@ -1,9 +1,10 @@
 // The catalogue of a map: what is known of its types, by their places in name order, of its words and of its extension records. A
-// column for each, since each is filled by a pass of its own, and sets are asked by their columns.
+// column for each, since each is filled by a pass of its own, and sets are asked by their columns. What holds of one that is
+// filled is said by clauses: between the passes it does not hold.
 #![tactic(auto)]
 
 ghost use Rattle.std.specs.Prelude.{◌≡◌, ◌<◌};
-ghost use Rattle.catalogue.specs.Layout.{blank, head_at, looked};
+ghost use Rattle.catalogue.specs.Layout.{blank, head_at, mark_width, looked};
 ghost use Rattle.catalogue.specs.Catalogue.{virtual_head};
 
 #[derive(Drop)]
@@ -34,8 +35,8 @@ pub struct Catalogue {
     pub extension_keys: [u64; 32],
     // How many parents an extension record has.
     pub extension_counts: [u64; 32],
-    // The parents of the extension records, as keys: those of record e from 8 * e on.
-    pub extension_parents: [u64; 256],
+    // The parents of an extension record, as keys.
+    pub extension_parents: [[u64; 8]; 32],
     // The set of the types whose first word is w.
     pub firsts: [u64; 256],
     // The set of the types whose second word is one less than w; for 0 the set of those that have none.
@@ -78,7 +79,7 @@ impl Catalogue {
             masks: [0; 64],
             extension_keys: [0; 32],
             extension_counts: [0; 32],
-            extension_parents: [0; 256],
+            extension_parents: [[0; 8]; 32],
             firsts: [0; 256],
             seconds: [0; 256],
             count: 0,
@@ -111,5 +112,13 @@ impl Catalogue {
         ensures { result ≡ virtual_head (head_at self.now a) }
     {
         self.heads[a] / 32 % 2 == 1
+    }
+
+    // How many bits the marks of a type have (FORMAT 4.7).
+    pub fn mark_width(&self, a: usize) -> usize
+        requires { a < 64 }
+        ensures { (result ≡ mark_width self.now a) × (result < 64) }
+    {
+        (self.tallies[a] / 8 % 64) as usize
     }
 }

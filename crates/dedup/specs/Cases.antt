@@ -11,10 +11,10 @@ use Rattle.rows.specs.Lists.{between}
 use Rattle.definitions.specs.Records.{Name, AssociatedResource, associate}
 use Rattle.definitions.specs.Comparisons.{name_before}
 use Rattle.annotations.specs.Reading.{doms_of}
+use Rattle.records.specs.declared.Kind.TheVariants.{MakeList, Associate, NestAssociate}
 use Rattle.dedup.specs.declared.Entry.{Entry}
-use Rattle.dedup.specs.declared.Entries.{Entries}
-use Rattle.dedup.specs.declared.Inherited.{Inherited}
-use Rattle.dedup.specs.Entries.{inter, diff, unless_empty, merge, join, entries_of, Sound, covers, nil, cons}
+use Rattle.dedup.specs.declared.inherited.Inherited.{Inherited}
+use Rattle.dedup.specs.Entries.{Entries, inter, diff, unless_empty, merge, join, entries_of, Sound, covers, nil, cons}
 use Rattle.dedup.specs.EntryLaws.{join_apart}
 use Rattle.dedup.specs.Reading.{resources_at, names_at, read, read_all, table_of, no_doms, Clean, Kept, Good}
 use Rattle.dedup.specs.ReadingLaws.{join-full}
@@ -29,10 +29,10 @@ names-ascend = refl
 
 -- the words 0, 63, 192, inherited from the first type; the words 63, 64, 191, 192, 199, from the last
 abbrev first : Entry
-first = record { kind = 1; words = record { a = 9223372036854775809; b = 0; c = 0; d = 1 }; parents = 1 }
+first = record { kind = Associate; words = record { a = 9223372036854775809; b = 0; c = 0; d = 1 }; parents = 1 }
 
 abbrev second : Entry
-second = record { kind = 1; words = record { a = 9223372036854775808; b = 1; c = 9223372036854775808; d = 129 }; parents = 4 }
+second = record { kind = Associate; words = record { a = 9223372036854775808; b = 1; c = 9223372036854775808; d = 129 }; parents = 4 }
 
 -- the doms of a word: none, and the word itself
 abbrev two_doms : ℕ → Row
@@ -50,10 +50,10 @@ pub joined-read :
 unfolding join merge unless_empty inter diff none common without either read resources_at names_at doms_of between has has_bit single
 joined-read = refl
 
--- ---- the kinds decide: a NestAssociate (2) shares words with another, and nothing with an Associate
+-- ---- the kinds decide: a NestAssociate shares words with another, and nothing with an Associate
 
 abbrev nested : Entry → Entry
-nested e = record { kind = 2; words = e.words; parents = e.parents }
+nested e = record { kind = NestAssociate; words = e.words; parents = e.parents }
 
 pub nested-shared : inter (nested first) (nested second) ≡ nested (inter first second)
 unfolding inter
@@ -76,15 +76,17 @@ pub second-sound : Sound second
 second-sound = record { kind = refl; small = record { a = omega arith; b = omega arith; c = omega arith; d = omega arith }; words = words-below second.words (omega arith) }
 
 abbrev zeros : Entry
-zeros = record { kind = 0; words = empty; parents = 0 }
+zeros = record { kind = MakeList; words = empty; parents = 0 }
 
 abbrev both : Entries
 both = record {
   count = 3;
-  items = record { kind = 1; words = record { a = 1; b = 0; c = 0; d = 0 }; parents = 1 }
-      ∷ record { kind = 1; words = record { a = 9223372036854775808; b = 0; c = 0; d = 1 }; parents = 5 }
-      ∷ record { kind = 1; words = record { a = 0; b = 1; c = 9223372036854775808; d = 128 }; parents = 4 }
+  items = record { kind = Associate; words = record { a = 1; b = 0; c = 0; d = 0 }; parents = 1 }
+      ∷ record { kind = Associate; words = record { a = 9223372036854775808; b = 0; c = 0; d = 1 }; parents = 5 }
+      ∷ record { kind = Associate; words = record { a = 0; b = 1; c = 9223372036854775808; d = 128 }; parents = 4 }
       ∷ replicate 198 zeros;
+  few = omega arith;
+  long = refl;
 }
 
 both-are : entries_of both ≡ join (first ∷ []) second
@@ -103,16 +105,21 @@ both-kept =
 clean-set : (D : List Row) (l : List Entry) (v : ℕ) (r : Row) → covers l v ≡ true → Clean (table_of D) l → Clean (table_of (set D v r)) l
 clean-set D l v r e c w b t = get_or-set_other D v w r empty (λ q. never e (ap (covers l) (sym q) ∙ t)) ∙ c w b t
 
-abbrev both_inherited : Inherited
-both_inherited = record { list = both; doms = set (set (set no_doms 0 (two_doms 1)) 63 (two_doms 64)) 199 (two_doms 200) }
+abbrev both_doms : List Row
+both_doms = set (set (set no_doms 0 (two_doms 1)) 63 (two_doms 64)) 199 (two_doms 200)
 
-pub both-good : Good both_inherited
+pub both-good : Good both both_doms
 unfolding entries_of no_doms has
 both-good =
     record {
+      fits = omega arith;
       kept = both-kept;
       clean =
           clean-set (set (set no_doms 0 (two_doms 1)) 63 (two_doms 64)) (entries_of both) 199 (two_doms 200) refl
           (clean-set (set no_doms 0 (two_doms 1)) (entries_of both) 63 (two_doms 64) refl
           (clean-set no_doms (entries_of both) 0 (two_doms 1) refl (λ w b t. get_or-replicate 200 w empty empty b)));
     }
+
+-- so a type can inherit them
+pub both_inherited : Inherited
+both_inherited = record { list = both; doms = both_doms; good = both-good }

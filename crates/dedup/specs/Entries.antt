@@ -1,17 +1,19 @@
 -- Inherited entries as rows of bits, and their dedup.
-use Rattle.std.specs.Prelude.{Bool, true, false, not, List, [], ◌∷◌, ◌++◌, ◌≡◌, ℕ, ◌<◌, take, get_or}
+use Rattle.std.specs.Prelude.{Bool, true, false, not, List, [], ◌∷◌, ◌++◌, ◌≡◌, ℕ, ◌<◌}
 use Rattle.std.specs.Int.Bits.{bit_or}
+use Rattle.std.proofs.Common.{refl, ap₂}
+use mathlib.Core.Sum.{⊎_set}
+use denote.Struct.Props.{props}
 use Rattle.lists.specs.Lists.{any, all, filter}
 use Rattle.rows.specs.declared.Row.{Row}
 use Rattle.rows.specs.Rows.{common, without, none, has, empty}
 use Rattle.rows.specs.RowLaws.{Small}
-use Rattle.definitions.specs.Annotations.{Overlap, nothing, whole, by_word, overlaps}
+use Rattle.definitions.specs.Annotations.{Overlap, nothing, whole, by_word}
+use Rattle.records.specs.declared.Kind.TheVariants.{Associate}
+use Rattle.bounded.specs.declared.UpTo.{UpTo}
+use Rattle.bounded.specs.Items.{items_of}
+use Rattle.annotations.specs.Reading.{overlap_at}
 use Rattle.dedup.specs.declared.Entry.{Entry}
-use Rattle.dedup.specs.declared.Entries.{Entries}
-
--- what two annotations of these kinds have in common
-abbrev pub overlap_at : ℕ → ℕ → Overlap
-overlap_at k j = get_or (get_or overlaps k []) j nothing
 
 -- the words that two entries share: none; all, if they are equal; those that both have
 abbrev pub shared_by : Overlap → Row → Row → Row
@@ -56,14 +58,17 @@ unfoldable pub join_all : List Entry → List Entry → List Entry
 join_all l [] = l
 join_all l (n ∷ ns) = join_all (join l n) ns
 
+abbrev pub Entries : Type 0
+Entries = UpTo Entry 201
+
 unfoldable pub entries_of : Entries → List Entry
-entries_of l = take l.count l.items
+entries_of l = items_of l
 
 -- ---- lists of entries that are apart
 
--- it is an Associate (1), and its words are below 200
+-- it is an Associate, and its words are below 200
 pub record Sound (e : Entry) : Type 0 where
-  pub kind : e.kind ≡ 1
+  pub kind : e.kind ≡ Associate
   pub small : Small e.words
   pub words : (w : ℕ) → has e.words w ≡ true → w < 200
 
@@ -75,6 +80,15 @@ covers l w = any (λ (e : Entry). has e.words w) l
 pub data Apart : List Entry → Type 0 where
   nil : Apart []
   cons : {e : Entry} {l : List Entry} → Sound e → ((w : ℕ) → has e.words w ≡ true → covers l w ≡ false) → Apart l → Apart (e ∷ l)
+
+-- which has one proof at most, so that it may be a ghost field
+one-alone : (e : Entry) (l : List Entry) → IsProp (Sound e × ((w : ℕ) → has e.words w ≡ true → covers l w ≡ false))
+one-alone e l = Prim.hlevel (props, ⊎_set)
+
+pub Apart-prop : (l : List Entry) → IsProp (Apart l)
+Apart-prop [] nil nil = refl
+Apart-prop (e ∷ l) (cons s f a) (cons t g b) =
+    ap₂ (λ (x : Sound e × ((w : ℕ) → has e.words w ≡ true → covers l w ≡ false)) (y : Apart l). cons x.0 x.1 y) (one-alone e l (s, f) (t, g)) (Apart-prop l a b)
 
 -- each has a word
 abbrev pub Full : List Entry → Type 0

@@ -11,10 +11,12 @@ use Rattle.lists.specs.Appending.{any_append, all_append}
 use Rattle.rows.specs.declared.Row.{Row}
 use Rattle.rows.specs.Rows.{has, none, common, without}
 use Rattle.rows.specs.RowLaws.{Small, has-common, has-without, has-none, some-there, all-zero, small-common, small-without}
+use Rattle.records.specs.declared.Kind.{Kind}
+use Rattle.records.specs.declared.Kind.TheVariants.{MakeList}
+use Rattle.annotations.specs.Reading.{overlap_at}
 use Rattle.dedup.specs.declared.Entry.{Entry}
-use Rattle.dedup.specs.declared.Entries.{Entries}
 use Rattle.dedup.specs.Lists.{all_filter, many, many-most, many-or, many-some}
-use Rattle.dedup.specs.Entries.{overlap_at, shared_by, left_by, inter, diff, stands, unless_empty, merge, join, Sound, covers, Apart, nil, cons, Full}
+use Rattle.dedup.specs.Entries.{Entries, shared_by, left_by, inter, diff, stands, unless_empty, merge, join, Sound, covers, Apart, nil, cons, Full}
 
 pub covers-append : (a b : List Entry) (w : ℕ) → covers (a ++ b) w ≡ (covers a w || covers b w)
 covers-append a b w = any_append (λ (e : Entry). has e.words w) a b
@@ -28,13 +30,13 @@ covers-unless e w = by (none e.words) (λ p. rw p (sym (has-none e.words w p))) 
 pub diff_is : (x y : Entry) → Sound x → Sound y → diff x y ≡ record { kind = x.kind; words = without x.words y.words; parents = x.parents }
 unfolding diff
 diff_is x y s t =
-    ap₂ (λ (k j : ℕ). record { kind = x.kind; words = left_by (overlap_at k j) x.words y.words; parents = x.parents }) s.kind t.kind
+    ap₂ (λ (k j : Kind). record { kind = x.kind; words = left_by (overlap_at k j) x.words y.words; parents = x.parents }) s.kind t.kind
 
 pub inter-is : (x y : Entry) → Sound x → Sound y
     → inter x y ≡ record { kind = x.kind; words = common x.words y.words; parents = bit_or x.parents y.parents }
 unfolding inter
 inter-is x y s t =
-    ap₂ (λ (k j : ℕ). record { kind = x.kind; words = shared_by (overlap_at k j) x.words y.words; parents = bit_or x.parents y.parents })
+    ap₂ (λ (k j : Kind). record { kind = x.kind; words = shared_by (overlap_at k j) x.words y.words; parents = bit_or x.parents y.parents })
     s.kind t.kind
 
 pub has-diff : (x y : Entry) → Sound x → Sound y → (w : ℕ) → has (diff x y).words w ≡ (has x.words w && not (has y.words w))
@@ -248,7 +250,7 @@ with_parents a n = record { kind = a.kind; words = a.words; parents = bit_or a.p
 
 -- what a read past the end gives
 abbrev pub zeros : Entry
-zeros = record { kind = 0; words = record { a = 0; b = 0; c = 0; d = 0 }; parents = 0 }
+zeros = record { kind = MakeList; words = record { a = 0; b = 0; c = 0; d = 0 }; parents = 0 }
 
 -- no entries
 abbrev pub no_entries : List Entry

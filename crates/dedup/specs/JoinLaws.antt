@@ -1,18 +1,18 @@
 -- What the functions ensure, from the entries that they hand back.
 use Rattle.std.specs.Prelude.{true, List, [], ◌∷◌, map, ◌≡◌, refl, ℕ, ◌+◌, ◌<◌, ◌≤◌}
-use Rattle.std.proofs.Common.{sym, ap₂, ◌∙◌, add-one, arith}
+use Rattle.std.proofs.Common.{sym, ◌∙◌, add-one, arith}
 use Rattle.std.proofs.Math.Path.{ap}
 use Rattle.std.specs.Int.Bits.{or_zero_r}
 use lib.ListN.{length, take, drop, get_or, set, drop_of_length-le}
 use lib.Seq.{drop-cons, get_or-take, take-set-lt, length-take-le}
 use Rattle.lists.specs.Tests.{by, neither}
+use Rattle.bounded.specs.Items.{items_of, length-items_of}
 use Rattle.rows.specs.declared.Row.{Row}
 use Rattle.rows.specs.Rows.{either, empty}
 use Rattle.definitions.specs.Inherited.{dedup_onto}
 use Rattle.dedup.specs.declared.Entry.{Entry}
-use Rattle.dedup.specs.declared.Entries.{Entries}
-use Rattle.dedup.specs.declared.Inherited.{Inherited}
-use Rattle.dedup.specs.Entries.{inter, merge, join, join_all, entries_of, stands, Sound, covers, Apart, nil, Full}
+use Rattle.dedup.specs.declared.inherited.Inherited.{Inherited}
+use Rattle.dedup.specs.Entries.{Entries, inter, merge, join, join_all, entries_of, stands, Sound, covers, Apart, nil, Full}
 use Rattle.dedup.specs.EntryLaws.{join_apart, apart-among, zeros, PlaceOf, merge-same}
 use Rattle.dedup.specs.Reading.{read_all, table_of, inherited_of, joined, Clean, Kept, Good, Joins, JoinsAll, Nothing, Unites, no_doms, under_place}
 use Rattle.dedup.specs.ReadingLaws.{join_is, join-full, join-all-is, join-all-covers, same_tables, covers-under, apart-under, sound-under, read_under}
@@ -34,33 +34,32 @@ unfolding join
 join-some [] n h = absurd (h refl)
 join-some (a ∷ l) n h = refl
 
-pub join-merged : (l : Entries) (n : Entry) → (l.count ≡ 0 → ⊥) → l.count ≤ length l.items → join (entries_of l) n ≡ merge (entries_of l) n
+pub join-merged : (l : Entries) (n : Entry) → (l.count ≡ 0 → ⊥) → join (entries_of l) n ≡ merge (entries_of l) n
 unfolding entries_of
-join-merged l n h b = join-some (take l.count l.items) n (λ e. h (sym (length-take-le l.count l.items b) ∙ e))
+join-merged l n h = join-some (items_of l) n (λ e. h (sym (length-items_of l) ∙ e))
 
 full_by : (l : List Entry) (i : ℕ) → i < length l → stands (get_or l 0 zeros) ≡ true → Full (drop 1 l) → Full l
 full_by [] i h p u = refl
 full_by (a ∷ l) i h p u = rw p u
 
-join-under : (l r : Entries) (n : Entry) (i : ℕ) → Kept l → Sound n → l.count ≤ length l.items → PlaceOf l n.words i → r.count ≡ l.count
-    → r.items ≡ set l.items i (inter (get_or l.items i zeros) n) → entries_of r ≡ join (entries_of l) n
+join-under : (l r : Entries) (n : Entry) (i : ℕ) → Kept l → Sound n → PlaceOf l n.words i → items_of r ≡ set (items_of l) i (inter (get_or l.items i zeros) n)
+    → entries_of r ≡ join (entries_of l) n
 unfolding entries_of
-join-under l r n i k s b p c e =
+join-under l r n i k s p e =
     let h = p.within in
-    let t : length (take l.count l.items) ≡ l.count = length-take-le l.count l.items b in
+    let t = length-items_of l in
     let g : get_or (take l.count l.items) i zeros ≡ get_or l.items i zeros = get_or-take l.count l.items i zeros h in
     let f : get_or (take l.count l.items) 0 zeros ≡ get_or l.items 0 zeros = get_or-take l.count l.items 0 zeros (omega arith) in
-    ap₂ (λ (m : ℕ) (z : List Entry). take m z) c e
-    ∙ take-set-lt l.count l.items i (inter (get_or l.items i zeros) n) h
+    e
     ∙ ap (λ (x : Entry). set (take l.count l.items) i (inter x n)) (sym g)
     ∙ sym
     (join-some (take l.count l.items) n (λ q. absurd (omega arith))
     ∙ merge-same (take l.count l.items) i zeros n k.apart
     (full_by (take l.count l.items) i (omega arith) (ap stands f ∙ p.first) k.full) s (omega arith) (ap (λ (x : Entry). x.words) g ∙ p.same))
 
-pub joins-shared : (l r : Entries) (n : Entry) (i : ℕ) → Kept l → Sound n → l.count ≤ length l.items → PlaceOf l n.words i → r.count ≡ l.count
-    → r.items ≡ set l.items i (inter (get_or l.items i zeros) n) → Joins l n r
-joins-shared l r n i k s b p c e = joins-by l r n k s (join-under l r n i k s b p c e) (omega (arith, c, k.room))
+pub joins-shared : (l r : Entries) (n : Entry) (i : ℕ) → Kept l → Sound n → PlaceOf l n.words i
+    → items_of r ≡ set (items_of l) i (inter (get_or l.items i zeros) n) → r.count ≡ l.count → Joins l n r
+joins-shared l r n i k s p e c = joins-by l r n k s (join-under l r n i k s p e) (omega (arith, c, k.room))
 
 -- ---- one entry of a parent more
 
@@ -86,50 +85,54 @@ either-none : (x : Row) → either x empty ≡ x
 unfolding either
 either-none x = rw (or_zero_r x.a, or_zero_r x.b, or_zero_r x.c, or_zero_r x.d)
 
-module _ (h p r : Inherited) (parent : ℕ) (gh : Good h) (gp : Good p) (k : Kept r.list) (e : entries_of r.list ≡ join_all (entries_of h.list) (map (under_place parent) (entries_of p.list)))
-    (u : Unites h.doms p.doms r.doms) where
-  tables : (w : ℕ) → w < 200 → table_of r.doms w ≡ joined (table_of h.doms) (covers (map (under_place parent) (entries_of p.list))) (table_of p.doms) w
+module _ (h p : Inherited) (list : Entries) (doms : List Row) (parent : ℕ) (k : Kept list) (e : entries_of list ≡ join_all (entries_of h.list) (map (under_place parent) (entries_of p.list)))
+    (u : Unites h.doms p.doms doms) where
+  tables : (w : ℕ) → w < 200 → table_of doms w ≡ joined (table_of h.doms) (covers (map (under_place parent) (entries_of p.list))) (table_of p.doms) w
   tables w b =
       u.at w b
       ∙ by (covers (entries_of p.list) w)
       (λ t. rw (covers-under parent (entries_of p.list) w, t))
-      (λ t. rw (covers-under parent (entries_of p.list) w, t, gp.clean w b t) (either-none (table_of h.doms w)))
+      (λ t. rw (covers-under parent (entries_of p.list) w, t, p.good.clean w b t) (either-none (table_of h.doms w)))
 
-  cleaned : Clean (table_of r.doms) (entries_of r.list)
+  cleaned : Clean (table_of doms) (entries_of list)
   cleaned w b t =
       let q = neither (covers (entries_of h.list) w) (covers (map (under_place parent) (entries_of p.list)) w)
       (sym
-      (join-all-covers (entries_of h.list) (map (under_place parent) (entries_of p.list)) gh.kept.apart
-      (apart-under parent (entries_of p.list) gp.kept.apart) w)
+      (join-all-covers (entries_of h.list) (map (under_place parent) (entries_of p.list)) h.good.kept.apart
+      (apart-under parent (entries_of p.list) p.good.kept.apart) w)
       ∙ ap (λ z. covers z w) (sym e) ∙ t) in
-      u.at w b ∙ rw (gh.clean w b q.0, gp.clean w b (sym (covers-under parent (entries_of p.list) w) ∙ q.1)) (either-none empty)
+      u.at w b ∙ rw (h.good.clean w b q.0, p.good.clean w b (sym (covers-under parent (entries_of p.list) w) ∙ q.1)) (either-none empty)
 
-  pub joins-all-by : JoinsAll h p parent r
+  pub joins-all-good : list.count ≤ length list.items → Good list doms
+  joins-all-good b = record { fits = b; kept = k; clean = cleaned }
+
+  pub joins-all-by : (g : Good list doms) → JoinsAll h p parent (record { list = list; doms = doms; good = g })
   unfolding inherited_of
-  joins-all-by =
+  joins-all-by g =
       record {
-        good = record { kept = k; clean = cleaned };
         dedup = λ names asc.
-            ap (read_all names (table_of r.doms)) e
-            ∙ same_tables names (joined (table_of h.doms) (covers (map (under_place parent) (entries_of p.list))) (table_of p.doms)) (table_of r.doms)
+            ap (read_all names (table_of doms)) e
+            ∙ same_tables names (joined (table_of h.doms) (covers (map (under_place parent) (entries_of p.list))) (table_of p.doms)) (table_of doms)
             (join_all (entries_of h.list) (map (under_place parent) (entries_of p.list))) (λ w b t. tables w b)
             ∙ join-all-is names asc (table_of p.doms) (table_of h.doms) (entries_of h.list) (map (under_place parent) (entries_of p.list))
-            gh.kept.apart gh.kept.full gh.clean (apart-under parent (entries_of p.list) gp.kept.apart)
+            h.good.kept.apart h.good.kept.full h.good.clean (apart-under parent (entries_of p.list) p.good.kept.apart)
             ∙ ap (dedup_onto (read_all names (table_of h.doms) (entries_of h.list))) (read_under names (table_of p.doms) parent (entries_of p.list));
       }
 
 -- ---- nothing
 
-pub nothing-by : (r : Inherited) → r.list.count ≡ 0 → r.doms ≡ no_doms → Nothing r
-unfolding inherited_of entries_of no_doms
-nothing-by r e d =
+pub nothing-good : (list : Entries) (doms : List Row) → list.count ≡ 0 → doms ≡ no_doms → Good list doms
+unfolding entries_of no_doms
+nothing-good list doms e d =
     record {
-      good = record {
-        kept = record { room = omega arith; apart = rw e nil; full = rw e refl };
-        clean = λ w l c. ap (λ z. get_or z w empty) d ∙ lib.ListN.get_or-replicate 200 w empty empty l;
-      };
-      none = λ names. rw e refl;
+      fits = omega (arith, e);
+      kept = record { room = omega arith; apart = rw e nil; full = rw e refl };
+      clean = λ w l c. ap (λ z. get_or z w empty) d ∙ lib.ListN.get_or-replicate 200 w empty empty l;
     }
+
+pub nothing-by : (r : Inherited) → r.list.count ≡ 0 → Nothing r
+unfolding inherited_of entries_of
+nothing-by r e = record { none = λ names. rw e refl }
 
 -- ---- one dom set more
 

@@ -2,6 +2,7 @@ pub mod Lists
 pub mod Entries
 pub mod EntryLaws
 pub mod MergeLaws
+pub mod Keeping
 pub mod Reading
 pub mod ReadingLaws
 pub mod JoinLaws

@@ -1,5 +1,5 @@
 -- The entries of the code, read as the definitions' list of inherited annotations.
-use Rattle.std.specs.Prelude.{Bool, true, false, cond, List, [], map, ◌≡◌, ℕ, ◌<◌, ◌≤◌, get_or, length, drop, replicate}
+use Rattle.std.specs.Prelude.{Bool, true, cond, List, [], map, ◌≡◌, ℕ, ◌<◌, get_or, length, replicate}
 use Rattle.std.proofs.Math.Option.{Option, some}
 use Rattle.lists.specs.Lists.{ascends}
 use Rattle.rows.specs.declared.Row.{Row}
@@ -9,11 +9,12 @@ use Rattle.definitions.specs.Records.{Name, AssociatedResource}
 use Rattle.definitions.specs.Comparisons.{name_before}
 use Rattle.definitions.specs.Annotations.{some_if}
 use Rattle.definitions.specs.Inherited.{InheritedAnnotation, dedup_one, dedup_onto}
+use Rattle.records.specs.Kinds.{number_of}
 use Rattle.annotations.specs.Reading.{doms_of, of_kind}
 use Rattle.dedup.specs.declared.Entry.{Entry}
-use Rattle.dedup.specs.declared.Entries.{Entries}
-use Rattle.dedup.specs.declared.Inherited.{Inherited}
-use Rattle.dedup.specs.Entries.{entries_of, stands, join, covers, Apart, Full}
+use Rattle.dedup.specs.declared.inherited.Inherited.{Inherited}
+use Rattle.dedup.specs.Entries.{Entries, entries_of, stands, join}
+pub use Rattle.dedup.specs.Keeping.{table_of, Clean, Kept, Good}
 
 -- the words of a row ascend, each with the dom set that the table D gives it
 unfoldable pub resources_at : (ℕ → Row) → Row → List AssociatedResource
@@ -25,7 +26,7 @@ names_at names ps = map (λ i. get_or names i []) (below (has_bit ps) (length na
 
 -- `names` are the names of all types, in order. An entry holds no tag, which only an Alias or a Derive has.
 unfoldable pub read : List Name → (ℕ → Row) → Entry → InheritedAnnotation
-read names D e = record { annotation = of_kind e.kind 0 (resources_at D e.words); parents = names_at names e.parents }
+read names D e = record { annotation = of_kind (number_of e.kind) 0 (resources_at D e.words); parents = names_at names e.parents }
 
 abbrev pub read_all : List Name → (ℕ → Row) → List Entry → List InheritedAnnotation
 read_all names D l = map (read names D) l
@@ -34,30 +35,12 @@ read_all names D l = map (read names D) l
 unfoldable pub read_some : List Name → (ℕ → Row) → Entry → Option InheritedAnnotation
 read_some names D e = some_if (stands e) (read names D e)
 
--- a table of dom sets by word
-abbrev pub table_of : List Row → ℕ → Row
-table_of ds w = get_or ds w empty
-
 unfoldable pub inherited_of : List Name → Inherited → List InheritedAnnotation
 inherited_of names h = read_all names (table_of h.doms) (entries_of h.list)
 
 -- the table D, united with G at the words of `ws`
 abbrev pub joined : (ℕ → Row) → (ℕ → Bool) → (ℕ → Row) → ℕ → Row
 joined D ws G w = cond (ws w) (either (D w) (G w)) (D w)
-
--- words that no entry has, have no doms
-abbrev pub Clean : (ℕ → Row) → List Entry → Type 0
-Clean D l = (w : ℕ) → w < 200 → covers l w ≡ false → D w ≡ empty
-
--- what a list of entries meets: it fits, each is an Associate, no two share a word, and but for the first each has a word
-pub record Kept (l : Entries) : Type 0 where
-  pub room : l.count ≤ 200
-  pub apart : Apart (entries_of l)
-  pub full : Full (drop 1 (entries_of l))
-
-pub record Good (h : Inherited) : Type 0 where
-  pub kept : Kept h.list
-  pub clean : Clean (table_of h.doms) (entries_of h.list)
 
 -- ---- what the functions ensure
 
@@ -78,7 +61,6 @@ under_place p e = record { kind = e.kind; words = e.words; parents = p }
 
 -- h with all that p has, under the types at the places `parent`
 pub record JoinsAll (h p : Inherited) (parent : ℕ) (r : Inherited) : Type 0 where
-  pub good : Good r
   pub dedup : (names : List Name) → ascends name_before names ≡ true
       → inherited_of names r ≡ dedup_onto (inherited_of names h) (map (under' (names_at names parent)) (inherited_of names p))
 
@@ -87,7 +69,6 @@ unfoldable pub no_doms : List Row
 no_doms = replicate 200 empty
 
 pub record Nothing (r : Inherited) : Type 0 where
-  pub good : Good r
   pub none : (names : List Name) → inherited_of names r ≡ []
 
 -- the dom sets of both, word by word

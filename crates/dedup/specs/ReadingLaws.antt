@@ -19,6 +19,8 @@ use Rattle.definitions.specs.Records.{Name, Dom, AssociatedResource, associate}
 use Rattle.definitions.specs.Comparisons.{name_before, dom_before}
 use Rattle.definitions.specs.Annotations.{has_associated_word, doms_in, united, shared, less, some_if, overlap_of, intersection, difference}
 use Rattle.definitions.specs.Inherited.{InheritedAnnotation, under_parents, shared_entry, rest_entry, to_list, dedup_one, dedup_onto}
+use Rattle.records.specs.declared.Kind.{Kind}
+use Rattle.records.specs.Kinds.{number_of}
 use Rattle.annotations.specs.Reading.{dom_at, doms_of, of_kind}
 use Rattle.annotations.specs.Laws.{climbing-doms}
 use Rattle.dedup.specs.declared.Entry.{Entry}
@@ -122,13 +124,13 @@ under_some false ps us = refl
 read-tables : (names : List Name) (D E : ℕ → Row) (e : Entry) → ((w : ℕ) → w < 200 → has e.words w ≡ true → E w ≡ D w) → read names E e ≡ read names D e
 unfolding read
 read-tables names D E e h =
-    ap (λ us. record { annotation = of_kind e.kind 0 us; parents = names_at names e.parents }) (same-resources D E e.words h)
+    ap (λ us. record { annotation = of_kind (number_of e.kind) 0 us; parents = names_at names e.parents }) (same-resources D E e.words h)
 
 -- an Associate, read
 pub read_is : (names : List Name) (D : ℕ → Row) (e : Entry) → Sound e
     → read names D e ≡ record { annotation = associate (resources_at D e.words); parents = names_at names e.parents }
 unfolding read
-read_is names D e s = ap (λ (k : ℕ). record { annotation = of_kind k 0 (resources_at D e.words); parents = names_at names e.parents }) s.kind
+read_is names D e s = ap (λ (k : Kind). record { annotation = of_kind (number_of k) 0 (resources_at D e.words); parents = names_at names e.parents }) s.kind
 
 module _ (names : List Name) (asc : ascends name_before names ≡ true) where
   names-either : (p q : ℕ) → set_of name_before (names_at names p ++ names_at names q) ≡ names_at names (bit_or p q)

@@ -1,41 +1,34 @@
 // What a type inherits: `InheritedAnnotation` and its dedup, after compile.rs.
 #![tactic(auto)]
 
-ghost use Rattle.std.specs.Prelude.{◌≡◌, [], ◌∷◌, map, ◌<◌, ◌≤◌, length, IfSome};
-ghost use Rattle.dedup.specs.Entries.{overlap_at, shared_by, left_by, inter, diff, unless_empty, merge, join_all, entries_of, Sound, Apart};
+ghost use Rattle.std.specs.Prelude.{◌≡◌, [], ◌∷◌, map, ◌≤◌, length, IfSome};
+ghost use Rattle.annotations.specs.Reading.{overlap_at};
+ghost use Rattle.dedup.specs.Entries.{shared_by, left_by, inter, diff, unless_empty, merge, join_all, entries_of, Sound, Apart};
 ghost use Rattle.dedup.specs.EntryLaws.{PlaceOf, no_entries};
-ghost use Rattle.dedup.specs.Reading.{no_doms, under_place, Kept, Good, Nothing, Unites, Joins, JoinsAll};
+ghost use Rattle.dedup.specs.Reading.{no_doms, under_place, Kept, Nothing, Unites, Joins, JoinsAll};
+
+mod inherited;
 
 use annotations::Overlap;
+use bounded::UpTo;
+pub use inherited::Inherited;
+use records::Kind;
 use rows::Row;
 
-// An inherited annotation: the number of its kind, as `annotations` has it, its words as a row of bits, and the types that it is
-// inherited from, by their places in name order.
+// An inherited annotation: its kind, its words as a row of bits, and the types that it is inherited from, by their places in name
+// order.
 #[derive(Clone, Copy)]
 pub struct Entry {
-    pub kind: u8,
+    pub kind: Kind,
     pub words: Row,
     pub parents: u64,
 }
 
-// The first `count` entries stand. No two share a word, so there are at most 200; one place is to spare. An array beside its
-// count, since the synthesis has fixed memory and no heap.
-#[derive(Clone, Copy)]
-pub struct Entries {
-    pub count: usize,
-    pub items: [Entry; 201],
-}
-
-// What a type inherits. Since entries share no word, a dom set belongs to its word, whatever the entry.
-#[derive(Clone, Copy)]
-pub struct Inherited {
-    pub list: Entries,
-    pub doms: [Row; 200],
-}
+// No two entries share a word, so there are at most 200; one place is to spare.
+pub type Entries = UpTo<Entry, 201>;
 
 // The words of what two entries of the kinds k and j share. The kinds decide, as they do for two annotations.
-fn shared_words(k: u8, j: u8, x: Row, y: Row) -> Row
-    requires { (k < 7) × (j < 7) }
+fn shared_words(k: Kind, j: Kind, x: Row, y: Row) -> Row
     ensures { result ≡ shared_by (overlap_at k j) x y }
 {
     match annotations::overlap_of(k, j) {
@@ -46,8 +39,7 @@ fn shared_words(k: u8, j: u8, x: Row, y: Row) -> Row
 }
 
 // The words of what is left of the first.
-fn left_words(k: u8, j: u8, x: Row, y: Row) -> Row
-    requires { (k < 7) × (j < 7) }
+fn left_words(k: Kind, j: Kind, x: Row, y: Row) -> Row
     ensures { result ≡ left_by (overlap_at k j) x y }
 {
     match annotations::overlap_of(k, j) {
@@ -59,7 +51,6 @@ fn left_words(k: u8, j: u8, x: Row, y: Row) -> Row
 
 // `InheritedAnnotation::intersection`: what both annotations share, inherited from the parents of both.
 pub fn intersection(x: Entry, y: Entry) -> Entry
-    requires { (x.kind < 7) × (y.kind < 7) }
     ensures { result ≡ inter x y }
 {
     let v = x.words;
@@ -74,7 +65,6 @@ pub fn intersection(x: Entry, y: Entry) -> Entry
 
 // `InheritedAnnotation::difference`: the rest of the first, inherited from the parents of the first.
 pub fn difference(x: Entry, y: Entry) -> Entry
-    requires { (x.kind < 7) × (y.kind < 7) }
     ensures { result ≡ diff x y }
 {
     let v = x.words;
@@ -102,14 +92,16 @@ pub fn standing(e: Entry) -> usize
 fn alone(l: Entries, newcomer: Entry) -> Entries
     ensures { (entries_of result ≡ newcomer ∷ []) × (result.count ≡ 1) }
 {
-    let mut items = l.items;
-    items[0] = newcomer;
-    Entries { count: 1, items }
+    let mut out = l;
+    out.count = 0;
+    out.push(newcomer);
+    out
 }
 
 // The list that a newcomer has joined: each earlier entry split into its rest and what it shares, behind all of them the
 // newcomer's rest (FORMAT 8.9). An entry is stored at k, and k moves on if the entry stands. One that has no word of the newcomer
 // shares nothing: it is its own rest, and the newcomer stays. Of the others the kinds decide.
+// `Sound` is no ghost field of an entry: `intersection` and `difference` take entries of all kinds.
 pub fn merged(l: Entries, newcomer: Entry) -> Entries
     requires apart { Apart (entries_of l) }
     requires count_bound { (l.count ≤ 200) × Sound newcomer }
@@ -139,7 +131,7 @@ pub fn merged(l: Entries, newcomer: Entry) -> Entries
     }
     out[k] = n;
     k += standing(n);
-    Entries {
+    UpTo {
         count: k,
         items: out,
     }
@@ -163,7 +155,7 @@ pub fn no_entries() -> [Entry; 201]
 {
     let words = rows::empty_row();
     let e = Entry {
-        kind: 0,
+        kind: Kind::MakeList,
         words,
         parents: 0,
     };
@@ -183,7 +175,7 @@ pub fn nothing() -> Inherited
     ensures { Nothing result }
 {
     let items = no_entries();
-    let list = Entries { count: 0, items };
+    let list = UpTo { count: 0, items };
     let doms = no_doms();
     Inherited { list, doms }
 }
@@ -238,7 +230,7 @@ pub fn joined_entries(l: Entries, p: Entries, parent: u64) -> Entries
             Some(at) => {
                 let y = out.items[at];
                 let both = intersection(y, n);
-                out.items[at] = both;
+                out.set(at, both);
             }
             None => out = dedup_inherited_annotations_one(out, n),
         }
@@ -248,8 +240,6 @@ pub fn joined_entries(l: Entries, p: Entries, parent: u64) -> Entries
 
 // What a type inherits from one parent more, which itself inherits p. The dom sets are united once for all its entries.
 pub fn dedup_inherited_annotations(h: Inherited, p: Inherited, parent: u64) -> Inherited
-    requires good { Good h }
-    requires good_2 { Good p }
     ensures { JoinsAll h p parent result }
 {
     let l = h.list;

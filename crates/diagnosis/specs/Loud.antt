@@ -4,14 +4,15 @@ use Rattle.std.proofs.Math.Bool.{false}
 use Rattle.std.specs.Prelude.{not, ◌≡◌, refl, ltb}
 use mathlib.Core.List.{List, [], ◌∷◌, cons≢nil}
 use Rattle.std.proofs.Common.{ap, arith, ltb-true}
-use Prim.Native.Nat.{ℕ, zero, suc, ◌+◌, ◌*◌, ◌<◌}
+use Prim.Native.Nat.{ℕ, zero, suc, ◌<◌}
 use Rattle.std.proofs.lemmas.Bool.{not-false}
 use Rattle.lists.specs.Lists.{all, each, first_of}
 use Rattle.lists.specs.Tests.{by, never, or-false-left, or-false-right}
 use Rattle.rows.specs.Rows.{has_bit}
 use Rattle.bitsets.specs.Bitsets.{more}
 use Rattle.ordering.specs.Lists.{first_of-nil, tab, all-tab-not, any-tab-out, each-tab-nil, elem, below_in}
-use Rattle.ordering.specs.Reading.{Parent, parent_at, how_many, listed, self_in}
+use Rattle.ordering.specs.Reading.{parent_at, how_many, listed, self_in}
+use Rattle.ordering.specs.declared.Parent.{Parent}
 use Rattle.ordering.specs.Rounds.{settled, is_ready, free, next, final, final-rests}
 use Rattle.ordering.specs.declared.Parents.{Parents}
 use Rattle.order_placed.specs.Placing.{off}
@@ -25,14 +26,14 @@ answered p t (q ∷ qs) later e = absurd (cons≢nil e)
 
 module _ (p : Parents) where
   -- a type that is not placed waits for a parent that is not placed
-  waits : (t : ℕ) → t < p.count → elem t (final p) ≡ false → (i : ℕ) × (i < how_many p t) × (elem (parent_at p (8 * t + i)).place (final p) ≡ false)
+  waits : (t : ℕ) → t < p.count → elem t (final p) ≡ false → (i : ℕ) × (i < how_many p t) × (elem (parent_at p t i).place (final p) ≡ false)
   unfolding next free is_ready listed
   waits t h e =
-      by (all (settled p (final p)) (tab (λ j. parent_at p (8 * t + j)) (how_many p t)))
+      by (all (settled p (final p)) (tab (λ j. parent_at p t j) (how_many p t)))
       (λ r. never (below_in (free p (final p)) p.count t h (rw (e, r))) (ap (elem t) (final-rests p)))
       (λ r.
-      let w = all-tab-not (λ j. parent_at p (8 * t + j)) (settled p (final p)) (how_many p t) r in
-      (w.0, w.1, or-false-right (self_in p (parent_at p (8 * t + w.0))) (elem (parent_at p (8 * t + w.0)).place (final p)) w.2))
+      let w = all-tab-not (λ j. parent_at p t j) (settled p (final p)) (how_many p t) r in
+      (w.0, w.1, or-false-right (self_in p (parent_at p t w.0)) (elem (parent_at p t w.0).place (final p)) w.2))
 
   pub loud : (d path t : ℕ) → t < p.count → elem t (final p) ≡ false → has_bit path t ≡ false
       → off p.count path ≡ d → rows d p path t ≡ [] → ⊥
@@ -40,14 +41,14 @@ module _ (p : Parents) where
   loud zero path t h e o f r = omega (arith, off-step p.count t path h o)
   loud (suc d) path t h e o f r =
       let on : ℕ = more path t in
-      let qs : List Parent = tab (λ j. parent_at p (8 * t + j)) (how_many p t) in
+      let qs : List Parent = tab (λ j. parent_at p t j) (how_many p t) in
       let a = answered p t (first_of (bad p on) qs) (each (λ (q : Parent). rows d p on q.place) qs) r in
       let w = waits t h e in
-      let x : ℕ = (parent_at p (8 * t + w.0)).place in
-      let b : bad p on (parent_at p (8 * t + w.0)) ≡ false = any-tab-out (λ j. parent_at p (8 * t + j)) (bad p on) (how_many p t) w.0 (first_of-nil (bad p on) qs a.0) w.1 in
+      let x : ℕ = (parent_at p t w.0).place in
+      let b : bad p on (parent_at p t w.0) ≡ false = any-tab-out (λ j. parent_at p t j) (bad p on) (how_many p t) w.0 (first_of-nil (bad p on) qs a.0) w.1 in
       loud d on x
       (ltb-true x p.count (not-false (ltb x p.count) (or-false-left (not (ltb x p.count)) (has_bit on x) b)))
       w.2
       (or-false-right (not (ltb x p.count)) (has_bit on x) b)
       (omega (arith, off-step p.count t path h o))
-      (each-tab-nil (λ j. parent_at p (8 * t + j)) (λ (q : Parent). rows d p on q.place) (how_many p t) w.0 a.1 w.1)
+      (each-tab-nil (λ j. parent_at p t j) (λ (q : Parent). rows d p on q.place) (how_many p t) w.0 a.1 w.1)

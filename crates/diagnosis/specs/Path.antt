@@ -3,14 +3,15 @@ use Rattle.std.specs.Prelude.{true, [], ◌≡◌, eqb}
 use Rattle.std.proofs.Math.Bool.{false, not}
 use Rattle.std.proofs.Math.Path.{refl, ap}
 use Rattle.std.proofs.Common.{sym, ◌∙◌, subst, eqb-true, lt-ltb}
-use Prim.Native.Nat.{ℕ, zero, suc, ◌+◌, ◌*◌}
+use Prim.Native.Nat.{ℕ, zero, suc}
 use Rattle.std.proofs.lemmas.Bool.{eqb-false}
 use Rattle.lists.specs.Lists.{any}
 use Rattle.lists.specs.Tests.{by, never, or-false-both}
 use Rattle.rows.specs.Rows.{has_bit}
 use Rattle.bitsets.specs.Bitsets.{more}
 use Rattle.ordering.specs.Lists.{any_none, first_of-none, tab, all-tab-of, elem, each-tab-none}
-use Rattle.ordering.specs.Reading.{Parent, parent_at, how_many, listed}
+use Rattle.ordering.specs.Reading.{parent_at, how_many, listed}
+use Rattle.ordering.specs.declared.Parent.{Parent}
 use Rattle.ordering.specs.Rounds.{placed, stays, earlier}
 use Rattle.ordering.specs.declared.Parents.{Parents}
 use Rattle.order_placed.specs.Placing.{Plain}
@@ -41,17 +42,17 @@ module _ (p : Parents) where
   quiet_step k n ih (suc d) path t e q h =
       let on : ℕ = more path t in
       let c : Clear k on = on-all (λ x. elem x (placed p k) ≡ false) path t q h in
-      let f : any (bad p on) (tab (λ j. parent_at p (8 * t + j)) (how_many p t)) ≡ false =
-      any_none (bad p on) (tab (λ j. parent_at p (8 * t + j)) (how_many p t))
-      (all-tab-of (λ j. parent_at p (8 * t + j)) (λ x. not (bad p on x)) (how_many p t)
+      let f : any (bad p on) (tab (λ j. parent_at p t j) (how_many p t)) ≡ false =
+      any_none (bad p on) (tab (λ j. parent_at p t j) (how_many p t))
+      (all-tab-of (λ j. parent_at p t j) (λ x. not (bad p on x)) (how_many p t)
       (λ i l.
       let r = parent_in p k t i n e l in
       ap not
-      (or-false-both (ap not (lt-ltb _ _ (earlier p k (parent_at p (8 * t + i)).place r).0))
-      (by (has_bit on (parent_at p (8 * t + i)).place) (λ u. never r (c _ u)) (λ u. u))))) in
-      rw (first_of-none (bad p on) (tab (λ j. parent_at p (8 * t + j)) (how_many p t)) f)
-      (each-tab-none (λ j. parent_at p (8 * t + j)) (λ (x : Parent). rows d p on x.place) (how_many p t)
-      (λ i l. ih d on (parent_at p (8 * t + i)).place (parent_in p k t i n e l) c))
+      (or-false-both (ap not (lt-ltb _ _ (earlier p k (parent_at p t i).place r).0))
+      (by (has_bit on (parent_at p t i).place) (λ u. never r (c _ u)) (λ u. u))))) in
+      rw (first_of-none (bad p on) (tab (λ j. parent_at p t j) (how_many p t)) f)
+      (each-tab-none (λ j. parent_at p t j) (λ (x : Parent). rows d p on x.place) (how_many p t)
+      (λ i l. ih d on (parent_at p t i).place (parent_in p k t i n e l) c))
 
   -- what is placed has no rows, whatever path leads to it over types that are not
   pub quiet : (k d path t : ℕ) → Plain p k → elem t (placed p k) ≡ true → Clear k path → rows d p path t ≡ []

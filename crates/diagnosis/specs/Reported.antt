@@ -1,4 +1,5 @@
 -- What the diagnosis of refusal 8 leaves, for every map that the compact form reads.
+use Rattle.std.specs.Borrow.{MutBor}
 use Rattle.std.specs.Prelude.{Bool, ◌≡◌, refl, ℕ, zero, suc, ◌+◌, ◌*◌, ◌≤◌, min, ltb, length, take}
 use mathlib.Core.List.{List, [], ◌∷◌, ◌++◌, map, cons≢nil}
 use Rattle.std.proofs.Common.{sym, ap, ap₂, ◌∙◌, arith, lt-ltb, le-ltb, ltb-true, ltb-false}
@@ -14,7 +15,10 @@ use Rattle.ordering.specs.declared.Parents.{Parents}
 use Rattle.emitting.specs.Emitting.{State, emit-all}
 use Rattle.emitting.specs.Row.{bytes_of}
 use Rattle.diagnosis.specs.Rows.{order_rows}
-use Rattle.diagnosis.specs.Emit.{emit}
+use Rattle.emitting.specs.Writing.{Begins, Tells, emits_begun}
+use Rattle.emitting.specs.declared.Report.{Report}
+use Rattle.emitting.specs.declared.Writer.{Writer}
+use Rattle.diagnosis.specs.Emit.{emit, Emits}
 use Rattle.diagnosis.specs.Same.{rows_are}
 
 -- the first rows up to the limit at the start of the slice and no other byte, how many these are, and whether there are more
@@ -58,3 +62,10 @@ module _ (p : Parents) (limit : ℕ) (old new : List ℕ) (n : ℕ) (h : 6 * lim
         (λ t. t ∙ sym (lt-ltb limit (length (rules.order_rows m)) (omega (arith, as_many m r, total, ltb-true limit n t))))
         (λ t. t ∙ sym (le-ltb limit (length (rules.order_rows m)) (omega (arith, as_many m r, total, ltb-false limit n t))));
   }
+
+-- a writer that began in a slice, is behind the rows and is asked
+pub reported-by : (p : Parents) (limit : ℕ) (slice : MutBor (List ℕ)) (w w' : Writer) (r : Report) (new : List ℕ) → 6 * limit ≤ length slice.now
+    → Begins slice limit w → Emits w w' (order_rows p) → Tells w' r → new ≡ w'.buf.now → Reported p limit slice.now new r.rows r.more
+reported-by p limit slice w w' r new h b e t q =
+    let k : w'.limit ≡ limit = e.same.limit ∙ b.limit in
+    rw (t.rows, t.more, k, q) (reported p limit slice.now w'.buf.now w'.count h (emits_begun bytes_of slice limit w w' (order_rows p) b e))

@@ -4,7 +4,8 @@ use Rattle.lists.specs.Lists.{null, filter, each, first_of}
 use Rattle.rows.specs.Rows.{has_bit}
 use Rattle.bitsets.specs.Bitsets.{more}
 use Rattle.ordering.specs.Lists.{below}
-use Rattle.ordering.specs.Reading.{Parent, listed, self_in}
+use Rattle.ordering.specs.Reading.{listed, self_in}
+use Rattle.ordering.specs.declared.Parent.{Parent}
 use Rattle.ordering.specs.Rounds.{placed, final, lists_self}
 use Rattle.ordering.specs.Names.{unplaced}
 use Rattle.ordering.specs.declared.Parents.{Parents}

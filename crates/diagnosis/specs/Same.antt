@@ -22,7 +22,8 @@ use Rattle.definitions.specs.OrderRows as rules
 use Rattle.definitions.specs.OrderRows.{type_named, is_bad, bad_row, find_cycles_or_bad_types}
 use Rattle.definitions.specs.Packing.{name_bytes, row_bytes}
 use Rattle.ordering.specs.Lists.{filter_same, each_same, any-not, first_of-map, first_of-holds, first_of-nil, elem, below, below-all-lt}
-use Rattle.ordering.specs.Reading.{Parent, listed, self_in, type_at, place_in, first_word, second_word, parent_in, is_name, Reads}
+use Rattle.ordering.specs.Reading.{listed, self_in, type_at, place_in, first_word, second_word, parent_in, is_name, Reads}
+use Rattle.ordering.specs.declared.Parent.{Parent}
 use Rattle.ordering.specs.Rounds.{placed, final}
 use Rattle.ordering.specs.Names.{unplaced, place_same, types_are, named-yes, named-no, self-is, self-lists, passes-are, last-waiting}
 use Rattle.ordering.specs.declared.Parents.{Parents}

@@ -1,5 +1,5 @@
 -- What a step of the search goes by, and what it finds.
-use Rattle.std.specs.Prelude.{true, false, ◌&&◌, not, List, [], ◌∷◌, ◌++◌, map, ◌≡◌, refl, ℕ, suc, ◌+◌, ◌*◌, ◌≤◌, ◌<◌, ltb, length, get_or, Option, MatchOption}
+use Rattle.std.specs.Prelude.{true, false, ◌&&◌, not, List, [], ◌∷◌, ◌++◌, map, ◌≡◌, refl, ℕ, suc, ◌+◌, ◌≤◌, ◌<◌, ltb, length, get_or, Option, MatchOption}
 use Rattle.std.proofs.Common.{append-nil, ap, ◌∙◌, zero-le, arith, ltb-true}
 use Rattle.std.proofs.Math.Path.{sym}
 use Rattle.std.proofs.lemmas.Bool.{not-false}
@@ -10,7 +10,8 @@ use Rattle.rows.specs.Rows.{has_bit}
 use Rattle.rows.specs.RowLaws.{bit-none}
 use Rattle.bitsets.specs.Bitsets.{more}
 use Rattle.ordering.specs.Lists.{first_of-placed, first_of-beyond, first_of-nil, any-tab-out, tab, tab-at, filter-tab-yes, filter-tab-no, elem, below, below_all, below-yes, below-no, below-same}
-use Rattle.ordering.specs.Reading.{Parent, parent_at, how_many, listed, Valid, self_in, listed-length}
+use Rattle.ordering.specs.Reading.{parent_at, how_many, listed, self_in, listed-length}
+use Rattle.ordering.specs.declared.Parent.{Parent}
 use Rattle.ordering.specs.Rounds.{round, placed, final, lists_self, rests, earlier}
 use Rattle.ordering.specs.declared.Parents.{Parents}
 use Rattle.order_placed.specs.Placing.{off, Plain}
@@ -22,7 +23,6 @@ use Rattle.diagnosis.specs.Path.{on-all, quiet}
 
 -- the set has what all rounds place, and no type in it lists `self`
 pub record Stage (p : Parents) (out : ℕ) : Type 0 where
-  pub valid : Valid p
   pub plain : Plain p p.count
   pub places : (x : ℕ) → has_bit out x ≡ elem x (final p)
 
@@ -38,9 +38,9 @@ pub record At (p : Parents) (out t path : ℕ) : Type 0 where
 abbrev pub FirstBad : Parents → ℕ → ℕ → Option ℕ → Type 0
 FirstBad p path t r = MatchOption r (how_many p t ≤ place_of (bad p path) (listed p t)) (λ i. (i < how_many p t) × (i ≡ place_of (bad p path) (listed p t)))
 
-pub listed_at : (p : Parents) (t i : ℕ) (d : Parent) → i < how_many p t → get_or (listed p t) i d ≡ parent_at p (8 * t + i)
+pub listed_at : (p : Parents) (t i : ℕ) (d : Parent) → i < how_many p t → get_or (listed p t) i d ≡ parent_at p t i
 unfolding listed
-listed_at p t i d h = tab-at (λ j. parent_at p (8 * t + j)) (how_many p t) i d h
+listed_at p t i d h = tab-at (λ j. parent_at p t j) (how_many p t) i d h
 
 module _ (p : Parents) (out t path : ℕ) (a : At p out t path) where
   pub fewer : off p.count path ≡ suc (off p.count (more path t))
@@ -52,12 +52,12 @@ module _ (p : Parents) (out t path : ℕ) (a : At p out t path) where
   rows_are = rw fewer
 
   pub rows-bad : (i : ℕ) → i ≡ place_of (bad p (more path t)) (listed p t) → i < how_many p t
-      → rows (off p.count path) p path t ≡ parent_row (bad_kind p (parent_at p (8 * t + i))) p t (parent_at p (8 * t + i)) ∷ []
+      → rows (off p.count path) p path t ≡ parent_row (bad_kind p (parent_at p t i)) p t (parent_at p t i) ∷ []
   rows-bad i e h =
       let l : place_of (bad p (more path t)) (listed p t) < length (listed p t) = omega (arith, listed-length p t) in
-      let f = first_of-placed (bad p (more path t)) (listed p t) (parent_at p 0) l in
-      let g : first_of (bad p (more path t)) (listed p t) ≡ parent_at p (8 * t + i) ∷ [] =
-      f ∙ ap (λ (q : Parent). q ∷ []) (ap (λ (j : ℕ). get_or (listed p t) j (parent_at p 0)) (sym e) ∙ listed_at p t i (parent_at p 0) h) in
+      let f = first_of-placed (bad p (more path t)) (listed p t) (parent_at p 0 0) l in
+      let g : first_of (bad p (more path t)) (listed p t) ≡ parent_at p t i ∷ [] =
+      f ∙ ap (λ (q : Parent). q ∷ []) (ap (λ (j : ℕ). get_or (listed p t) j (parent_at p 0 0)) (sym e) ∙ listed_at p t i (parent_at p 0 0) h) in
       rows_are
       ∙ ap
       (λ (l : List Parent). answer p t l (each (λ (q : Parent). rows (off p.count (more path t)) p (more path t) q.place) (listed p t)))
@@ -86,20 +86,20 @@ module _ (p : Parents) (out t path : ℕ) (a : At p out t path) where
       (λ y i. sym (a.stage.places y) ∙ others-on y i)
 
   -- where no parent is bad, each is a type, and not on the path
-  fair : (i : ℕ) → how_many p t ≤ place_of (bad p (more path t)) (listed p t) → i < how_many p t → bad p (more path t) (parent_at p (8 * t + i)) ≡ false
+  fair : (i : ℕ) → how_many p t ≤ place_of (bad p (more path t)) (listed p t) → i < how_many p t → bad p (more path t) (parent_at p t i) ≡ false
   unfolding listed
-  fair i n h = any-tab-out (λ j. parent_at p (8 * t + j)) (bad p (more path t)) (how_many p t) i (first_of-nil (bad p (more path t)) (listed p t) (none-bad n)) h
+  fair i n h = any-tab-out (λ j. parent_at p t j) (bad p (more path t)) (how_many p t) i (first_of-nil (bad p (more path t)) (listed p t) (none-bad n)) h
 
-  pub declared : (i : ℕ) → how_many p t ≤ place_of (bad p (more path t)) (listed p t) → i < how_many p t → (parent_at p (8 * t + i)).place < p.count
+  pub declared : (i : ℕ) → how_many p t ≤ place_of (bad p (more path t)) (listed p t) → i < how_many p t → (parent_at p t i).place < p.count
   declared i n h =
-      let x : ℕ = (parent_at p (8 * t + i)).place in
+      let x : ℕ = (parent_at p t i).place in
       ltb-true x p.count (not-false (ltb x p.count) (or-false-left (not (ltb x p.count)) (has_bit (more path t) x) (fair i n h)))
 
   -- from a parent that is not placed, the search goes on
-  pub onward : (i : ℕ) → how_many p t ≤ place_of (bad p (more path t)) (listed p t) → i < how_many p t → has_bit out (parent_at p (8 * t + i)).place ≡ false
-      → At p out (parent_at p (8 * t + i)).place (more path t)
+  pub onward : (i : ℕ) → how_many p t ≤ place_of (bad p (more path t)) (listed p t) → i < how_many p t → has_bit out (parent_at p t i).place ≡ false
+      → At p out (parent_at p t i).place (more path t)
   onward i n h l =
-      let x : ℕ = (parent_at p (8 * t + i)).place in
+      let x : ℕ = (parent_at p t i).place in
       record {
         stage = a.stage;
         type = declared i n h;

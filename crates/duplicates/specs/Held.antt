@@ -1,6 +1,7 @@
 -- The makings of a type, as the code holds them, read as the definitions' items.
 use Rattle.std.specs.Prelude.{Bool, not, List, [], ◌≡◌, ℕ, zero, suc, ◌+◌, ◌<◌, length, get_or}
 use Rattle.lists.specs.Lists.{any, null}
+use Rattle.bounded.specs.declared.UpTo.{UpTo}
 use Rattle.rows.specs.declared.Row.{Row}
 use Rattle.rows.specs.Rows.{empty}
 use Rattle.definitions.specs.Records.{Item, Sheet}
@@ -11,12 +12,14 @@ use Rattle.definitions.specs.Synthesis.{is_duplicate, with_making}
 use Rattle.line_laws.specs.Statements.{line_map}
 use Rattle.law_classes.specs.Sets.{type_at}
 use Rattle.catalogue.specs.declared.Catalogue.{Catalogue}
-use Rattle.synth_classes.specs.declared.Site.{Site}
+use Rattle.synth_classes.specs.declared.site.Site.{Site}
 use Rattle.synth_classes.specs.declared.Origin.{Origin}
 use Rattle.synth_classes.specs.Made.{created}
 use Rattle.synth_classes.specs.Known.{Known}
 use Rattle.duplicates.specs.declared.Making.{Making}
-use Rattle.duplicates.specs.declared.Makings.{Makings}
+
+abbrev pub Makings : Type 0
+Makings = UpTo Making 380
 
 -- what a read past the end gives
 abbrev pub no_making : Making

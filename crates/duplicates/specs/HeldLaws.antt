@@ -1,15 +1,15 @@
 -- Laws of held makings.
 use mathlib.Core.Bool.{Bool, true, false, ◌||◌, not, or-false, and-false}
-use Rattle.std.specs.Prelude.{List, Option, is_some, [], ◌∷◌, ◌≡◌, ℕ, zero, suc, ◌+◌, ◌*◌, ◌-◌, ◌/◌, ◌%◌, ◌<◌, eqb, ltb, length, set}
+use Rattle.std.specs.Prelude.{List, Option, is_some, [], ◌∷◌, ◌++◌, ◌≡◌, ℕ, zero, suc, ◌+◌, ◌*◌, ◌-◌, ◌/◌, ◌%◌, ◌<◌, eqb, ltb, length}
 use Rattle.std.proofs.Math.Path.{refl, ap, ap₂}
 use Rattle.std.proofs.Common.{sym, ◌∙◌, add-one}
 use native.Mathlib.Omega.{arith}
 use borrow.Author.Tests.{eq-eqb, ne_eqb, eqb-true, eqb-false}
-use Rattle.std.proofs.Math.Seq
 use Rattle.lists.specs.Lists.{any, null, keep}
 use Rattle.lists.specs.Tests.{by}
 use Rattle.lists.specs.Appending.{any_append}
 use Rattle.lists.specs.Members.{filter_none}
+use Rattle.bounded.specs.Items.{items_of, count-more, item-old, item-new}
 use Rattle.rows.specs.declared.Row.{Row}
 use Rattle.definitions.specs.Records.{Name, Mark, Item, Sheet, synthesized}
 use Rattle.definitions.specs.Comparisons.{same_name, look_up, dotted}
@@ -22,7 +22,7 @@ use Rattle.law_classes.specs.Numbers.{place-of}
 use Rattle.catalogue.specs.Layout.{key_at}
 use Rattle.catalogue.specs.declared.Catalogue.{Catalogue}
 use Rattle.sheet_keys.specs.Keys.{name_of_key}
-use Rattle.synth_classes.specs.declared.Site.{Site}
+use Rattle.synth_classes.specs.declared.site.Site.{Site}
 use Rattle.synth_classes.specs.declared.Origin.{Origin}
 use Rattle.synth_classes.specs.Classes.{place_if, place_of}
 use Rattle.synth_classes.specs.ClassLaws.{place-low}
@@ -30,8 +30,7 @@ use Rattle.synth_classes.specs.Made.{created}
 use Rattle.synth_classes.specs.Known.{Known, name-known, type-known}
 use Rattle.synth_same.specs.Same.{SameMaking}
 use Rattle.duplicates.specs.declared.Making.{Making}
-use Rattle.duplicates.specs.declared.Makings.{Makings}
-use Rattle.duplicates.specs.Held.{no_making, making_at, word_at, doms_at, parents_at, held_items, Keeps, Declared, Made, Repeated}
+use Rattle.duplicates.specs.Held.{Makings, no_making, making_at, word_at, doms_at, parents_at, held_items, Keeps, Declared, Made, Repeated}
 
 -- ---- what stands among the items
 
@@ -121,20 +120,16 @@ same-items t T h r zero e = refl
 same-items t T h r (suc n) e = more-item t T _ _ _ _ (e n (omega arith)) (same-items t T h r n (λ i l. e i (omega arith)))
 
 -- one making behind the others
-module _ (h : Makings) (word : ℕ) (o : Origin) (room : h.count < length h.items) where
-  abbrev pushed : Makings
-  pushed = record { count = h.count + 1; items = set h.items h.count (record { word = word; origin = o }) }
-
-  items_more : (t : LineMap) (T : ℕ) →
-      held_items t T pushed (h.count + 1) ≡ with_making (type_at t T) word (created t T word o.doms o.parents) (held_items t T h h.count)
-  unfolding held_items
-  items_more t T =
-      ap (λ (k : ℕ). held_items t T pushed k) (add-one h.count)
-      ∙ more-item t T _ _ _ _ (Seq.get_or-set_same h.items h.count _ no_making room)
-      (same-items t T h pushed h.count (λ i l. Seq.get_or-set_other h.items h.count i _ no_making (λ e. omega arith)))
-
-  pub keeps_more : Keeps h word o.doms o.parents pushed
-  keeps_more = record { count = refl; items = items_more }
+pub keeps_more : (h r : Makings) (x : Making) → items_of r ≡ items_of h ++ (x ∷ []) → Keeps h x.word x.origin.doms x.origin.parents r
+unfolding held_items
+keeps_more h r x e =
+    let n = count-more h r x e in
+    record {
+      count = n;
+      items = λ t T.
+          ap (λ (k : ℕ). held_items t T r k) (n ∙ add-one h.count)
+          ∙ more-item t T _ _ _ _ (item-new h r x no_making e) (same-items t T h r h.count (λ i l. item-old h r x no_making e i l));
+    }
 
 -- ---- T.r
 

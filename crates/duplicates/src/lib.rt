@@ -1,10 +1,12 @@
 // Whether a making is a duplicate: the type T.r is declared, or the same resource was made before (FORMAT 4.9).
 #![tactic(auto)]
 
-ghost use Rattle.std.specs.Prelude.{◌≡◌, ◌≤◌, ◌<◌};
-ghost use Rattle.duplicates.specs.Held.{Keeps, Declared, Made, Repeated};
+ghost use Rattle.std.specs.Prelude.{◌<◌};
+ghost use Rattle.duplicates.specs.Held.{Declared, Made, Repeated};
 
+use bounded::UpTo;
 use catalogue::Catalogue;
+use rows::Row;
 use synth_classes::{Origin, Site};
 
 // A resource that was made: its word, and what it comes from.
@@ -14,43 +16,29 @@ pub struct Making {
     pub origin: Origin,
 }
 
-// The makings of one type, in the order in which they were made. An own word is made at most once for each of 12 annotations of
-// 15 words, an inherited one once, so that there are at most 380. An array beside its count: fixed memory, and no heap.
-#[derive(Drop)]
-pub struct Makings {
-    pub count: usize,
-    pub items: [Making; 380],
-}
-
-impl Makings {
-    // None yet.
-    pub fn new() -> Makings
-        ensures { result.count ≡ 0 }
-    {
-        let origin = Origin {
-            doms: rows::empty_row(),
+impl Making {
+    // What stands where no making does.
+    pub const BLANK: Making = Making {
+        word: 0,
+        origin: Origin {
+            doms: Row {
+                a: 0,
+                b: 0,
+                c: 0,
+                d: 0,
+            },
             parents: 0,
-        };
-        Makings {
-            count: 0,
-            items: [Making { word: 0, origin }; 380],
-        }
-    }
-
-    // One making more, behind the others.
-    pub fn push(&mut self, word: u8, origin: Origin)
-        requires { self.old.count < 380 }
-        ensures { Keeps self.old word origin.doms origin.parents self.new }
-    {
-        self.items[self.count] = Making { word, origin };
-        self.count += 1;
-    }
+        },
+    };
 }
+
+// The makings of one type, in the order in which they were made. An own word is made at most once for each of 12 annotations of
+// 15 words, an inherited one once, so that there are at most 380.
+pub type Makings = UpTo<Making, 380>;
 
 // Whether T.r is declared. A two-word T gives three-word names, which are never declared.
 #[tactic(auto, using(crate::specs::HeldLaws::declared_three, crate::specs::HeldLaws::declared_two))]
 pub fn is_declared(t: &Catalogue, site: Site) -> bool
-    requires { (site.place < 64) × (site.word < 255) }
     ensures { Declared t.now site.place site.word result }
 {
     let key = t.keys[site.place];
@@ -65,7 +53,6 @@ pub fn is_declared(t: &Catalogue, site: Site) -> bool
 // Whether an earlier making of the type is identical to that of a word. Only those of the same word are compared.
 #[tactic(auto, using(crate::specs::HeldLaws::made_steps))]
 pub fn is_made(t: &Catalogue, site: Site, origin: Origin, made: &Makings) -> bool
-    requires { (site.place < 64) × (site.word < 255) × (made.now.count ≤ 380) }
     ensures { Made t.now site origin made.now made.now.count result }
 {
     for i in 0..made.count {
@@ -80,7 +67,6 @@ pub fn is_made(t: &Catalogue, site: Site, origin: Origin, made: &Makings) -> boo
 // Kind 6 (FORMAT 8.10): T.r is declared, or an earlier making is identical.
 #[tactic(auto, using(crate::specs::HeldLaws::repeated_declared, crate::specs::HeldLaws::repeated_made))]
 pub fn is_duplicate(t: &Catalogue, site: Site, origin: Origin, made: &Makings) -> bool
-    requires { (site.place < 64) × (site.word < 255) × (made.now.count ≤ 380) }
     ensures { Repeated t.now site origin made.now made.now.count result }
 {
     is_declared(t, site) || is_made(t, site, origin, made)

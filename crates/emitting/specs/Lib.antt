@@ -1,2 +1,3 @@
 pub mod Emitting
 pub mod Row
+pub mod Writing

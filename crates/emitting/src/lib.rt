@@ -1,7 +1,7 @@
 // Rows of a diagnosis written into a lent slice.
 #![tactic(auto)]
 
-ghost use Rattle.std.specs.Prelude.{◌≡◌, ◌*◌, ◌≤◌, length};
+ghost use Rattle.std.specs.Prelude.{◌≡◌, ◌*◌, ◌≤◌, length, ltb};
 ghost use Rattle.emitting.specs.Emitting.{emit_bytes};
 ghost use Rattle.emitting.specs.Row.{bytes_of, number_of};
 
@@ -46,19 +46,46 @@ pub struct Report {
     pub more: bool,
 }
 
-// Writes the six bytes of a row at place n, if that is below the limit; the count then is n + 1, and stops one past the limit.
-pub fn put_row(buf: &mut [u8], limit: usize, n: usize, row: Row) -> usize
-    requires { 6 * limit ≤ length buf.old }
-    ensures { (buf.new, result) ≡ emit_bytes limit (buf.old, n) (bytes_of row) }
-{
-    if n < limit {
+// Writes rows into a lent slice, the first `limit` of them. The count of rows stops one past the limit, so that it tells whether
+// there are more (FORMAT 8.2).
+#[derive(Drop)]
+pub struct Writer<'a> {
+    pub buf: &'a mut [u8],
+    pub limit: usize,
+    pub count: usize,
+    pub ghost room: { 6 * limit ≤ length buf.now },
+}
+
+impl<'a> Writer<'a> {
+    ghost use Rattle.emitting.specs.Writing.{state, Adds, Begins, Tells};
+
+    // No row yet.
+    pub fn new(buf: &'a mut [u8], limit: usize) -> Writer<'a>
+        requires { 6 * limit ≤ length buf.old }
+        ensures { Begins buf.entry limit result }
+    {
+        Writer {
+            buf,
+            limit,
+            count: 0,
+        }
+    }
+
+    // Writes the six bytes of a row, if there is room below the limit.
+    pub fn push(&mut self, row: Row)
+        ensures { Adds self.old self.new (emit_bytes self.old.limit (state self.old) (bytes_of row)) }
+    {
+        if self.count >= self.limit {
+            self.count = self.limit + 1;
+            return;
+        }
         let absent = Name {
             first: ABSENT,
             second: ABSENT,
         };
         let other = row.other.unwrap_or(absent);
-        let at = 6 * n;
-        buf[at..at + 6].copy_from_slice(&[
+        let at = 6 * self.count;
+        self.buf[at..at + 6].copy_from_slice(&[
             u8::from(row.kind),
             row.subject.first,
             row.subject.second,
@@ -66,7 +93,23 @@ pub fn put_row(buf: &mut [u8], limit: usize, n: usize, row: Row) -> usize
             other.second,
             row.word.unwrap_or(ABSENT),
         ]);
-        return n + 1;
+        self.count += 1;
     }
-    limit + 1
+
+    // Whether there are more rows than may be written.
+    pub fn is_over(&self) -> bool
+        ensures { result ≡ ltb self.now.limit self.now.count }
+    {
+        self.limit < self.count
+    }
+
+    // How many rows were written, and whether there are more.
+    pub fn report(&self) -> Report
+        ensures { Tells self.now result }
+    {
+        Report {
+            rows: self.count.min(self.limit),
+            more: self.is_over(),
+        }
+    }
 }

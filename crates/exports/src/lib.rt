@@ -134,7 +134,8 @@ pub extern "C" fn gidzelma_schedule(
     tell(parts_of(answer), parts)
 }
 
-// A packed schedule into records, for a sheet of w words (FORMAT 12.1). Where fewer than three numbers are lent nothing is touched.
+// A packed schedule into records, for a sheet of w words (FORMAT 12.1). Where fewer than three numbers are lent nothing is
+// touched.
 #[unsafe(no_mangle)]
 pub extern "C" fn gidzelma_read_schedule(
     w: usize,

@@ -1,3 +1,4 @@
 pub mod ParseLaws
 pub mod Fields
+pub mod Keys
 pub mod FieldLaws

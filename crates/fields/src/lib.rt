@@ -9,9 +9,11 @@ ghost use Rattle.definitions.specs.Reading.{word_field, word_if_flag, name};
 ghost use Rattle.bits.specs.Reading.{Addressable};
 ghost use Rattle.fields.specs.Fields.{of_parsed, of_field, optional, name_of, bits_in, of_names};
 
+mod key;
 mod source;
 
 use bits::Cursor;
+pub use key::Key;
 pub use source::Sheet;
 
 // What can be wrong with a field: it passes the end, or its value is not allowed (FORMAT 2.1).

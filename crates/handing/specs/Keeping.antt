@@ -1,5 +1,5 @@
 -- What all listed parents hand on, and what stands in the store afterwards.
-use Rattle.std.specs.Prelude.{Bool, true, List, [], ◌∷◌, ◌++◌, ◌≡◌, refl, ℕ, zero, suc, ◌+◌, ◌*◌, ◌<◌, length}
+use Rattle.std.specs.Prelude.{Bool, true, List, [], ◌∷◌, ◌++◌, ◌≡◌, refl, ℕ, zero, suc, ◌<◌, length, Option}
 use mathlib.Core.List.Memᴰ
 use Rattle.std.proofs.Common.{sym, ap, ap₂, ◌∙◌, subst, arith}
 use Rattle.std.proofs.lemmas.List.{length-map}
@@ -12,24 +12,27 @@ use Rattle.definitions.specs.Inherited.{InheritedAnnotation, dedup, handed_on}
 use Rattle.definitions.specs.Synthesis.{only_if, listed_parents}
 use Rattle.synthesis_laws.specs.Statements.{inherited_by}
 use Rattle.visit_laws.specs.Trail.{got_from}
-use Rattle.dedup.specs.declared.Inherited.{Inherited}
+use Rattle.dedup.specs.declared.inherited.Inherited.{Inherited}
 use Rattle.dedup.specs.Reading.{inherited_of}
 use Rattle.store.specs.Store.{Stores}
+use Rattle.store.specs.declared.Saved.{Saved}
 use Rattle.ordering.specs.Lists.{tab, tab-length, tab-split, all-tab-of}
-use Rattle.ordering.specs.Reading.{Parent, parent_at, how_many, listed, type_at, listed-length}
+use Rattle.ordering.specs.Reading.{parent_at, how_many, listed, type_at, listed-length}
+use Rattle.ordering.specs.declared.Parent.{Parent}
 use Rattle.ordering.specs.declared.Parents.{Parents}
+use Rattle.own_associates.specs.declared.Location.{Location}
 use Rattle.held_map.specs.HeldMap.{HeldMap}
 use Rattle.held_laws.specs.HeldLaws.{parents-are}
 use Rattle.handing.specs.Handing.{names_of, Stored, StoredParents, handed_to, Gathered, KeepsIt}
 
 -- the parents of a type are stored, whichever have a flag
-pub stored-parents : (p : Parents) (m : TypeMap) (st : List ℕ) (t flags : ℕ) → ((q : Parent) → In q (listed p t) → Stored m st q.place) → StoredParents p m st t flags
+pub stored-parents : (p : Parents) (m : TypeMap) (st : List Saved) (t flags : ℕ) → ((q : Parent) → In q (listed p t) → Stored m st q.place) → StoredParents p m st t flags
 unfolding listed
 stored-parents p m st t flags h =
     record {
       at = λ i l b.
-          let s = tab-split (λ i. parent_at p (8 * t + i)) (how_many p t) i l in
-          h (parent_at p (8 * t + i)) (subst (In (parent_at p (8 * t + i))) (sym s.1) (Memᴰ.append_right (tab (λ i. parent_at p (8 * t + i)) i) (Memᴰ.head refl)));
+          let s = tab-split (λ i. parent_at p t i) (how_many p t) i l in
+          h (parent_at p t i) (subst (In (parent_at p t i)) (sym s.1) (Memᴰ.append_right (tab (λ i. parent_at p t i) i) (Memᴰ.head refl)));
     }
 
 -- ---- all flags
@@ -57,7 +60,7 @@ got-all m (f ∷ fs) (P ∷ Ps) e a =
     (got-all m fs Ps (omega (arith, e)) (and_right f (all (λ f. f) fs) a))
 
 -- with all flags every listed parent hands on
-all-handed : (s : Sheet) (bs : List Bool) (ns : List ℕ) (p : Parents) (t : ℕ) → HeldMap s bs ns p → t < p.count
+all-handed : (s : Sheet) (bs : List Bool) (ns : List (Option Location)) (p : Parents) (t : ℕ) → HeldMap s bs ns p → t < p.count
     → handed_to (type_map_of s) p t 255 ≡ each (handed_on (type_map_of s)) (listed_parents (type_map_of s) (type_at (type_map_of s) t))
 all-handed s bs ns p t h l =
     let m = type_map_of s in
@@ -67,7 +70,7 @@ all-handed s bs ns p t h l =
 
 -- ---- stored
 
-module _ (p : Parents) (bs : List Bool) (ns st : List ℕ) (t : ℕ) (after : List ℕ) (r : Inherited) (l : t < p.count) (g : Gathered p bs ns st t 255 r) (w : Stores st t r after) where
+module _ (p : Parents) (bs : List Bool) (ns : List (Option Location)) (st : List Saved) (t : ℕ) (after : List Saved) (r : Inherited) (l : t < p.count) (g : Gathered p bs ns st t 255 r) (w : Stores st t r after) where
   all_read : (s : Sheet) → HeldMap s bs ns p → StoredParents p (type_map_of s) st t 255
       → inherited_of (names_of (type_map_of s)) r ≡ inherited_by (type_map_of s) (type_at (type_map_of s) t)
   all_read s h k = g.reads s h k ∙ ap dedup (all-handed s bs ns p t h l)
@@ -75,16 +78,12 @@ module _ (p : Parents) (bs : List Bool) (ns st : List ℕ) (t : ℕ) (after : Li
   pub keeps-by : KeepsIt p bs ns st t after r
   keeps-by =
       record {
-        good = g.good;
-        fits = g.fits;
         reads = all_read;
-        stored = λ s h k. record { list = r; holds = w.holds; fits = g.fits; good = g.good; reads = all_read s h k };
+        stored = λ s h k. record { list = r; holds = w.holds; reads = all_read s h k };
         others = λ m u n b.
             record {
               list = b.list;
-              holds = w.others u b.list n b.good.kept.room b.holds;
-              fits = b.fits;
-              good = b.good;
+              holds = rw (w.others u n) b.holds;
               reads = b.reads;
             };
         long = w.long;

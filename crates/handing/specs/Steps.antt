@@ -1,6 +1,7 @@
 -- One parent, and one listed parent more.
-use Rattle.std.specs.Prelude.{Bool, true, List, [], ◌∷◌, ◌++◌, map, ◌≡◌, refl, ℕ, ◌+◌, ◌*◌, ◌<◌, ◌^◌}
+use Rattle.std.specs.Prelude.{Bool, true, false, List, [], ◌∷◌, ◌++◌, map, ◌≡◌, refl, ℕ, ◌+◌, ◌*◌, ◌<◌, ◌^◌, Option, Some, None, is_some}
 use Rattle.std.proofs.Common.{append-nil, append_assoc, sym, ap, ap₂, ◌∙◌, add-one, arith}
+use Rattle.std.proofs.lemmas.List.{get_or_default}
 use lib.ListN.{length, get_or, get_or-map}
 use Rattle.lists.specs.Lists.{sort}
 use Rattle.lists.specs.Tests.{by}
@@ -14,50 +15,49 @@ use Rattle.definitions.specs.Synthesis.{only_if}
 use Rattle.synthesis_laws.specs.Statements.{Ordered}
 use Rattle.synthesis_laws.specs.Handing.{handed-step}
 use Rattle.visit_laws.specs.Trail.{got_from}
-use Rattle.annotations.specs.declared.AnnotationInfo.{AnnotationInfo}
-use Rattle.annotations.specs.Reading.{info_of}
-use Rattle.dedup.specs.declared.Inherited.{Inherited}
+use Rattle.dedup.specs.declared.inherited.Inherited.{Inherited}
 use Rattle.dedup.specs.Entries.{entries_of}
-use Rattle.dedup.specs.Reading.{names_at, inherited_of, Good, Nothing, under'}
-use Rattle.inheritance.specs.Own.{handed, JoinsParent}
+use Rattle.dedup.specs.Reading.{names_at, inherited_of, Nothing, under'}
+use Rattle.inheritance.specs.declared.own.OwnAssociate.{OwnAssociate}
+use Rattle.inheritance.specs.Own.{handed, handed_own, JoinsParent}
 use Rattle.inheritance.specs.OwnLaws.{onto-append}
-use Rattle.store.specs.Store.{Fetched}
+use Rattle.store.specs.Store.{nothing, Fetched}
+use Rattle.store.specs.declared.Saved.{Saved}
 use Rattle.store.specs.StoreLaws.{held-read}
 use Rattle.own_associates.specs.Owning as owning
-use Rattle.own_associates.specs.Owning.{OwnOf}
-use Rattle.own_associates.specs.declared.OwnAssociates.{OwnAssociates}
+use Rattle.own_associates.specs.Owning.{OwnAssociates, OwnFit, OwnOf}
+use Rattle.own_associates.specs.declared.Location.{Location}
 use Rattle.ordering.specs.Lists as lists
 use Rattle.ordering.specs.Lists.{tab, map-tab}
-use Rattle.ordering.specs.Reading.{Parent, parent_at, how_many, listed, no_type, type_at}
+use Rattle.ordering.specs.Reading.{parent_at, how_many, listed, no_type, type_at}
+use Rattle.ordering.specs.declared.Parent.{Parent}
 use Rattle.ordering.specs.declared.Parents.{Parents}
 use Rattle.parent_laws.specs.Listed.{parent-below}
 use Rattle.held_map.specs.HeldMap.{HeldMap}
 use Rattle.held_laws.specs.HeldLaws.{type-in, parents-below, parents-are, names-ascend}
 use Rattle.held_laws.specs.Limits.{own-fits}
-use Rattle.handing.specs.Handing.{names_of, Fits, Stored, hands_under, HandsFrom, Takes, TakesIf, place_at, StoredParents, Ready, Gathered}
+use Rattle.handing.specs.Handing.{names_of, Stored, hands_under, Takes, TakesIf, place_at, StoredParents, Ready, Gathered}
 use Rattle.handing.specs.Naming.{names-one}
 
 -- ---- one parent
 
 -- own associates as the code hands them on are those of the definitions
-own-handed : (ps : List Name) (own : List AnnotationInfo) (l : List records.AnnotationInfo) → map info_of own ≡ l
-    → map (handed ps) own ≡ map (λ a. record { annotation = as_associate a; parents = ps }) l
+own-handed : (ps : List Name) (own : List OwnAssociate) (l : List records.AnnotationInfo) → map owning.read_own own ≡ l
+    → map (handed_own ps) own ≡ map (λ a. record { annotation = as_associate a; parents = ps }) l
 unfolding handed
 own-handed ps own l e =
-    sym (map-map (λ a. record { annotation = as_associate a; parents = ps }) info_of own) ∙ ap (map (λ a. record { annotation = as_associate a; parents = ps })) e
+    sym (map-map (λ a. record { annotation = as_associate a; parents = ps }) owning.read_own own) ∙ ap (map (λ a. record { annotation = as_associate a; parents = ps })) e
 
-module _ (h : Inherited) (bs : List Bool) (x : ℕ) (st : List ℕ) (place : ℕ) (o : OwnAssociates) (f r : Inherited) where
-  pub takes-by : OwnOf bs x o → Fits f → Fetched st place f → JoinsParent h o.items o.count f (2 ^ place) r → Fits r → Takes h bs x st place r
-  takes-by w b q j v =
+module _ (h : Inherited) (bs : List Bool) (x : Option Location) (k : Saved) (place : ℕ) (o : OwnAssociates) (f r : Inherited) where
+  pub takes-by : OwnOf bs x o → Fetched k f → JoinsParent h o.items o.count f (2 ^ place) r → Takes h bs x k place r
+  takes-by w q j =
       record {
-        good = j.good;
-        fits = v;
-        dedup = λ T n g c d k names asc.
+        dedup = λ T n g e names asc.
             j.dedup names asc
             ∙ ap (dedup_onto (inherited_of names h))
             (ap₂ (λ (x y : List InheritedAnnotation). x ++ y)
             (own-handed (names_at names (2 ^ place)) (owning.listed o) (own_associates T) (w.reads T n))
-            (held-read st place g f k q c b d names (names_at names (2 ^ place))));
+            (held-read k g f e q names (names_at names (2 ^ place))));
       }
 
 -- a type without annotations has no own associates
@@ -73,18 +73,20 @@ onto-none : (l : List InheritedAnnotation) → l ≡ dedup_onto l []
 unfolding dedup_onto
 onto-none l = refl
 
+pub none-is : {A : Type 0} (x : Option A) → is_some x ≡ false → x ≡ None
+none-is None e = refl
+none-is (Some y) e = cc
+
 -- one that inherits nothing either hands on nothing
-pub takes-nothing : (h : Inherited) (bs : List Bool) (x : ℕ) (st : List ℕ) (place : ℕ) → Good h → Fits h → x ≡ 0 → get_or st (1601 * place) 0 ≡ 0 → Takes h bs x st place h
-takes-nothing h bs x st place good fits a z =
+pub takes-nothing : (h : Inherited) (bs : List Bool) (x : Option Location) (k : Saved) (place : ℕ) → x ≡ None → k.count ≡ 0 → Takes h bs x k place h
+takes-nothing h bs x k place a z =
     record {
-      good = good;
-      fits = fits;
-      dedup = λ T n g c d k names asc.
+      dedup = λ T n g e names asc.
           onto-none (inherited_of names h)
           ∙ ap (dedup_onto (inherited_of names h))
           (sym (ap₂ (λ (x : List records.AnnotationInfo) (y : List InheritedAnnotation). map (λ b. record { annotation = as_associate b; parents = names_at names (2 ^ place) }) x ++ map (under' (names_at names (2 ^ place))) y)
           (own-none T (n.none a))
-          (inherits-none names g (sym k.count ∙ z))));
+          (inherits-none names g (sym e.count ∙ z))));
     }
 
 -- ---- a parent that is stored
@@ -93,7 +95,7 @@ length-names : (m : TypeMap) → length (names_of m) ≡ length m.types
 length-names m = lib.ListN.length-map m.types (λ (T : TypeInfo). T.name)
 
 -- what it hands on is what the definitions say
-hands-is : (s : Sheet) (bs : List Bool) (ns : List ℕ) (p : Parents) → HeldMap s bs ns p → (st : List ℕ) (a : ℕ) → a < p.count → (g : Stored (type_map_of s) st a)
+hands-is : (s : Sheet) (bs : List Bool) (ns : List (Option Location)) (p : Parents) → HeldMap s bs ns p → (st : List Saved) (a : ℕ) → a < p.count → (g : Stored (type_map_of s) st a)
     → hands_under (names_at (names_of (type_map_of s)) (2 ^ a)) (type_at (type_map_of s) a) (inherited_of (names_of (type_map_of s)) g.list) ≡ handed_on (type_map_of s) (type_at (type_map_of s) a)
 hands-is s bs ns p h st a l g =
     let m = type_map_of s in
@@ -126,83 +128,68 @@ got-step m p t flags i =
     (lists.tab-length (has_bit flags) i ∙ sym (lists.tab-length (λ j. type_at m (place_at p t j)) i)))
 
 -- after the first i listed parents
-pub record Gathering (p : Parents) (bs : List Bool) (ns st : List ℕ) (t flags i : ℕ) (out : Inherited) : Type 0 where
-  pub good : Good out
-  pub fits : Fits out
+pub record Gathering (p : Parents) (bs : List Bool) (ns : List (Option Location)) (st : List Saved) (t flags i : ℕ) (out : Inherited) : Type 0 where
   pub reads : (s : Sheet) → HeldMap s bs ns p → StoredParents p (type_map_of s) st t flags
       → inherited_of (names_of (type_map_of s)) out ≡ dedup (got_upto (type_map_of s) p t flags i)
 
-pub gathering-none : (p : Parents) (bs : List Bool) (ns st : List ℕ) (t flags : ℕ) (out : Inherited) → Nothing out → Fits out → Gathering p bs ns st t flags 0 out
+pub gathering-none : (p : Parents) (bs : List Bool) (ns : List (Option Location)) (st : List Saved) (t flags : ℕ) (out : Inherited) → Nothing out → Gathering p bs ns st t flags 0 out
 unfolding dedup_onto
-gathering-none p bs ns st t flags out n b = record { good = n.good; fits = b; reads = λ s h k. n.none (names_of (type_map_of s)) }
+gathering-none p bs ns st t flags out n = record { reads = λ s h k. n.none (names_of (type_map_of s)) }
 
-module _ (p : Parents) (bs : List Bool) (ns st : List ℕ) (t flags i : ℕ) (out r : Inherited) (l : i < how_many p t) (low : t < p.count) (c : Gathering p bs ns st t flags i out) where
-  -- the number of the parent
-  abbrev x : ℕ
-  x = get_or ns (place_at p t i) 0
+module _ (p : Parents) (bs : List Bool) (ns : List (Option Location)) (st : List Saved) (t flags i : ℕ) (out r : Inherited) (l : i < how_many p t) (low : t < p.count) (c : Gathering p bs ns st t flags i out) where
+  -- where the annotations of the parent stand
+  abbrev x : Option Location
+  x = get_or ns (place_at p t i) None
 
   -- the parent hands on
-  gathering-taken : has_bit flags i ≡ true → Takes out bs x st (place_at p t i) r → Gathering p bs ns st t flags (i + 1) r
+  gathering-taken : has_bit flags i ≡ true → Takes out bs x (get_or st (place_at p t i) nothing) (place_at p t i) r → Gathering p bs ns st t flags (i + 1) r
   gathering-taken b k =
       let a = place_at p t i in
       record {
-        good = k.good;
-        fits = k.fits;
         reads = λ s h w.
             let m = type_map_of s in
             let g = w.at i l b in
             let u : a < p.count = parent-below p t (parents-below s bs ns p h t low) i l in
-            k.dedup (type_at m a) (h.noted a u) g.list g.fits g.good g.holds (names_of m) (names-ascend s bs ns p h)
+            k.dedup (type_at m a) (h.noted a u) g.list g.holds (names_of m) (names-ascend s bs ns p h)
             ∙ ap₂ (λ (x y : List InheritedAnnotation). dedup_onto x y) (c.reads s h w) (hands-is s bs ns p h st a u g)
             ∙ sym (onto-append [] (got_upto m p t flags i) (handed_on m (type_at m a)))
             ∙ ap dedup (sym (got-step m p t flags i ∙ rw b refl));
       }
 
-  pub gathering-more : TakesIf out bs x st (place_at p t i) (has_bit flags i) r → Gathering p bs ns st t flags (i + 1) r
-  gathering-more k =
+  -- whatever a read past the end gives
+  pub gathering-more : (d : Saved) → place_at p t i < length st → TakesIf out bs x (get_or st (place_at p t i) d) (place_at p t i) (has_bit flags i) r → Gathering p bs ns st t flags (i + 1) r
+  gathering-more d u k =
       by (has_bit flags i)
-      (λ b. gathering-taken b (k.taken b))
+      (λ b. gathering-taken b (rw (get_or_default st (place_at p t i) d nothing u) at (k.taken b)))
       (λ b.
       record {
-        good = rw (k.passed b) c.good;
-        fits = rw (k.passed b) c.fits;
         reads = λ s h w.
             ap (inherited_of (names_of (type_map_of s))) (k.passed b) ∙ c.reads s h w
             ∙ ap dedup (sym (got-step (type_map_of s) p t flags i ∙ rw b (append-nil (got_upto (type_map_of s) p t flags i))));
       })
 
-module _ (p : Parents) (bs : List Bool) (ns st : List ℕ) (t flags : ℕ) (r : Ready p bs ns st t flags) where
+module _ (p : Parents) (bs : List Bool) (ns : List (Option Location)) (st : List Saved) (t flags : ℕ) (r : Ready p bs ns st t flags) where
   pub place-low : (i : ℕ) → i < how_many p t → place_at p t i < p.count
   place-low i l = parent-below p t (parents-below r.sheet bs ns p r.held t r.low) i l
 
-  -- a listed parent with a flag, from the first of the sheets
-  pub hands-from : (i : ℕ) → i < how_many p t → has_bit flags i ≡ true → HandsFrom bs (get_or ns (place_at p t i) 0) st (place_at p t i)
-  hands-from i l b =
-      let g = r.stored.at i l b in
-      let u = place-low i l in
-      record {
-        low = omega (arith, u, r.held.reads.most);
-        room = omega (arith, u, r.room);
-        most = r.most;
-        fit = own-fits r.sheet bs ns p r.held (place_at p t i) u;
-        list = g.list;
-        holds = g.holds;
-        fits = g.fits;
-        good = g.good;
-      }
+  -- and so it is one of the 64
+  pub place-under : (n i x : ℕ) → n ≡ how_many p t → i < n → x ≡ place_at p t i → x < 64
+  place-under n i x e l f = omega (arith, f, place-low i (omega (arith, e, l)), r.held.reads.most)
+
+  -- what stands there is within the limits
+  pub parent-fits : (i : ℕ) → i < how_many p t → OwnFit bs (get_or ns (place_at p t i) None)
+  parent-fits i l = own-fits r.sheet bs ns p r.held (place_at p t i) (place-low i l)
 
 -- ---- the end
 
 -- the types that are listed, by places
 types-listed : (p : Parents) (t : ℕ) (m : TypeMap) → map (λ (q : Parent). type_at m q.place) (listed p t) ≡ tab (λ j. type_at m (place_at p t j)) (how_many p t)
 unfolding listed
-types-listed p t m = map-tab (λ (q : Parent). type_at m q.place) (λ i. parent_at p (8 * t + i)) (how_many p t)
+types-listed p t m = map-tab (λ (q : Parent). type_at m q.place) (λ i. parent_at p t i) (how_many p t)
 
-pub gathering-all : (p : Parents) (bs : List Bool) (ns st : List ℕ) (t flags i : ℕ) (r : Inherited) → t < p.count → i ≡ how_many p t → Gathering p bs ns st t flags i r → Gathered p bs ns st t flags r
+pub gathering-all : (p : Parents) (bs : List Bool) (ns : List (Option Location)) (st : List Saved) (t flags i : ℕ) (r : Inherited) → t < p.count → i ≡ how_many p t → Gathering p bs ns st t flags i r → Gathered p bs ns st t flags r
 gathering-all p bs ns st t flags i r low e c =
     record {
-      good = c.good;
-      fits = c.fits;
       reads = λ s h k.
           c.reads s h k
           ∙ ap dedup

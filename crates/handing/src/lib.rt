@@ -5,35 +5,51 @@
 ghost use Rattle.std.specs.Prelude.{◌≡◌, ◌<◌};
 ghost use Rattle.bits.specs.Reading.{Addressable};
 ghost use Rattle.definitions.specs.Bits.{bits_of};
-ghost use Rattle.dedup.specs.Reading.{Good};
-ghost use Rattle.handing.specs.Handing.{Fits, HandsFrom, Takes, Ready, Gathered, KeepsIt};
+ghost use Rattle.own_associates.specs.Owning.{OwnFit};
+ghost use Rattle.handing.specs.Handing.{Takes, Ready, Gathered, KeepsIt};
 
 use dedup::Inherited;
 use ordering::Parents;
+use own_associates::Location;
+use store::Saved;
 
-// One parent more: its own associates, which stand where x says, then what it inherits itself, all under its place.
-fn inherit_from(h: Inherited, s: &[u8], x: u64, store: &[u64], place: usize) -> Inherited
-    requires addressable { Addressable s.now × Good h }
-    requires hands_from { HandsFrom (bits_of s.now) x store.now place }
-    ensures { Takes h (bits_of s.now) x store.now place result }
+// One parent more: its own associates, where they stand, then what it inherits itself, all under its place.
+fn inherit_from(
+    h: Inherited,
+    s: &[u8],
+    x: Option<Location>,
+    saved: &Saved,
+    place: usize,
+) -> Inherited
+    requires addressable { Addressable s.now }
+    requires low { place < 64 }
+    requires own_fit { OwnFit (bits_of s.now) x }
+    ensures { Takes h (bits_of s.now) x saved.now place result }
 {
     let own = own_associates::own_associates(s, x);
-    let p = store::fetch(store, place);
+    let p = saved.fetch();
     let one: u64 = 1;
     let bit = one << place;
     inheritance::inherit_parent(h, &own.items[..own.count], p, bit)
 }
 
 // The same, but one without annotations that inherits nothing hands on nothing.
-fn inherit_any(h: Inherited, s: &[u8], x: u64, store: &[u64], place: usize) -> Inherited
-    requires addressable { Addressable s.now × Good h × Fits h }
-    requires hands_from { HandsFrom (bits_of s.now) x store.now place }
-    ensures { Takes h (bits_of s.now) x store.now place result }
+fn inherit_any(
+    h: Inherited,
+    s: &[u8],
+    x: Option<Location>,
+    saved: &Saved,
+    place: usize,
+) -> Inherited
+    requires addressable { Addressable s.now }
+    requires low { place < 64 }
+    requires own_fit { OwnFit (bits_of s.now) x }
+    ensures { Takes h (bits_of s.now) x saved.now place result }
 {
-    if x == 0 && store[1601 * place] == 0 {
+    if x.is_none() && saved.count == 0 {
         return h;
     }
-    inherit_from(h, s, x, store, place)
+    inherit_from(h, s, x, saved, place)
 }
 
 // What the listed parents of type t with a flag hand on, in their order, as the dedup leaves it. A listing at which the call
@@ -41,8 +57,8 @@ fn inherit_any(h: Inherited, s: &[u8], x: u64, store: &[u64], place: usize) -> I
 pub fn gather(
     s: &[u8],
     l: &Parents,
-    notes: &[u64; 64],
-    store: &[u64],
+    notes: &[Option<Location>; 64],
+    store: &[Saved; 64],
     t: usize,
     flags: u64,
 ) -> Inherited
@@ -54,7 +70,7 @@ pub fn gather(
     for i in 0..usize::from(l.counts[t]) {
         if bitsets::has(flags, i) {
             let place = l.place(t, i);
-            out = inherit_any(out, s, notes[place], store, place);
+            out = inherit_any(out, s, notes[place], &store[place], place);
         }
     }
     out
@@ -64,8 +80,8 @@ pub fn gather(
 pub fn keep_inherited(
     s: &[u8],
     l: &Parents,
-    notes: &[u64; 64],
-    store: &mut [u64],
+    notes: &[Option<Location>; 64],
+    store: &mut [Saved; 64],
     t: usize,
 ) -> Inherited
     requires addressable { Addressable s.now }
@@ -73,6 +89,6 @@ pub fn keep_inherited(
     ensures { KeepsIt l.now (bits_of s.now) notes.now store.old t store.new result }
 {
     let all = gather(s, l, notes, store, t, 255);
-    store::store(store, t, all);
+    store[t] = Saved::of(&all);
     all
 }

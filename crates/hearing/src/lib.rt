@@ -4,7 +4,6 @@
 
 ghost use Rattle.std.specs.Prelude.{◌&&◌, ◌||◌, not, ◌≡◌, ◌<◌};
 ghost use Rattle.rows.specs.Rows.{has_bit};
-ghost use Rattle.ordering.specs.Reading.{Valid};
 ghost use Rattle.parent_laws.specs.Placed.{ParentsBelow};
 ghost use Rattle.hearing.specs.Hearing.{WithFlag, FlagsOf, WithOk};
 
@@ -43,8 +42,7 @@ fn with_flag(f: Flags, i: usize, handed: bool) -> Flags
 
 // The flags of the listings of type t.
 pub fn flags_of(l: &Parents, t: usize, fresh: u8, ok: u64) -> Flags
-    requires valid { Valid l.now }
-    requires t_bound { (t < l.now.count) × ParentsBelow l.now t }
+    requires { (t < l.now.count) × ParentsBelow l.now t }
     ensures { FlagsOf l.now t fresh ok result }
 {
     let mut flags = Flags { row: 0, all: true };

@@ -1,5 +1,5 @@
 -- What follows from `HeldMap s bs ns p`: which types stand at which place, their names and their parents.
-use Rattle.std.specs.Prelude.{Bool, true, false, ◌≡◌, ℕ, ◌<◌, length}
+use Rattle.std.specs.Prelude.{Bool, true, false, ◌≡◌, ℕ, ◌<◌, length, Option}
 use mathlib.Core.List.Memᴰ
 use mathlib.Core.List.{List, map}
 use Rattle.std.proofs.Math.Path.{sym, ap}
@@ -16,15 +16,17 @@ use Rattle.definitions.specs.Map.{type_map_of}
 use Rattle.definitions.specs.Synthesis.{listed_parents}
 use Rattle.definitions.specs.OrderRows.{type_named}
 use Rattle.laws.specs.Comparisons.{names-once, types-is, types-ascend}
-use Rattle.ordering.specs.Reading.{Parent, listed, no_type, type_at, place_in, parent_in}
+use Rattle.ordering.specs.Reading.{listed, no_type, type_at, place_in, parent_in}
+use Rattle.ordering.specs.declared.Parent.{Parent}
 use Rattle.ordering.specs.Rounds.{final, lists_self}
 use Rattle.ordering.specs.Names.{whole-order, no_self, named-yes}
 use Rattle.ordering.specs.declared.Parents.{Parents}
+use Rattle.own_associates.specs.declared.Location.{Location}
 use Rattle.parent_laws.specs.Placed.{ParentsBelow}
 use Rattle.parent_laws.specs.Earlier.{all-below}
 use Rattle.held_map.specs.HeldMap.{HeldMap}
 
-module _ (s : Sheet) (bs : List Bool) (ns : List ℕ) (p : Parents) (h : HeldMap s bs ns p) where
+module _ (s : Sheet) (bs : List Bool) (ns : List (Option Location)) (p : Parents) (h : HeldMap s bs ns p) where
   -- ---- the type at a place
 
   type-in-map : (i : ℕ) → i < p.count → In (type_at (type_map_of s) i) (type_map_of s).types

@@ -1,6 +1,6 @@
 -- The limits that the annotations of a held map keep to, in the form in which the functions over them require them.
 use Rattle.std.proofs.Math.Bool.{Bool}
-use Rattle.std.specs.Prelude.{false, ◌||◌, List, ◌≡◌, ℕ, ◌≤◌, ◌<◌, length, get_or}
+use Rattle.std.specs.Prelude.{false, ◌||◌, List, ◌≡◌, ℕ, ◌≤◌, ◌<◌, length, get_or, Option, None}
 use Rattle.std.proofs.Common.{arith}
 use Rattle.std.proofs.Math.Dec.{eqb}
 use Rattle.lists.specs.Lists.{any, repeats}
@@ -12,6 +12,7 @@ use Rattle.line_laws.specs.Within.{WordsWithin, ResourceWithin, AnnotationWithin
 use Rattle.ordering.specs.Reading.{type_at}
 use Rattle.ordering.specs.declared.Parents.{Parents}
 use Rattle.own_associates.specs.Owning.{OwnFit}
+use Rattle.own_associates.specs.declared.Location.{Location}
 use Rattle.held_map.specs.HeldMap.{HeldMap}
 use Rattle.held_laws.specs.HeldLaws.{type-in}
 
@@ -29,7 +30,7 @@ module _ (W X : ℕ) (le : W ≤ X) where
 
 -- ---- the annotations of a type
 
-module _ (s : Sheet) (bs : List Bool) (ns : List ℕ) (p : Parents) (h : HeldMap s bs ns p) where
+module _ (s : Sheet) (bs : List Bool) (ns : List (Option Location)) (p : Parents) (h : HeldMap s bs ns p) where
   words-once : words_twice s ≡ false
   unfolding something_twice
   words-once =
@@ -37,7 +38,7 @@ module _ (s : Sheet) (bs : List Bool) (ns : List ℕ) (p : Parents) (h : HeldMap
       (or-false-right (keys_twice s) (words_twice s || annotations_twice s)
       (or-false-right (names_twice s) (keys_twice s || (words_twice s || annotations_twice s)) h.readable.once))
 
-  pub own-fits : (i : ℕ) → i < p.count → OwnFit bs (get_or ns i 0)
+  pub own-fits : (i : ℕ) → i < p.count → OwnFit bs (get_or ns i None)
   unfolding words_twice
   own-fits i l =
       let T = type_at (type_map_of s) i in

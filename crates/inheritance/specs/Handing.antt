@@ -12,10 +12,10 @@ use Rattle.definitions.specs.Records.{Name, TypeInfo}
 use Rattle.definitions.specs.Map.{TypeMap}
 use Rattle.definitions.specs.OrderRows.{type_named}
 use Rattle.definitions.specs.Inherited.{InheritedAnnotation, dedup, own_associates, as_associate, under, hands_on}
-use Rattle.annotations.specs.declared.AnnotationInfo.{AnnotationInfo}
 use Rattle.annotations.specs.Reading.{info_of}
 use Rattle.dedup.specs.Reading.{names_at, under'}
-use Rattle.inheritance.specs.Own.{handed}
+use Rattle.inheritance.specs.declared.own.OwnAssociate.{OwnAssociate}
+use Rattle.inheritance.specs.Own.{handed, handed_own}
 use Rattle.inheritance.specs.OwnLaws.{ascending-is}
 
 -- a row of 64 is the first part of a row of 256
@@ -44,12 +44,12 @@ names-one names i p q =
     alone w e = by (eqb w i) (λ t. rw (eqb-true w i t) p) (λ t. never (rw t at e) refl)
 
 -- `T` stands at place i, and has these own associates and this deduped list of what it inherits
-pub hands_on_lem : (names : List Name) (m : TypeMap) (T : TypeInfo) (k i : ℕ) (own : List AnnotationInfo) → i < length names → length names ≤ 64 → get_or names i [] ≡ T.name
-    → map info_of own ≡ own_associates T
-    → map (handed (names_at names (2 ^ i))) own ++ map (under' (names_at names (2 ^ i))) (dedup (each (λ p. each (hands_on k m) (type_named m p)) T.parents)) ≡ hands_on (suc k) m T
+pub hands_on_lem : (names : List Name) (m : TypeMap) (T : TypeInfo) (k i : ℕ) (own : List OwnAssociate) → i < length names → length names ≤ 64 → get_or names i [] ≡ T.name
+    → map (λ o. info_of o.info) own ≡ own_associates T
+    → map (handed_own (names_at names (2 ^ i))) own ++ map (under' (names_at names (2 ^ i))) (dedup (each (λ p. each (hands_on k m) (type_named m p)) T.parents)) ≡ hands_on (suc k) m T
 unfolding hands_on handed
 hands_on_lem names m T k i own p q e o =
     let z : names_at names (2 ^ i) ≡ T.name ∷ [] = names-one names i p q ∙ ap (λ n. n ∷ []) e in
     rw z
     (ap (λ l. l ++ map (λ (x : InheritedAnnotation). under T.name x.annotation) (dedup (each (λ p. each (hands_on k m) (type_named m p)) T.parents)))
-    (sym (map-map (λ a. under T.name (as_associate a)) info_of own) ∙ ap (map (λ a. under T.name (as_associate a))) o))
+    (sym (map-map (λ a. under T.name (as_associate a)) (λ o. info_of o.info) own) ∙ ap (map (λ a. under T.name (as_associate a))) o))

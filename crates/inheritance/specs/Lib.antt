@@ -1,3 +1,4 @@
+pub mod Kinds
 pub mod Own
 pub mod OwnLaws
 pub mod Handing

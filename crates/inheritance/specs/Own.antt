@@ -9,10 +9,12 @@ use Rattle.rows.specs.Lists.{elem}
 use Rattle.definitions.specs.Records.{Name}
 use Rattle.definitions.specs.Comparisons.{name_before}
 use Rattle.definitions.specs.Inherited.{InheritedAnnotation, dedup_one, dedup_onto, as_associate}
-use Rattle.annotations.specs.declared.AnnotationInfo.{AnnotationInfo}
+use Rattle.records.specs.declared.Kind.TheVariants.{Associate, NestAssociate}
+use Rattle.annotations.specs.declared.info.AnnotationInfo.{AnnotationInfo}
 use Rattle.annotations.specs.Reading.{info_of}
-use Rattle.dedup.specs.declared.Inherited.{Inherited}
-use Rattle.dedup.specs.Reading.{names_at, table_of, inherited_of, joined, Good, under'}
+use Rattle.dedup.specs.declared.inherited.Inherited.{Inherited}
+use Rattle.inheritance.specs.declared.own.OwnAssociate.{OwnAssociate}
+use Rattle.dedup.specs.Reading.{names_at, table_of, inherited_of, joined, under'}
 
 -- the words of an annotation, and their dom sets
 abbrev pub words_in : AnnotationInfo → List ℕ
@@ -23,8 +25,7 @@ rows_in a = take a.count a.doms
 
 -- an associate, nested or not, its words ascending
 pub record Own (a : AnnotationInfo) : Type 0 where
-  pub kind : (a.kind ≡ 1) ⊎ (a.kind ≡ 2)
-  pub few : a.count ≤ 15
+  pub kind : (a.kind ≡ Associate) ⊎ (a.kind ≡ NestAssociate)
   pub below : (i : ℕ) → i < a.count → get_or a.words i 0 < 200
   pub ascending : ascends ltb (words_in a) ≡ true
 
@@ -44,34 +45,22 @@ pub record DomsWith (D : List Row) (a : AnnotationInfo) (E : List Row) : Type 0 
   pub doms : a.count ≤ length a.doms
   pub at : (w : ℕ) → w < 200 → table_of E w ≡ joined (table_of D) (λ v. elem v (words_in a)) (row_for (words_in a) (rows_in a)) w
 
--- The kind under which an associate is handed on: a NestAssociate becomes an Associate (FORMAT 8.7).
-unfoldable pub inherited_kind : ℕ → ℕ
-inherited_kind k = cond (eqb k 2) 1 k
-
 -- an own associate as it is handed on
 unfoldable pub handed : List Name → AnnotationInfo → InheritedAnnotation
 handed ps a = record { annotation = as_associate (info_of a); parents = ps }
 
+abbrev pub handed_own : List Name → OwnAssociate → InheritedAnnotation
+handed_own ps a = handed ps a.info
+
 -- h with the associate a, under the types at the places `parent`
 pub record JoinsOwn (h : Inherited) (a : AnnotationInfo) (parent : ℕ) (r : Inherited) : Type 0 where
-  pub good : Good r
   pub dedup : (names : List Name) → ascends name_before names ≡ true → inherited_of names r ≡ dedup_one (inherited_of names h) (some (handed (names_at names parent) a))
 
--- what a read past the end gives
-abbrev pub zeros : AnnotationInfo
-zeros = record { kind = 0; tag = 0; count = 0; words = []; doms = [] }
-
-pub record AllOwn (own : List AnnotationInfo) (count : ℕ) : Type 0 where
-  pub few : count ≤ 12
-  pub each : (i : ℕ) → i < count → Own (get_or own i zeros)
-
-pub record JoinsOwns (h : Inherited) (own : List AnnotationInfo) (count parent : ℕ) (r : Inherited) : Type 0 where
-  pub good : Good r
+pub record JoinsOwns (h : Inherited) (own : List OwnAssociate) (count parent : ℕ) (r : Inherited) : Type 0 where
   pub dedup : (names : List Name) → ascends name_before names ≡ true
-      → inherited_of names r ≡ dedup_onto (inherited_of names h) (map (handed (names_at names parent)) (take count own))
+      → inherited_of names r ≡ dedup_onto (inherited_of names h) (map (handed_own (names_at names parent)) (take count own))
 
-pub record JoinsParent (h : Inherited) (own : List AnnotationInfo) (count : ℕ) (p : Inherited) (parent : ℕ) (r : Inherited) : Type 0 where
-  pub good : Good r
+pub record JoinsParent (h : Inherited) (own : List OwnAssociate) (count : ℕ) (p : Inherited) (parent : ℕ) (r : Inherited) : Type 0 where
   pub dedup : (names : List Name) → ascends name_before names ≡ true
       → inherited_of names r
-      ≡ dedup_onto (inherited_of names h) (map (handed (names_at names parent)) (take count own) ++ map (under' (names_at names parent)) (inherited_of names p))
+      ≡ dedup_onto (inherited_of names h) (map (handed_own (names_at names parent)) (take count own) ++ map (under' (names_at names parent)) (inherited_of names p))

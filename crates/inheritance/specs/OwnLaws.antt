@@ -15,14 +15,17 @@ use Rattle.rows.specs.RowLaws.{has_either, has-single, has-none}
 use Rattle.rows.specs.Lists.{elem, below, between-same, set-places, climbing-numbers}
 use Rattle.definitions.specs.Records.{Name, AssociatedResource, associate}
 use Rattle.definitions.specs.Inherited.{InheritedAnnotation, dedup_one, dedup_onto, as_associate}
-use Rattle.annotations.specs.declared.AnnotationInfo.{AnnotationInfo}
+use Rattle.records.specs.declared.Kind.TheVariants.{Associate, NestAssociate}
+use Rattle.annotations.specs.declared.info.AnnotationInfo.{AnnotationInfo}
 use Rattle.annotations.specs.Reading.{doms_of, pairs, resources_in, info_of}
 use Rattle.dedup.specs.declared.Entry.{Entry}
-use Rattle.dedup.specs.declared.Inherited.{Inherited}
-use Rattle.dedup.specs.Entries.{entries_of, Sound, covers}
+use Rattle.dedup.specs.declared.inherited.Inherited.{Inherited}
+use Rattle.dedup.specs.Entries.{Entries, entries_of, Sound, covers}
 use Rattle.dedup.specs.Reading.{resources_at, names_at, read, read_all, table_of, inherited_of, joined, Good, Joins, JoinsAll, under'}
 use Rattle.dedup.specs.ReadingLaws.{read_is, same_tables, join-clean}
-use Rattle.inheritance.specs.Own.{words_in, rows_in, Own, row_for, WordsOf, DomsWith, inherited_kind, handed, JoinsOwn, zeros, AllOwn, JoinsOwns, JoinsParent}
+use Rattle.inheritance.specs.declared.own.OwnAssociate.{OwnAssociate}
+use Rattle.inheritance.specs.Kinds.{inherited_kind, handed_on-which}
+use Rattle.inheritance.specs.Own.{words_in, rows_in, Own, row_for, WordsOf, DomsWith, handed, handed_own, JoinsOwn, JoinsOwns, JoinsParent}
 
 -- ---- ascending words
 
@@ -156,9 +159,12 @@ module _ (D : List Row) (ws : List ℕ) (ds : List Row) where
 
 -- ---- what `inherit_own` ensures
 
-associate-of : (a : AnnotationInfo) → (a.kind ≡ 1) ⊎ (a.kind ≡ 2) → as_associate (info_of a) ≡ associate (resources_in a)
+pub own-is : (a : OwnAssociate) → Own a.info
+own-is a = record { kind = handed_on-which a.info.kind a.associate; below = a.below; ascending = a.ascending }
+
+associate-of : (a : AnnotationInfo) → (a.kind ≡ Associate) ⊎ (a.kind ≡ NestAssociate) → as_associate (info_of a) ≡ associate (resources_in a)
 unfolding info_of
-associate-of a k = ⊎_elim (λ (e : a.kind ≡ 1). rw e refl) (λ (e : a.kind ≡ 2). rw e refl) k
+associate-of a k = ⊎_elim (λ (e : a.kind ≡ Associate). rw e refl) (λ (e : a.kind ≡ NestAssociate). rw e refl) k
 
 resources-are : (a : AnnotationInfo) (row : Row) → Own a → WordsOf a row → a.count ≤ length a.words → a.count ≤ length a.doms
     → resources_at (row_for (words_in a) (rows_in a)) row ≡ resources_in a
@@ -174,36 +180,38 @@ abbrev pub entry_of : AnnotationInfo → Row → ℕ → Entry
 entry_of a row parent = record { kind = inherited_kind a.kind; words = row; parents = parent }
 
 pub own-sound : (a : AnnotationInfo) (row : Row) (parent : ℕ) → Own a → WordsOf a row → Sound (entry_of a row parent)
-unfolding inherited_kind
 own-sound a row parent o s =
     record {
-      kind = ⊎_elim (λ (e : a.kind ≡ 1). rw e refl) (λ (e : a.kind ≡ 2). rw e refl) o.kind;
+      kind = ⊎_elim (λ (e : a.kind ≡ Associate). rw e refl) (λ (e : a.kind ≡ NestAssociate). rw e refl) o.kind;
       small = s.small;
       words = λ w e. elem-bound a.words a.count w o.below (sym (s.at w) ∙ e);
     }
 
-module _ (h : Inherited) (a : AnnotationInfo) (parent : ℕ) (row : Row) (r : Inherited) (g : Good h) (o : Own a) (s : WordsOf a row)
-    (j : Joins h.list (entry_of a row parent) r.list) (d : DomsWith h.doms a r.doms) where
+module _ (h : Inherited) (a : AnnotationInfo) (parent : ℕ) (row : Row) (list : Entries) (ds : List Row) (o : Own a) (s : WordsOf a row)
+    (j : Joins h.list (entry_of a row parent) list) (d : DomsWith h.doms a ds) where
   own_read : (names : List Name) → read names (row_for (words_in a) (rows_in a)) (entry_of a row parent) ≡ handed (names_at names parent) a
   unfolding handed
   own_read names =
       read_is names (row_for (words_in a) (rows_in a)) (entry_of a row parent) (own-sound a row parent o s)
       ∙ ap (λ x. record { annotation = x; parents = names_at names parent }) (ap associate (resources-are a row o s d.words d.doms) ∙ sym (associate-of a o.kind))
 
-  own-tables : (w : ℕ) → w < 200 → table_of r.doms w ≡ joined (table_of h.doms) (has row) (row_for (words_in a) (rows_in a)) w
+  own-tables : (w : ℕ) → w < 200 → table_of ds w ≡ joined (table_of h.doms) (has row) (row_for (words_in a) (rows_in a)) w
   own-tables w b = d.at w b ∙ rw (s.at w) refl
 
-  pub joins-own-by : JoinsOwn h a parent r
-  unfolding inherited_of
-  joins-own-by =
-      let n = entry_of a row parent in
+  pub joins-own-good : list.count ≤ length list.items → Good list ds
+  joins-own-good b =
       let G = row_for (words_in a) (rows_in a) in
-      let c = join-clean (table_of h.doms) G (entries_of h.list) n g.kept.apart (own-sound a row parent o s) g.clean in
+      let c = join-clean (table_of h.doms) G (entries_of h.list) (entry_of a row parent) h.good.kept.apart (own-sound a row parent o s) h.good.clean in
+      record { fits = b; kept = j.kept; clean = λ w b e. own-tables w b ∙ c w b (ap (λ l. covers l w) (sym j.joins) ∙ e) }
+
+  pub joins-own-by : (g : Good list ds) → JoinsOwn h a parent (record { list = list; doms = ds; good = g })
+  unfolding inherited_of
+  joins-own-by g =
+      let G = row_for (words_in a) (rows_in a) in
       record {
-        good = record { kept = j.kept; clean = λ w b e. own-tables w b ∙ c w b (ap (λ l. covers l w) (sym j.joins) ∙ e) };
         dedup = λ names asc.
-            same_tables names (joined (table_of h.doms) (has row) G) (table_of r.doms) (entries_of r.list) (λ w b e. own-tables w b)
-            ∙ j.dedup names asc (table_of h.doms) G g.clean
+            same_tables names (joined (table_of h.doms) (has row) G) (table_of ds) (entries_of list) (λ w b e. own-tables w b)
+            ∙ j.dedup names asc (table_of h.doms) G h.good.clean
             ∙ ap (λ x. dedup_one (read_all names (table_of h.doms) (entries_of h.list)) (some x)) (own_read names);
       }
 
@@ -214,31 +222,25 @@ unfolding dedup_onto
 onto-append out [] b = refl
 onto-append out (n ∷ a) b = onto-append (dedup_one out (some n)) a b
 
-pub onto-step : (f : AnnotationInfo → InheritedAnnotation) (own : List AnnotationInfo) (i : ℕ) (out : List InheritedAnnotation) → i < length own
-    → dedup_one (dedup_onto out (map f (take i own))) (some (f (get_or own i zeros))) ≡ dedup_onto out (map f (take (i + 1) own))
+pub onto-step : (f : OwnAssociate → InheritedAnnotation) (own : List OwnAssociate) (i : ℕ) (d : OwnAssociate) (out : List InheritedAnnotation) → i < length own
+    → dedup_one (dedup_onto out (map f (take i own))) (some (f (get_or own i d))) ≡ dedup_onto out (map f (take (i + 1) own))
 unfolding dedup_onto
-onto-step f own i out h =
-    rw (add-one, take-suc own i zeros h, map-append f (take i own) (get_or own i zeros ∷ []), onto-append out (map f (take i own)) (f (get_or own i zeros) ∷ []))
+onto-step f own i d out h =
+    rw (add-one, take-suc own i d h, map-append f (take i own) (get_or own i d ∷ []), onto-append out (map f (take i own)) (f (get_or own i d) ∷ []))
 
-pub joins-parent-by : (h f r : Inherited) (own : List AnnotationInfo) (count : ℕ) (p : Inherited) (parent : ℕ) → JoinsOwns h own count parent f → JoinsAll f p parent r
+pub joins-parent-by : (h f r : Inherited) (own : List OwnAssociate) (count : ℕ) (p : Inherited) (parent : ℕ) → JoinsOwns h own count parent f → JoinsAll f p parent r
     → JoinsParent h own count p parent r
 joins-parent-by h f r own count p parent a b =
     record {
-      good = b.good;
       dedup = λ names asc.
           b.dedup names asc
           ∙ ap (λ z. dedup_onto z (map (under' (names_at names parent)) (inherited_of names p))) (a.dedup names asc)
-          ∙ sym (onto-append (inherited_of names h) (map (handed (names_at names parent)) (take count own)) (map (under' (names_at names parent)) (inherited_of names p)));
+          ∙ sym (onto-append (inherited_of names h) (map (handed_own (names_at names parent)) (take count own)) (map (under' (names_at names parent)) (inherited_of names p)));
     }
 
 -- ---- the first of an array, as a slice
 
-pub all-taken : (own : List AnnotationInfo) (n : ℕ) → n ≤ length own → AllOwn own n → AllOwn (take n own) (length (take n own))
-all-taken own n h a =
-    rw (length-take-le n own h)
-    record { few = a.few; each = λ i l. rw (get_or-take n own i zeros l) (a.each i l) }
-
-pub joins-taken : (h : Inherited) (own : List AnnotationInfo) (n : ℕ) (p : Inherited) (parent : ℕ) (r : Inherited)
+pub joins-taken : (h : Inherited) (own : List OwnAssociate) (n : ℕ) (p : Inherited) (parent : ℕ) (r : Inherited)
     → JoinsParent h (take n own) (length (take n own)) p parent r → JoinsParent h own n p parent r
 joins-taken h own n p parent r j =
-    record { good = j.good; dedup = λ names asc. rw (take-length (take n own)) at (j.dedup names asc) }
+    record { dedup = λ names asc. rw (take-length (take n own)) at (j.dedup names asc) }

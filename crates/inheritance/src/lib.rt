@@ -2,21 +2,23 @@
 // `inherit_annotations`.
 #![tactic(auto)]
 
-ghost use Rattle.std.specs.Prelude.{◌≡◌, ◌<◌, ◌≤◌, length};
-ghost use Rattle.dedup.specs.Reading.{Good};
-ghost use Rattle.inheritance.specs.Own.{Own, WordsOf, inherited_kind, DomsWith, JoinsOwn, AllOwn, JoinsOwns, JoinsParent};
+ghost use Rattle.std.specs.Prelude.{◌≡◌, length};
+ghost use Rattle.inheritance.specs.Kinds.{inherited_kind};
+ghost use Rattle.inheritance.specs.Own.{WordsOf, DomsWith, JoinsOwn, JoinsOwns, JoinsParent};
 
-use annotations::AnnotationInfo;
+mod own;
+
 use dedup::{Entry, Inherited};
+pub use own::OwnAssociate;
+use records::Kind;
 use rows::Row;
 
 // The words of an associate, as a row of bits.
-pub fn words_of(a: AnnotationInfo) -> Row
-    requires { Own a }
-    ensures { WordsOf a result }
+pub fn words_of(a: OwnAssociate) -> Row
+    ensures { WordsOf a.info result }
 {
-    let count = a.count;
-    let words = a.words;
+    let count = a.info.count;
+    let words = a.info.words;
     let mut row = rows::empty_row();
     for i in 0..count {
         let w = words[i] as usize;
@@ -27,13 +29,12 @@ pub fn words_of(a: AnnotationInfo) -> Row
 }
 
 // The dom sets of the associate join those of the list, at its words.
-pub fn doms_with(doms: [Row; 200], a: AnnotationInfo) -> [Row; 200]
-    requires { Own a }
-    ensures { DomsWith doms a result }
+pub fn doms_with(doms: [Row; 200], a: OwnAssociate) -> [Row; 200]
+    ensures { DomsWith doms a.info result }
 {
-    let count = a.count;
-    let words = a.words;
-    let given = a.doms;
+    let count = a.info.count;
+    let words = a.info.words;
+    let given = a.info.doms;
     let mut out = doms;
     for i in 0..count {
         let w = words[i] as usize;
@@ -45,25 +46,27 @@ pub fn doms_with(doms: [Row; 200], a: AnnotationInfo) -> [Row; 200]
     out
 }
 
-// The kind under which an annotation is inherited, by its number, as `annotations` has it: a NestAssociate, 2, is handed on as an
-// Associate, 1 (FORMAT 8.7).
-fn inherited_kind(kind: u8) -> u8
+// The kind under which an annotation is inherited: a NestAssociate is handed on as an Associate (FORMAT 8.7).
+fn inherited_kind(kind: Kind) -> Kind
     ensures { result ≡ inherited_kind kind }
 {
-    if kind == 2 {
-        return 1;
+    match kind {
+        Kind::NestAssociate => Kind::Associate,
+        Kind::MakeList
+        | Kind::Associate
+        | Kind::Alias
+        | Kind::Inherit
+        | Kind::Derive
+        | Kind::NoDerive => kind,
     }
-    kind
 }
 
 // A parent's own associate joins what is inherited.
-pub fn inherit_own(h: Inherited, a: AnnotationInfo, parent: u64) -> Inherited
-    requires good { Good h }
-    requires own { Own a }
-    ensures { JoinsOwn h a parent result }
+pub fn inherit_own(h: Inherited, a: OwnAssociate, parent: u64) -> Inherited
+    ensures { JoinsOwn h a.info parent result }
 {
     let words = words_of(a);
-    let kind = inherited_kind(a.kind);
+    let kind = inherited_kind(a.info.kind);
     let n = Entry {
         kind,
         words,
@@ -77,9 +80,7 @@ pub fn inherit_own(h: Inherited, a: AnnotationInfo, parent: u64) -> Inherited
 }
 
 // A parent's own associates join, in their order.
-pub fn inherit_owns(h: Inherited, own: &[AnnotationInfo], parent: u64) -> Inherited
-    requires good { Good h }
-    requires all_own { AllOwn own.now (length own.now) }
+pub fn inherit_owns(h: Inherited, own: &[OwnAssociate], parent: u64) -> Inherited
     ensures { JoinsOwns h own.now (length own.now) parent result }
 {
     let mut out = h;
@@ -90,9 +91,7 @@ pub fn inherit_owns(h: Inherited, own: &[AnnotationInfo], parent: u64) -> Inheri
 }
 
 // One parent more: its own associates, then what it inherits itself, all under it.
-pub fn inherit_parent(h: Inherited, own: &[AnnotationInfo], p: Inherited, parent: u64) -> Inherited
-    requires good { Good h }
-    requires all_own { AllOwn own.now (length own.now) × Good p }
+pub fn inherit_parent(h: Inherited, own: &[OwnAssociate], p: Inherited, parent: u64) -> Inherited
     ensures { JoinsParent h own.now (length own.now) p parent result }
 {
     let first = inherit_owns(h, own, parent);

@@ -5,6 +5,8 @@ use Rattle.std.proofs.Common.{eqb-true}
 use Rattle.lists.specs.Tests.{by}
 use Rattle.emitting.specs.Emitting.{State}
 use Rattle.emitting.specs.Emitting as emitting
+use Rattle.emitting.specs.declared.Writer.{Writer}
+use Rattle.emitting.specs.Writing as writing
 use Rattle.definitions.specs.Records.{Row}
 use Rattle.definitions.specs.Packing.{name_bytes, row_bytes}
 use Rattle.fields.specs.declared.Name.{Name}
@@ -15,6 +17,9 @@ pub use Rattle.emitting.specs.Emitting.{emit_bytes}
 
 abbrev pub emit : ℕ → State → List Row → State
 emit limit s rs = emitting.emit row_bytes limit s rs
+
+abbrev pub Emits : Writer → Writer → List Row → Type 0
+Emits old new rs = writing.Emits row_bytes old new rs
 
 -- the bytes of a name
 pub name-bytes : (a b : ℕ) → name_bytes (two_words a b) ≡ a ∷ b ∷ []

@@ -1,8 +1,8 @@
 -- Laws of a word's classes.
-use Rattle.std.specs.Prelude.{Bool, true, false, not, Some, None, is_some, ◌≡◌, ℕ, ◌/◌, ◌<◌, eqb, length}
+use Rattle.std.specs.Prelude.{Bool, true, false, not, Some, None, is_some, ◌≡◌, ℕ, ◌/◌, ◌<◌, eqb}
 use mathlib.Core.List.{List, [], ◌∷◌, map}
 use Rattle.std.proofs.Math.Path.{refl, sym, ap}
-use Rattle.std.proofs.Common.{◌∙◌}
+use Rattle.std.proofs.Common.{ap₂, ◌∙◌}
 use native.Mathlib.Omega.{arith}
 use Rattle.lists.specs.Lists.{filter, first_of}
 use Rattle.lists.specs.Tests.{by}
@@ -25,7 +25,9 @@ use Rattle.synth_classes.specs.Made.{class_name, classes_of}
 use Rattle.synth_classes.specs.Walks.{among, among-kept, classes-with}
 use Rattle.synth_classes.specs.Known.{Known, unknown-known, other-known}
 use Rattle.interpretation.specs.declared.Reason.TheVariants.{Unknown}
-use Rattle.interpretation.specs.Emit.{emit_bytes, emit, bytes_of, name-bytes}
+use Rattle.emitting.specs.declared.Writer.{Writer}
+use Rattle.emitting.specs.Writing.{state, SameSlice, same_self, same_then, Adds}
+use Rattle.interpretation.specs.Emit.{emit_bytes, emit, Emits, bytes_of, name-bytes}
 use Rattle.interpretation.specs.Judged.{is_unknown, is_other, unknown_doms, name_in, unknown_row}
 
 -- what the place of a class tells
@@ -73,51 +75,50 @@ pub row-bytes : (kind : ℕ) (N : Name) (w f s a b : ℕ) (c : Name) → N ≡ t
 unfolding row_bytes
 row-bytes kind N w f s a b c p q = rw (p, q, name-bytes f s, name-bytes a b)
 
--- what is written, and the doms that are left
-pub record Written (t : Catalogue) (place : ℕ) (doms : Row) (word limit : ℕ) (left : List ℕ) (buf₀ : List ℕ) (n₀ : ℕ) (buf : List ℕ) (n : ℕ) : Type 0 where
-  pub same : length buf ≡ length buf₀
-  pub rows : emit limit (buf, n) (map (unknown_row t place word) (filter (unknown_at t word) left))
-      ≡ emit limit (buf₀, n₀) (map (unknown_row t place word) (unknown_doms t doms word))
+-- what w₀ has written by w, and the doms that are left
+pub record Written (t : Catalogue) (place : ℕ) (doms : Row) (word : ℕ) (left : List ℕ) (w₀ w : Writer) : Type 0 where
+  pub same : SameSlice w₀ w
+  pub rows : emit w₀.limit (state w) (map (unknown_row t place word) (filter (unknown_at t word) left))
+      ≡ emit w₀.limit (state w₀) (map (unknown_row t place word) (unknown_doms t doms word))
 
-module _ (t : Catalogue) (place : ℕ) (doms : Row) (word limit : ℕ) (buf₀ : List ℕ) (n₀ : ℕ) where
+module _ (t : Catalogue) (place : ℕ) (doms : Row) (word : ℕ) (w₀ : Writer) where
   abbrev f : ℕ → Bool
   f = unknown_at t word
 
   abbrev R : ℕ → records.Row
   R = unknown_row t place word
 
-  pub written_start : (left : List ℕ) → left ≡ below (has doms) 201 → Written t place doms word limit left buf₀ n₀ buf₀ n₀
+  pub written_start : (left : List ℕ) → left ≡ below (has doms) 201 → Written t place doms word left w₀ w₀
   unfolding unknown_doms
   written_start left e =
-      record { same = refl; rows = ap (λ l. emit limit (buf₀, n₀) (map R l)) (ap (filter f) e ∙ sym (among-kept doms f)) }
+      record { same = same_self w₀; rows = ap (λ l. emit w₀.limit (state w₀) (map R l)) (ap (filter f) e ∙ sym (among-kept doms f)) }
 
-  pub written_known : (k : ℕ) (left rest : List ℕ) (buf : List ℕ) (n : ℕ) → left ≡ k ∷ rest → f k ≡ false
-      → Written t place doms word limit left buf₀ n₀ buf n → Written t place doms word limit rest buf₀ n₀ buf n
-  written_known k left rest buf n e h w =
+  pub written_known : (k : ℕ) (left rest : List ℕ) (w : Writer) → left ≡ k ∷ rest → f k ≡ false → Written t place doms word left w₀ w → Written t place doms word rest w₀ w
+  written_known k left rest w e h x =
       let q : filter f left ≡ filter f rest = rw (e, h) refl in
-      record { same = w.same; rows = ap (λ l. emit limit (buf, n) (map R l)) (sym q) ∙ w.rows }
+      record { same = x.same; rows = ap (λ l. emit w₀.limit (state w) (map R l)) (sym q) ∙ x.rows }
 
-  pub written_row : (k : ℕ) (left rest : List ℕ) (buf : List ℕ) (n : ℕ) → left ≡ k ∷ rest → f k ≡ true → (buf' : List ℕ) (n' : ℕ) (T c : held.Name) →
-      length buf' ≡ length buf → name_of T ≡ name_in t place → name_of c ≡ class_name word k →
-      (buf', n') ≡ emit_bytes limit (buf, n) (bytes_of T (Unknown c) word) →
-      Written t place doms word limit left buf₀ n₀ buf n → Written t place doms word limit rest buf₀ n₀ buf' n'
+  pub written_row : (k : ℕ) (left rest : List ℕ) (w : Writer) → left ≡ k ∷ rest → f k ≡ true → (w' : Writer) (T c : held.Name) →
+      name_of T ≡ name_in t place → name_of c ≡ class_name word k →
+      Adds w w' (emit_bytes w.limit (state w) (bytes_of T (Unknown c) word)) →
+      Written t place doms word left w₀ w → Written t place doms word rest w₀ w'
   unfolding emitting.emit
-  written_row k left rest buf n e h buf' n' T c l p q z w =
+  written_row k left rest w e h w' T c p q a x =
       let more = map R (filter f rest) in
       let r : filter f left ≡ k ∷ filter f rest = rw (e, h) refl in
       record {
-        same = l ∙ w.same;
+        same = same_then w₀ w w' x.same a.same;
         rows =
-            ap (λ st. emit limit st more) z
-            ∙ ap (λ bs. emit limit (emit_bytes limit (buf, n) bs) more) (sym (row-bytes 4 (name_in t place) word T.first T.second c.first c.second (class_name word k) (sym p) (sym q)))
-            ∙ ap (λ l. emit limit (buf, n) (map R l)) (sym r)
-            ∙ w.rows;
+            ap (λ st. emit w₀.limit st more) a.state
+            ∙ ap₂ (λ n bs. emit w₀.limit (emit_bytes n (state w) bs) more) x.same.limit (sym (row-bytes 4 (name_in t place) word T.first T.second c.first c.second (class_name word k) (sym p) (sym q)))
+            ∙ ap (λ l. emit w₀.limit (state w) (map R l)) (sym r)
+            ∙ x.rows;
       }
 
-  pub written_end : (left : List ℕ) (buf : List ℕ) (n : ℕ) → left ≡ [] → Written t place doms word limit left buf₀ n₀ buf n →
-      (buf, n) ≡ emit limit (buf₀, n₀) (map R (unknown_doms t doms word))
+  pub written_end : (left : List ℕ) (w : Writer) → left ≡ [] → Written t place doms word left w₀ w → Emits w₀ w (map R (unknown_doms t doms word))
   unfolding emitting.emit
-  written_end left buf n e w = ap (λ l. emit limit (buf, n) (map R (filter f l))) (sym e) ∙ w.rows
+  written_end left w e x =
+      record { same = x.same; state = ap (λ l. emit w₀.limit (state w) (map R (filter f l))) (sym e) ∙ x.rows }
 
 -- the steps of a walk over the doms
 pub ruleset written_steps = (written_start, written_known, written_row, written_end)

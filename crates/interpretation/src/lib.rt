@@ -1,15 +1,16 @@
 // What a word's classes come to, and the rows of kinds 4, 5 and 6, after `interpret_associate` of compile.rs.
 #![tactic(auto)]
 
-ghost use Rattle.std.specs.Prelude.{find, map, ◌≡◌, ◌*◌, ◌<◌, ◌≤◌, length};
+ghost use Rattle.std.specs.Prelude.{find, map, ◌≡◌, ◌<◌};
 ghost use Rattle.rows.specs.Rows.{has};
 ghost use Rattle.rows.specs.Lists.{below};
 ghost use Rattle.synth_classes.specs.Classes.{unknown_at, other_at};
-ghost use Rattle.interpretation.specs.Emit.{emit_bytes, emit, bytes_of};
+ghost use Rattle.emitting.specs.Writing.{state, Adds};
+ghost use Rattle.interpretation.specs.Emit.{emit_bytes, Emits, bytes_of};
 ghost use Rattle.interpretation.specs.Judged.{unknown_doms, unknown_row};
 
 use catalogue::Catalogue;
-use emitting::Kind;
+use emitting::{Kind, Writer};
 use fields::Name;
 use rows::Row;
 use synth_classes::Doms;
@@ -25,17 +26,9 @@ pub enum Reason {
     Duplicate,
 }
 
-// Writes the row of a type and a word at place n, as far as the limit goes (FORMAT 8.1).
-pub fn put_reason(
-    buf: &mut [u8],
-    limit: usize,
-    n: usize,
-    subject: Name,
-    reason: Reason,
-    word: u8,
-) -> usize
-    requires { 6 * limit ≤ length buf.old }
-    ensures { (buf.new, result) ≡ emit_bytes limit (buf.old, n) (bytes_of subject reason word) }
+// Writes the row of a type and a word (FORMAT 8.1).
+pub fn put_reason(out: &mut Writer<'_>, subject: Name, reason: Reason, word: u8)
+    ensures { Adds out.old out.new (emit_bytes out.old.limit (state out.old) (bytes_of subject reason word)) }
 {
     let (kind, other) = match reason {
         Reason::Unknown(class) => (Kind::UndeclaredClass, Some(class)),
@@ -48,7 +41,7 @@ pub fn put_reason(
         other,
         word: Some(word),
     };
-    emitting::put_row(buf, limit, n, row)
+    out.push(row);
 }
 
 // Whether the class of a word and a dom is not declared.
@@ -86,25 +79,15 @@ pub fn first_other(t: &Catalogue, doms: Row, word: u8) -> Option<u8>
 
 // A row of kind 4 for each unknown class, with the class as the other name (FORMAT 8.10).
 #[tactic(auto, using(crate::specs::JudgedLaws::written_steps))]
-pub fn unknown_rows(
-    t: &Catalogue,
-    place: usize,
-    doms: Row,
-    word: u8,
-    buf: &mut [u8],
-    limit: usize,
-    n: usize,
-) -> usize
-    requires { (word < 255) × (place < 64) × (6 * limit ≤ length buf.old) }
-    ensures { (buf.new, result) ≡ emit limit (buf.old, n) (map (unknown_row t.now place word) (unknown_doms t.now doms word)) }
+pub fn unknown_rows(t: &Catalogue, place: usize, doms: Row, word: u8, out: &mut Writer<'_>)
+    requires { (word < 255) × (place < 64) }
+    ensures { Emits out.old out.new (map (unknown_row t.now place word) (unknown_doms t.now doms word)) }
 {
     let subject = synth_classes::name_at(t, place);
-    let mut rows = n;
     for dom in Doms::of(doms) {
         if is_unknown(t, word, dom) {
             let class = synth_classes::class_name(dom as usize, word);
-            rows = put_reason(buf, limit, rows, subject, Reason::Unknown(class), word);
+            put_reason(out, subject, Reason::Unknown(class), word);
         }
     }
-    rows
 }

@@ -12,21 +12,22 @@ use Rattle.definitions.specs.Inherited.{InheritedAnnotation}
 use Rattle.definitions.specs.Synthesis.{Interpreted, interpreted, behind_rows, interpret_words, interpret_all}
 use Rattle.definitions.specs.Packing.{row_bytes}
 use Rattle.dedup.specs.declared.Entry.{Entry}
-use Rattle.dedup.specs.declared.Inherited.{Inherited}
+use Rattle.dedup.specs.declared.inherited.Inherited.{Inherited}
 use Rattle.dedup.specs.Entries.{entries_of}
 use Rattle.dedup.specs.Reading.{resources_at, names_at, table_of, inherited_of}
-use Rattle.own_associates.specs.declared.OwnAssociates.{OwnAssociates}
 use Rattle.line_laws.specs.Statements.{line_map}
 use Rattle.law_classes.specs.Sets.{type_at}
 use Rattle.catalogue.specs.declared.Catalogue.{Catalogue}
+use Rattle.own_associates.specs.Owning.{OwnAssociates}
 use Rattle.synth_classes.specs.Made.{type_names, names_in}
+use Rattle.emitting.specs.declared.Writer.{Writer}
+use Rattle.emitting.specs.Writing.{state, same_self, same_then}
 use Rattle.interpretation.specs.Emit.{emit}
-use Rattle.duplicates.specs.declared.Makings.{Makings}
-use Rattle.duplicates.specs.Held.{held_items}
+use Rattle.duplicates.specs.Held.{Makings, held_items}
 use Rattle.associates.specs.StepLaws.{no_rows}
-use Rattle.associates.specs.Step.{Reached, items_held}
+use Rattle.associates.specs.Step.{Reached, begun, items_held}
 use Rattle.emitting.specs.Emitting.{emit-append}
-use Rattle.interpreting.specs.Entry.{size, interpret_entry, begun, EntryDoneIn, EntryDone}
+use Rattle.interpreting.specs.Entry.{size, interpret_entry, EntryDoneIn, EntryDone}
 use Rattle.interpreting.specs.Annotations.{TypeReached, own_entries_in, interpreted_of, AddedIn, Added, WithEntry, interpreted_at, TypeDoneIn, TypeDone}
 
 -- ---- some annotations, and then others
@@ -45,14 +46,14 @@ null-append : {A : Type 0} (a b : List A) → null (a ++ b) ≡ (null a && null 
 null-append [] b = refl
 null-append (x ∷ a) b = refl
 
-module _ (t : LineMap) (T limit : ℕ) where
-  added_none : (s : TypeReached) (b : List ℕ) → AddedIn t T limit [] s b s b
+module _ (t : LineMap) (T : ℕ) where
+  added_none : (s : TypeReached) (w : Writer) → AddedIn t T [] s w s w
   unfolding interpret_all
-  added_none s b = record { rows = no_rows limit (b, s.rows); items = refl; clean = sym (and-true s.clean) }
+  added_none s w = record { rows = no_rows w.limit (state w); items = refl; clean = sym (and-true s.clean) }
 
-  added_then : (a c : List InheritedAnnotation) (s p r : TypeReached) (b b' b'' : List ℕ) → AddedIn t T limit a s b p b' → AddedIn t T limit c p b' r b'' →
-      AddedIn t T limit (a ++ c) s b r b''
-  added_then a c s p r b b' b'' x y =
+  added_then : (a c : List InheritedAnnotation) (s p r : TypeReached) (w w' w'' : Writer) → w'.limit ≡ w.limit → AddedIn t T a s w p w' → AddedIn t T c p w' r w'' →
+      AddedIn t T (a ++ c) s w r w''
+  added_then a c s p r w w' w'' k x y =
       let m = t in
       let D = type_at t T in
       let i = interpreted_of t T a s.made in
@@ -62,9 +63,10 @@ module _ (t : LineMap) (T limit : ℕ) where
       record {
         rows =
             y.rows
-            ∙ ap₂ (λ z (w : Interpreted). emit limit z w.rows) x.rows f
-            ∙ sym (emit-append row_bytes limit (b, s.rows) i.rows j.rows)
-            ∙ ap (λ (w : Interpreted). emit limit (b, s.rows) w.rows) (sym e);
+            ∙ ap₂ (λ m z. emit m z (interpreted_of t T c p.made).rows) k x.rows
+            ∙ ap (λ (u : Interpreted). emit w.limit (emit w.limit (state w) i.rows) u.rows) f
+            ∙ sym (emit-append row_bytes w.limit (state w) i.rows j.rows)
+            ∙ ap (λ (u : Interpreted). emit w.limit (state w) u.rows) (sym e);
         items = y.items ∙ ap (λ (w : Interpreted). w.items) f ∙ sym (ap (λ (w : Interpreted). w.items) e);
         clean =
             y.clean
@@ -84,14 +86,14 @@ module _ (t : LineMap) (T limit : ℕ) where
       (λ j. interpret_words m D (sym ps j) (sym us j) false is) ∙ ap (λ rs. interpreted rs i.items) (sym (append-nil i.rows))
 
   -- one annotation
-  added-entry : (x : InheritedAnnotation) (e : Entry) (doms : List Row) (s : TypeReached) (b : List ℕ) (r : Reached) (b' : List ℕ) (c : Bool) →
+  added-entry : (x : InheritedAnnotation) (e : Entry) (doms : List Row) (s : TypeReached) (w : Writer) (r : Reached) (w' : Writer) (c : Bool) →
       resources_of x.annotation ≡ resources_at (table_of doms) e.words → x.parents ≡ names_in t e.parents →
-      EntryDoneIn t T e doms limit (begun s.rows s.made) b r b' → c ≡ (s.clean && not r.failed) →
-      AddedIn t T limit (x ∷ []) s b (record { clean = c; rows = r.rows; made = r.made }) b'
-  added-entry x e doms s b r b' c us ps d h =
+      EntryDoneIn t T e doms (begun s.made) w r w' → c ≡ (s.clean && not r.failed) →
+      AddedIn t T (x ∷ []) s w (record { clean = c; made = r.made }) w'
+  added-entry x e doms s w r w' c us ps d h =
       let f = one_entry x e doms (items_held t T s.made) us ps in
       record {
-        rows = d.rows ∙ ap (λ (w : Interpreted). emit limit (b, s.rows) w.rows) f;
+        rows = d.rows ∙ ap (λ (u : Interpreted). emit w.limit (state w) u.rows) f;
         items = d.items ∙ ap (λ (w : Interpreted). w.items) f;
         clean = h ∙ ap (λ z. s.clean && not z) d.failed ∙ ap (λ z. s.clean && z) (not-not (null (interpret_entry t T e doms (items_held t T s.made)).rows)) ∙ ap (λ (w : Interpreted). s.clean && null w.rows) f;
       }
@@ -100,61 +102,65 @@ module _ (t : LineMap) (T limit : ℕ) where
 
   nothing-held : (made : Makings) → made.count ≡ 0 → items_held t T made ≡ []
   unfolding held_items
-  nothing-held made e = rw e
+  nothing-held made e = ap (λ (k : ℕ). held_items t T made k) e
 
-  done-in : (o : OwnAssociates) (h : Inherited) (n : ℕ) (made : Makings) (b b' : List ℕ) (r : TypeReached) → made.count ≡ 0 →
-      AddedIn t T limit (own_entries_in o ++ inherited_of (type_names t) h) (record { clean = true; rows = n; made = made }) b r b' →
-      TypeDoneIn t T o h limit n b (record { rows = r.rows; clean = r.clean }) b'
+  done-in : (o : OwnAssociates) (h : Inherited) (made : Makings) (w w' : Writer) (r : TypeReached) → made.count ≡ 0 →
+      AddedIn t T (own_entries_in o ++ inherited_of (type_names t) h) (record { clean = true; made = made }) w r w' → TypeDoneIn t T o h w r.clean w'
   unfolding interpreted_at
-  done-in o h n made b b' r e x =
+  done-in o h made w w' r e x =
       let f = ap (interpret_all t (type_at t T) (own_entries_in o ++ inherited_of (type_names t) h)) (nothing-held made e) in
-      record { rows = x.rows ∙ ap (λ (w : Interpreted). emit limit (b, n) w.rows) f; clean = x.clean ∙ ap (λ (w : Interpreted). null w.rows) f }
+      record { rows = x.rows ∙ ap (λ (u : Interpreted). emit w.limit (state w) u.rows) f; clean = x.clean ∙ ap (λ (u : Interpreted). null u.rows) f }
 
   -- a type without own associates that inherits nothing
-  none_in : (o : OwnAssociates) (h : Inherited) (n : ℕ) (b : List ℕ) → o.count ≡ 0 → h.list.count ≡ 0 → TypeDoneIn t T o h limit n b (record { rows = n; clean = true }) b
+  none_in : (o : OwnAssociates) (h : Inherited) (w : Writer) → o.count ≡ 0 → h.list.count ≡ 0 → TypeDoneIn t T o h w true w
   unfolding interpreted_at interpret_all inherited_of entries_of
-  none_in o h n b e d = record { rows = rw (e, d) (no_rows limit (b, n)); clean = rw (e, d) refl }
+  none_in o h w e d = record { rows = rw (e, d) (no_rows w.limit (state w)); clean = rw (e, d) refl }
 
 -- ---- for every sheet whose catalogue it is
 
-module _ (t : Catalogue) (T limit : ℕ) where
-  pub all_none : (s : TypeReached) (b : List ℕ) → Added t T limit (λ ns. []) 0 s b s b
-  all_none s b = record { count = omega arith; right = λ x k h. added_none (line_map x) T limit s b }
+module _ (t : Catalogue) (T : ℕ) where
+  pub all_none : (s : TypeReached) (w : Writer) → Added t T (λ ns. []) 0 s w s w
+  all_none s w = record { same = same_self w; count = omega arith; right = λ x k h. added_none (line_map x) T s w }
 
-  pub all_then : (a c : List Name → List InheritedAnnotation) (k l : ℕ) (s p r : TypeReached) (b b' b'' : List ℕ) → Added t T limit a k s b p b' → Added t T limit c l p b' r b'' →
-      Added t T limit (λ ns. a ns ++ c ns) (k + l) s b r b''
-  all_then a c k l s p r b b' b'' y z =
+  pub all_then : (a c : List Name → List InheritedAnnotation) (k l : ℕ) (s p r : TypeReached) (w w' w'' : Writer) → Added t T a k s w p w' → Added t T c l p w' r w'' →
+      Added t T (λ ns. a ns ++ c ns) (k + l) s w r w''
+  all_then a c k l s p r w w' w'' y z =
       record {
+        same = same_then w w' w'' y.same z.same;
         count = omega (arith, y.count, z.count);
-        right = λ x i h. added_then (line_map x) T limit (a (type_names (line_map x))) (c (type_names (line_map x))) s p r b b' b'' (y.right x i h) (z.right x i h);
+        right = λ x i h.
+            added_then (line_map x) T (a (type_names (line_map x))) (c (type_names (line_map x))) s p r w w' w'' y.same.limit (y.right x i h) (z.right x i h);
       }
 
   -- the same annotations, and room for more
-  pub all-as : (a c : List Name → List InheritedAnnotation) (k l : ℕ) (s : TypeReached) (b : List ℕ) (r : TypeReached) (b' : List ℕ) → ((ns : List Name) → a ns ≡ c ns) → k ≤ l →
-      Added t T limit a k s b r b' → Added t T limit c l s b r b'
-  all-as a c k l s b r b' e h y =
+  pub all-as : (a c : List Name → List InheritedAnnotation) (k l : ℕ) (s : TypeReached) (w : Writer) (r : TypeReached) (w' : Writer) → ((ns : List Name) → a ns ≡ c ns) → k ≤ l →
+      Added t T a k s w r w' → Added t T c l s w r w'
+  all-as a c k l s w r w' e h y =
       record {
+        same = y.same;
         count = omega (arith, y.count);
-        right = λ x i g. subst (λ z. AddedIn (line_map x) T limit z s b r b') (e (type_names (line_map x))) (y.right x i g);
+        right = λ x i g. subst (λ z. AddedIn (line_map x) T z s w r w') (e (type_names (line_map x))) (y.right x i g);
       }
 
   -- one annotation
-  pub entry-with : (e : Entry) (doms : List Row) (s : TypeReached) (b : List ℕ) (r : Reached) (b' : List ℕ) (c : Bool) →
-      EntryDone t T e doms limit (begun s.rows s.made) b r b' → c ≡ (s.clean && not r.failed) →
-      WithEntry t T e doms limit s b (record { clean = c; rows = r.rows; made = r.made }) b'
-  entry-with e doms s b r b' c d h =
-      record { count = d.count; added = λ x k l a us ps. added-entry (line_map x) T limit a e doms s b r b' c us ps (d.right x k l) h }
+  pub entry-with : (e : Entry) (doms : List Row) (s : TypeReached) (w : Writer) (r : Reached) (w' : Writer) (c : Bool) →
+      EntryDone t T e doms (begun s.made) w r w' → c ≡ (s.clean && not r.failed) → WithEntry t T e doms s w (record { clean = c; made = r.made }) w'
+  entry-with e doms s w r w' c d h =
+      record { same = d.same; count = d.count; added = λ x k l a us ps. added-entry (line_map x) T a e doms s w r w' c us ps (d.right x k l) h }
 
-  pub all-entry : (a : List Name → InheritedAnnotation) (e : Entry) (doms : List Row) (s : TypeReached) (b : List ℕ) (r : TypeReached) (b' : List ℕ) →
+  pub all-entry : (a : List Name → InheritedAnnotation) (e : Entry) (doms : List Row) (s : TypeReached) (w : Writer) (r : TypeReached) (w' : Writer) →
       ((ns : List Name) → resources_of (a ns).annotation ≡ resources_at (table_of doms) e.words) → ((ns : List Name) → (a ns).parents ≡ names_at ns e.parents) →
-      WithEntry t T e doms limit s b r b' → Added t T limit (λ ns. a ns ∷ []) (size e) s b r b'
-  all-entry a e doms s b r b' us ps w =
-      record { count = w.count; right = λ x k l. w.added x k l (a (type_names (line_map x))) (us (type_names (line_map x))) (ps (type_names (line_map x))) }
+      WithEntry t T e doms s w r w' → Added t T (λ ns. a ns ∷ []) (size e) s w r w'
+  all-entry a e doms s w r w' us ps y =
+      record {
+        same = y.same;
+        count = y.count;
+        right = λ x k l. y.added x k l (a (type_names (line_map x))) (us (type_names (line_map x))) (ps (type_names (line_map x)));
+      }
 
-  pub type-done : (o : OwnAssociates) (h : Inherited) (n : ℕ) (made : Makings) (b b' : List ℕ) (r : TypeReached) (k : ℕ) → made.count ≡ 0 →
-      Added t T limit (λ ns. own_entries_in o ++ inherited_of ns h) k (record { clean = true; rows = n; made = made }) b r b' →
-      TypeDone t T o h limit n b (record { rows = r.rows; clean = r.clean }) b'
-  type-done o h n made b b' r k e y = record { right = λ x i l. done-in (line_map x) T limit o h n made b b' r e (y.right x i l) }
+  pub type-done : (o : OwnAssociates) (h : Inherited) (made : Makings) (w w' : Writer) (r : TypeReached) (k : ℕ) → made.count ≡ 0 →
+      Added t T (λ ns. own_entries_in o ++ inherited_of ns h) k (record { clean = true; made = made }) w r w' → TypeDone t T o h w r.clean w'
+  type-done o h made w w' r k e y = record { same = y.same; right = λ x i l. done-in (line_map x) T o h made w w' r e (y.right x i l) }
 
-  pub type-nothing : (o : OwnAssociates) (h : Inherited) (n : ℕ) (b : List ℕ) → o.count ≡ 0 → h.list.count ≡ 0 → TypeDone t T o h limit n b (record { rows = n; clean = true }) b
-  type-nothing o h n b e d = record { right = λ x i l. none_in (line_map x) T limit o h n b e d }
+  pub type-nothing : (o : OwnAssociates) (h : Inherited) (w : Writer) → o.count ≡ 0 → h.list.count ≡ 0 → TypeDone t T o h w true w
+  type-nothing o h w e d = record { same = same_self w; right = λ x i l. none_in (line_map x) T o h w e d }

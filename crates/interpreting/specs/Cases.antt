@@ -1,14 +1,15 @@
 -- The map of 01's example with an own Associate and something inherited: it meets what the functions require, and comes to this.
-use Rattle.std.specs.Prelude.{true, false, ◌||◌, List, [], ◌∷◌, ◌≡◌, refl, ℕ, zero, suc, ◌<◌, eqb, get_or, set, replicate}
-use Rattle.std.proofs.Common.{inl, sym, ◌∙◌, arith, eqb-true}
-use Rattle.std.proofs.lemmas.List.{get_or-replicate}
+use Rattle.std.specs.Prelude.{true, false, ◌||◌, List, [], ◌∷◌, ◌≡◌, refl, ℕ, zero, suc, ◌≤◌, ◌<◌, eqb, get_or, set, replicate}
+use Rattle.std.proofs.Common.{sym, ◌∙◌, arith, eqb-true}
+use Rattle.std.proofs.lemmas.List.{get_or-replicate, length-replicate}
 use Rattle.std.proofs.Math.Seq
 use Rattle.lists.specs.Tests.{by, never, or_left}
 use Rattle.rows.specs.declared.Row.{Row}
 use Rattle.rows.specs.Rows.{has, has_bit, single, either, empty}
 use Rattle.rows.specs.RowLaws.{has_either, has-single, small-either, small-single}
 use Rattle.rows.specs.Lists.{between}
-use Rattle.annotations.specs.declared.AnnotationInfo.{AnnotationInfo}
+use Rattle.records.specs.declared.Kind.TheVariants.{Associate}
+use Rattle.annotations.specs.declared.info.AnnotationInfo.{AnnotationInfo}
 use Rattle.annotations.specs.Reading.{doms_of, resources_in, info_of}
 use Rattle.definitions.specs.Records.{domain, resource, synthesized, extension, makelist_mark}
 use Rattle.definitions.specs.Comparisons.{look_up}
@@ -17,17 +18,15 @@ use Rattle.definitions.specs.Making.{extension_parents, marks_of, all_virtual, c
 use Rattle.definitions.specs.Synthesis.{class_row, is_duplicate, with_making, interpret_words, interpret_all}
 use Rattle.law_classes.specs.Sets.{type_at}
 use Rattle.dedup.specs.declared.Entry.{Entry}
-use Rattle.dedup.specs.declared.Inherited.{Inherited}
+use Rattle.dedup.specs.declared.inherited.Inherited.{Inherited}
 use Rattle.dedup.specs.Lists.{many-most}
-use Rattle.dedup.specs.Entries.{entries_of, nil, cons}
+use Rattle.dedup.specs.Entries.{Entries, entries_of, nil, cons}
 use Rattle.dedup.specs.EntryLaws.{zeros}
 use Rattle.dedup.specs.Reading.{resources_at, names_at, read, table_of, inherited_of, Good}
-use Rattle.inheritance.specs.Own as own
-use Rattle.inheritance.specs.Own.{Own, AllOwn}
-use Rattle.own_associates.specs.declared.OwnAssociates.{OwnAssociates}
+use Rattle.inheritance.specs.declared.own.OwnAssociate.{OwnAssociate}
+use Rattle.own_associates.specs.Owning.{OwnAssociates}
 use Rattle.synth_classes.specs.Made.{type_names}
-use Rattle.duplicates.specs.declared.Makings.{Makings}
-use Rattle.duplicates.specs.Held.{no_making}
+use Rattle.duplicates.specs.Held.{Makings, no_making}
 use Rattle.associates.specs.Step.{Ready}
 use Rattle.interpreting.specs.Entry.{EntryReady}
 use Rattle.interpreting.specs.Annotations.{TypeReady, interpreted_at}
@@ -53,40 +52,33 @@ last = record { a = 1; b = 0; c = 0; d = 256 }
 
 -- an Associate of the words `file` (1) and 199
 abbrev pub owned : AnnotationInfo
-owned = record { kind = 1; tag = 0; count = 2; words = 1 ∷ 199 ∷ replicate 13 0; doms = plain ∷ last ∷ replicate 13 empty }
-
-abbrev pub owns : OwnAssociates
-owns = record { count = 1; items = owned ∷ replicate 11 own.zeros }
+owned = record { kind = Associate; tag = 0; count = 2; words = 1 ∷ 199 ∷ replicate 13 0; doms = plain ∷ last ∷ replicate 13 empty; few = omega arith }
 
 -- the same words inherited from `file` and `resource`
 abbrev words : Row
 words = either (single 1) (single 199)
 
 abbrev entry : Entry
-entry = record { kind = 1; words = words; parents = 6 }
+entry = record { kind = Associate; words = words; parents = 6 }
 
 abbrev doms : List Row
 doms = set (set (replicate 200 empty) 1 plain) 199 last
 
-abbrev pub inherited : Inherited
-inherited = record { list = record { count = 1; items = entry ∷ replicate 200 zeros }; doms = doms }
+abbrev entries : Entries
+entries = record { count = 1; items = entry ∷ replicate 200 zeros; few = omega arith; long = refl }
 
 -- ---- the own Associate
 
-owned-own : Own owned
-owned-own = record { kind = inl refl; few = omega arith; below = small; ascending = refl }
+abbrev pub owned_own : OwnAssociate
+owned_own = record { info = owned; associate = refl; below = small; ascending = refl }
   where
     small : (i : ℕ) → i < 2 → get_or owned.words i 0 < 200
     small zero h = omega arith
     small (suc zero) h = omega arith
     small (suc (suc i)) h = absurd (omega arith)
 
-owns-own : AllOwn owns.items 1
-owns-own = record { few = omega arith; each = only }
-  where
-    only : (i : ℕ) → i < 1 → Own (get_or owns.items i own.zeros)
-    only zero h = owned-own
-    only (suc i) h = absurd (omega arith)
+abbrev pub owns : OwnAssociates
+owns = record { count = 1; items = replicate 12 owned_own; few = omega arith; long = refl }
 
 -- ---- what is inherited
 
@@ -104,10 +96,11 @@ others w b p q =
     ∙ Seq.get_or-set_other (replicate 200 empty) 1 w plain empty p
     ∙ get_or-replicate 200 w empty empty b
 
-inherited-good : Good inherited
+pub inherited-good : Good entries doms
 unfolding entries_of
 inherited-good =
     record {
+      fits = omega arith;
       kept = record {
         room = omega arith;
         apart = cons (record { kind = refl; small = small-either (single 1) (single 199) (small-single 1) (small-single 199); words = λ w h. which w h (λ e. omega arith) (λ e. omega arith) }) (λ w h. refl) nil;
@@ -125,20 +118,22 @@ inherited-good =
     there-199 : has words 199 ≡ true
     there-199 = has_either (single 1) (single 199) 199 ∙ rw (has-single 1 199 (omega arith), has-single 199 199 (omega arith)) refl
 
--- a slice for four rows
-pub ready : TypeReady 0 owns inherited 4 (replicate 24 0)
-ready = record { on_ground = record { place = omega arith; slice = omega arith }; own = owns-own; inherited = inherited-good }
+abbrev pub inherited : Inherited
+inherited = record { list = entries; doms = doms; good = inherited-good }
+
+pub ready : TypeReady 0 owns inherited
+ready = record { place = omega arith }
 
 -- ---- one word and one annotation, with as many makings as there can be before them
 
-abbrev makings : ℕ → Makings
-makings n = record { count = n; items = replicate 380 no_making }
+abbrev makings : (n : ℕ) → n ≤ 380 → Makings
+makings n h = record { count = n; items = replicate 380 no_making; few = h; long = length-replicate 380 no_making }
 
-pub word-ready : Ready (record { place = 0; word = 199 }) 4 (record { failed = false; ended = false; rows = 0; made = makings 379 }) (replicate 24 0)
-word-ready = record { place = omega arith; word = omega arith; room = omega arith; slice = omega arith }
+pub word-ready : Ready (record { place = 0; word = 199; inside = omega arith; numbered = omega arith }) (makings 379 (omega arith))
+word-ready = record { place = omega arith; word = omega arith; room = omega arith }
 
-pub entry_ready : EntryReady 0 entry 4 (makings 180) (replicate 24 0)
-entry_ready = record { place = omega arith; room = omega (arith, many-most (has words) 200); slice = omega arith }
+pub entry_ready : EntryReady 0 entry (makings 180 (omega arith))
+entry_ready = record { place = omega arith; room = omega (arith, many-most (has words) 200) }
 
 -- ---- what it comes to
 

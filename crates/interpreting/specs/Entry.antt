@@ -1,5 +1,5 @@
 -- One annotation of a type: its words as a row of bits, each with its dom set, and the direct parents that it comes from.
-use Rattle.std.specs.Prelude.{false, not, List, ◌≡◌, ℕ, ◌+◌, ◌*◌, ◌≤◌, ◌<◌, length}
+use Rattle.std.specs.Prelude.{false, not, List, ◌≡◌, ℕ, ◌+◌, ◌≤◌, ◌<◌, length}
 use Rattle.lists.specs.Lists.{null}
 use Rattle.rows.specs.declared.Row.{Row}
 use Rattle.rows.specs.Rows.{has}
@@ -14,8 +14,10 @@ use Rattle.law_classes.specs.Sets.{type_at}
 use Rattle.catalogue.specs.declared.Catalogue.{Catalogue}
 use Rattle.synth_classes.specs.Made.{names_in}
 use Rattle.synth_classes.specs.Known.{Known}
+use Rattle.emitting.specs.declared.Writer.{Writer}
+use Rattle.emitting.specs.Writing.{state, SameSlice}
 use Rattle.interpretation.specs.Emit.{emit}
-use Rattle.duplicates.specs.declared.Makings.{Makings}
+use Rattle.duplicates.specs.Held.{Makings}
 use Rattle.associates.specs.Step.{Reached, items_held}
 
 -- how many words it has
@@ -26,23 +28,19 @@ size e = many (has e.words) 200
 unfoldable pub interpret_entry : LineMap → ℕ → Entry → List Row → List Item → Interpreted
 interpret_entry m T e doms is = interpret_words m (type_at m T) (names_in m e.parents) (resources_at (table_of doms) e.words) false is
 
--- before its first word
-abbrev pub begun : ℕ → Makings → Reached
-begun rows made = record { failed = false; ended = false; rows = rows; made = made }
-
--- what it needs: room for as many makings as it has words, and for the rows
-pub record EntryReady (T : ℕ) (e : Entry) (limit : ℕ) (made : Makings) (b : List ℕ) : Type 0 where
+-- what it needs: room for as many makings as it has words
+pub record EntryReady (T : ℕ) (e : Entry) (made : Makings) : Type 0 where
   pub place : T < 64
   pub room : made.count + size e ≤ 380
-  pub slice : 6 * limit ≤ length b
 
 -- r is s behind it: `failed` where it added a row
-pub record EntryDoneIn (m : LineMap) (T : ℕ) (e : Entry) (doms : List Row) (limit : ℕ) (s : Reached) (b : List ℕ) (r : Reached) (b' : List ℕ) : Type 0 where
-  pub rows : (b', r.rows) ≡ emit limit (b, s.rows) (interpret_entry m T e doms (items_held m T s.made)).rows
+pub record EntryDoneIn (m : LineMap) (T : ℕ) (e : Entry) (doms : List Row) (s : Reached) (w : Writer) (r : Reached) (w' : Writer) : Type 0 where
+  pub rows : state w' ≡ emit w.limit (state w) (interpret_entry m T e doms (items_held m T s.made)).rows
   pub items : items_held m T r.made ≡ (interpret_entry m T e doms (items_held m T s.made)).items
   pub failed : r.failed ≡ not (null (interpret_entry m T e doms (items_held m T s.made)).rows)
 
 -- the same for every sheet whose catalogue it is
-pub record EntryDone (t : Catalogue) (T : ℕ) (e : Entry) (doms : List Row) (limit : ℕ) (s : Reached) (b : List ℕ) (r : Reached) (b' : List ℕ) : Type 0 where
+pub record EntryDone (t : Catalogue) (T : ℕ) (e : Entry) (doms : List Row) (s : Reached) (w : Writer) (r : Reached) (w' : Writer) : Type 0 where
+  pub same : SameSlice w w'
   pub count : r.made.count ≤ s.made.count + size e
-  pub right : (x : Sheet) → Known x t → T < length (line_map x).types → EntryDoneIn (line_map x) T e doms limit s b r b'
+  pub right : (x : Sheet) → Known x t → T < length (line_map x).types → EntryDoneIn (line_map x) T e doms s w r w'

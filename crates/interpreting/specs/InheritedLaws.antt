@@ -9,11 +9,11 @@ use Rattle.definitions.specs.Records.{Name}
 use Rattle.definitions.specs.Checks.{resources_of}
 use Rattle.definitions.specs.Inherited.{InheritedAnnotation}
 use Rattle.dedup.specs.declared.Entry.{Entry}
-use Rattle.dedup.specs.declared.Inherited.{Inherited}
+use Rattle.dedup.specs.declared.inherited.Inherited.{Inherited}
 use Rattle.dedup.specs.Lists.{many, many-or, many-most}
 use Rattle.dedup.specs.Entries.{entries_of, Sound, covers, Apart, cons}
 use Rattle.dedup.specs.EntryLaws.{zeros}
-use Rattle.dedup.specs.Reading.{resources_at, names_at, read, read_all, table_of, inherited_of, Good}
+use Rattle.dedup.specs.Reading.{resources_at, names_at, read, read_all, table_of, inherited_of}
 use Rattle.dedup.specs.ReadingLaws.{read_is}
 use Rattle.interpreting.specs.Entry.{size}
 
@@ -80,9 +80,9 @@ pub read_step : (names : List Name) (D : ℕ → Row) (l : List Entry) (i : ℕ)
     read_all names D (take i l) ++ (read names D (get_or l i zeros) ∷ []) ≡ read_all names D (take (i + 1) l)
 read_step names D l i h = sym (map-append (read names D) (take i l) (get_or l i zeros ∷ [])) ∙ rw (add-one i, Seq.take-suc l i zeros h)
 
-pub apart-items : (h : Inherited) → Good h → Apart (take h.list.count h.list.items)
+pub apart-items : (h : Inherited) → Apart (take h.list.count h.list.items)
 unfolding entries_of
-apart-items h g = g.kept.apart
+apart-items h = h.good.kept.apart
 
 pub inherited-all : (names : List Name) (h : Inherited) (i : ℕ) → i ≡ h.list.count → read_all names (table_of h.doms) (take i h.list.items) ≡ inherited_of names h
 unfolding inherited_of entries_of

@@ -16,7 +16,9 @@ use Rattle.law_classes.specs.Refusal.{lost_class, own_twice}
 use Rattle.sheet_notes.specs.Notes.{notes}
 use Rattle.sheet_draft.specs.Draft.{key_at, place_at, type_in, types_in}
 use Rattle.sheet_draft.specs.Drafted.{Drafted, Entered}
+use Rattle.sheet_draft.specs.declared.Decoding.{Decoding}
 use Rattle.sheet_draft.specs.declared.Draft.{Draft}
+use Rattle.sheet_draft.specs.declared.entry.Entry.{Entry}
 use Rattle.item_spread.specs.Spread.{Ordered}
 use Rattle.catalogue.specs.Layout as layout
 use Rattle.catalogue.specs.Layout.{parents_at, word_at, mask_at, owner_at, first_at, second_at, extension_key_at}
@@ -26,17 +28,17 @@ use Rattle.item_names.specs.Names.{second_of, key_of, mask_of, owner_of}
 use Rattle.item_names.specs.Holding.{Holds}
 use Rattle.item_entries.specs.Entries.{firsts_of, seconds_of}
 use Rattle.item_notes.specs.Notes.{DoneAt}
-use Rattle.item_draft.specs.declared.Known.{Known}
+use Rattle.item_draft.specs.declared.Placing.{Placing}
 
 -- Types in name order (FORMAT 1.4).
 abbrev pub by_name : TypeInfo → TypeInfo → Bool
 by_name T U = name_before T.name U.name
 
 -- The draft of a sheet, with its rows in name order, as the decoder leaves it (FORMAT 1.4, 2.6).
-pub record Drawn (s : Sheet) (bs : List Bool) (d : Draft) (entries : List ℕ) (n : ℕ) : Type 0 where
+pub record Drawn (s : Sheet) (bs : List Bool) (d : Draft) (entries : List Entry) (n : ℕ) : Type 0 where
   pub drafted : Drafted s bs d n
   pub entered : Entered d entries n
-  pub sorted : map (λ e. type_in (length s.words) bs d (e % 64)) (take n entries) ≡ sort by_name (types_in (length s.words) bs d n)
+  pub sorted : map (λ e. type_in (length s.words) bs d e.row) (take n entries) ≡ sort by_name (types_in (length s.words) bs d n)
   pub read : (i : ℕ) → i < n → DoneAt (notes (length s.words) (eqb (key_at d i % 256) 0)) bs (place_at d i)
   pub within : Within s
   pub readable : Readable s
@@ -62,23 +64,23 @@ record_in t e = record { name = name_of_key (extension_key_at t e / 256); word =
 
 -- What stands in the catalogue and beside it when it is filled: names, parents, extension records, and an order in which parents
 -- stand before their children (FORMAT 3.2).
-pub record Stands (s : Sheet) (bs : List Bool) (d : Draft) (entries order : List ℕ) (t : Catalogue) (k : Known) : Type 0 where
+pub record Stands (s : Sheet) (bs : List Bool) (d : Draft) (entries : List Entry) (order : List ℕ) (t : Catalogue) (k : Decoding) (o : Placing) : Type 0 where
   pub drawn : Drawn s bs d entries k.count
   pub wide : k.width ≡ length s.words
   pub word : k.resource ≡ (type_map_of s).resource
-  pub names : NamesStand (firsts_of entries) (seconds_of entries) k.count (length s.words) t k.words
-  pub parents : ParentsStand (type_map_of s) t k.childed
+  pub names : NamesStand (firsts_of entries) (seconds_of entries) k.count (length s.words) t o.words
+  pub parents : ParentsStand (type_map_of s) t o.childed
   pub ordered : Ordered order k.count t.parents
   pub placed : (a : ℕ) → a < k.count → elem a (take k.count order) ≡ true
   pub extensions : tabulate (record_in t) k.extensions ≡ s.extensions
 
 -- There is such a sheet.
-pub record Fillable (bs : List Bool) (d : Draft) (entries order : List ℕ) (t : Catalogue) (k : Known) : Type 0 where
+pub record Fillable (bs : List Bool) (d : Draft) (entries : List Entry) (order : List ℕ) (t : Catalogue) (k : Decoding) (o : Placing) : Type 0 where
   pub sheet : Sheet
-  pub stands : Stands sheet bs d entries order t k
+  pub stands : Stands sheet bs d entries order t k o
 
 -- It is the catalogue of its map, whichever sheet it is. The answer says whether a class of a type is lost or an own class
 -- stands twice, which is a part of refusal 9 (FORMAT 4.9).
-pub record Fills (bs : List Bool) (d : Draft) (entries order : List ℕ) (old : Catalogue) (k : Known) (t : Catalogue) (r : Bool) : Type 0 where
-  pub catalogued : (s : Sheet) → Stands s bs d entries order old k → Catalogued s t
-  pub lost : (s : Sheet) → Stands s bs d entries order old k → r ≡ (any (lost_class (line_map s)) (line_map s).types || any own_twice (line_map s).types)
+pub record Fills (bs : List Bool) (d : Draft) (entries : List Entry) (order : List ℕ) (old : Catalogue) (k : Decoding) (o : Placing) (t : Catalogue) (r : Bool) : Type 0 where
+  pub catalogued : (s : Sheet) → Stands s bs d entries order old k o → Catalogued s t
+  pub lost : (s : Sheet) → Stands s bs d entries order old k o → r ≡ (any (lost_class (line_map s)) (line_map s).types || any own_twice (line_map s).types)

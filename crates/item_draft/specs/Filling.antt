@@ -26,10 +26,12 @@ use Rattle.law_classes.specs.Refusal.{has_child, lost_class, own_twice}
 use Rattle.item_spread.specs.Spread.{Starts, Right}
 use Rattle.sheet_draft.specs.Draft as draft
 use Rattle.sheet_draft.specs.Draft.{variant_of, type_in}
+use Rattle.sheet_draft.specs.declared.Decoding.{Decoding}
 use Rattle.sheet_draft.specs.declared.Draft.{Draft}
+use Rattle.sheet_draft.specs.declared.entry.Entry.{Entry}
 use Rattle.catalogue.specs.Layout.{head_at, marks_at, tally_at, parents_at, own_at, above_at, passed_at, first_at, second_at}
 use Rattle.catalogue.specs.Layout.{extension_key_at, looked}
-use Rattle.catalogue.specs.Catalogue.{is_resource_head, virtual_head, trait_head, Entry, Listed, Extended, SetsOf, Owned, Catalogued}
+use Rattle.catalogue.specs.Catalogue.{is_resource_head, virtual_head, trait_head, Entry as TypeEntry, Listed, Extended, SetsOf, Owned, Catalogued}
 use Rattle.catalogue.specs.declared.Catalogue.{Catalogue}
 use Rattle.item_names.specs.Names.{second_of}
 use Rattle.item_names.specs.Holding.{Holds, holds-set, holds_fits}
@@ -37,7 +39,7 @@ use Rattle.item_names.specs.Named.{Named, NamesIn, key-name, key-small, first-is
 use Rattle.item_classes.specs.Classes.{class_in, meets, lost, Gathers}
 use Rattle.item_classes.specs.Classed.{own_is, given_is, refused-is}
 use Rattle.item_classes.specs.declared.Classes.{Classes}
-use Rattle.item_entries.specs.Entries.{row_in, firsts_of, seconds_of}
+use Rattle.item_entries.specs.Entries.{row_in, firsts_of, seconds_of, RowsThere}
 use Rattle.item_sets.specs.Sets.{SpreadPut, RecordKeysFit, ExtendedIs}
 use Rattle.item_draft.specs.Parts.{HeadOf, HeadsPut, NotesReady, own_sets, given_sets, lost_at, NotesPut}
 use Rattle.item_draft.specs.PartLaws.{class-same}
@@ -45,26 +47,26 @@ use Rattle.item_draft.specs.Fill.{record_in, Stands, Fillable, Fills}
 use Rattle.item_draft.specs.Rows as rows
 use Rattle.item_draft.specs.Records as extensions
 use Rattle.item_draft.specs.Standing.{records-stand}
-use Rattle.item_draft.specs.declared.Known.{Known}
+use Rattle.item_draft.specs.declared.Placing.{Placing}
 
 -- The catalogue with its single numbers, out of those that are known, and what was found since.
-abbrev pub numbered : Known → ℕ → ℕ → Catalogue → Catalogue
-numbered k resources extended t = record t {
+abbrev pub numbered : Decoding → Placing → ℕ → ℕ → Catalogue → Catalogue
+numbered k o resources extended t = record t {
   count = k.count;
-  word_count = k.words;
+  word_count = o.words;
   extension_count = k.extensions;
   extended = extended;
   resource = k.resource;
   resources = resources;
-  childed = k.childed;
+  childed = o.childed;
   width = k.width;
 }
 
 -- The catalogue from part to part.
-pub record Steps (bs : List Bool) (d : Draft) (entries order : List ℕ) (k : Known) (t0 t1 t2 t3 t4 : Catalogue) (given : List ℕ) (resources extended : ℕ) (lost : Bool) : Type 0 where
+pub record Steps (bs : List Bool) (d : Draft) (entries : List Entry) (order : List ℕ) (k : Decoding) (o : Placing) (t0 t1 t2 t3 t4 : Catalogue) (given : List ℕ) (resources extended : ℕ) (lost : Bool) : Type 0 where
   pub heads : HeadsPut d entries k.count t0 t1 resources
   pub extends : ExtendedIs t1 k.extensions extended
-  pub numbers : t2 ≡ numbered k resources extended t1
+  pub numbers : t2 ≡ numbered k o resources extended t1
   pub notes : NotesPut bs d entries k.count t2 t3 given lost
   pub spread : SpreadPut order k.count given t3 t4
 
@@ -86,8 +88,8 @@ any-or f g (x ∷ l) = ap (λ (b : Bool). (f x || g x) || b) (any-or f g l) ∙ 
     crossed false true false d = refl
     crossed false false c d = refl
 
-module _ (bs : List Bool) (d : Draft) (entries order : List ℕ) (k : Known) (t0 t1 t2 t3 t4 : Catalogue) (gives : List ℕ) (resources extends : ℕ) (bad : Bool)
-    (st : Steps bs d entries order k t0 t1 t2 t3 t4 gives resources extends bad) where
+module _ (bs : List Bool) (d : Draft) (entries : List Entry) (order : List ℕ) (k : Decoding) (o : Placing) (t0 t1 t2 t3 t4 : Catalogue) (gives : List ℕ) (resources extends : ℕ) (bad : Bool)
+    (st : Steps bs d entries order k o t0 t1 t2 t3 t4 gives resources extends bad) where
   -- ---- each part stays from where it was put
 
   -- a catalogue with the notes of the third, and with the sets of the last
@@ -98,13 +100,13 @@ module _ (bs : List Bool) (d : Draft) (entries order : List ℕ) (k : Known) (t0
   ordered x = record x { above = t4.above; passed = t4.passed }
 
   -- names, parents and extension records are those of the first
-  is_whole : t4 ≡ ordered (noted (numbered k resources extends (record t0 { heads = t1.heads })))
-  is_whole = st.spread.kept ∙ ap ordered (st.notes.kept ∙ ap noted (st.numbers ∙ ap (numbered k resources extends) st.heads.kept))
+  is_whole : t4 ≡ ordered (noted (numbered k o resources extends (record t0 { heads = t1.heads })))
+  is_whole = st.spread.kept ∙ ap ordered (st.notes.kept ∙ ap noted (st.numbers ∙ ap (numbered k o resources extends) st.heads.kept))
 
   parents-stay : t3.parents ≡ t0.parents
   parents-stay = sym (ap (λ (x : Catalogue). x.parents) st.spread.kept) ∙ ap (λ (x : Catalogue). x.parents) is_whole
 
-  module _ (s : Sheet) (hs : Stands s bs d entries order t0 k) where
+  module _ (s : Sheet) (hs : Stands s bs d entries order t0 k o) where
     abbrev m : LineMap
     m = line_map s
 
@@ -197,7 +199,7 @@ module _ (bs : List Bool) (d : Draft) (entries order : List ℕ) (k : Known) (t0
         (λ l. rw l (variant_is (draft.head_at d (row_in entries a) / 64) ∙ sym (ap (λ (T : LineType). is_resource_variant T.variant) (type-is a (ltb-true a n l)))))
         (λ l. rw l)
 
-    entry : (a : ℕ) → a < n → Entry s t4 a
+    entry : (a : ℕ) → a < n → TypeEntry s t4 a
     unfolding line_type_of type_in is_resource_head virtual_head trait_head
     entry a h =
         let T = type-is a h in
@@ -267,7 +269,7 @@ module _ (bs : List Bool) (d : Draft) (entries order : List ℕ) (k : Known) (t0
     types-tab : tab (type_at m) n ≡ m.types
     types-tab = tab-get_d m.types no_type
 
-    childed-is : SetIs m k.childed (λ (P : LineType). some m (λ (T : LineType). T.inherits P.name))
+    childed-is : SetIs m o.childed (λ (P : LineType). some m (λ (T : LineType). T.inherits P.name))
     unfolding line_map_of line_type_of
     childed-is b h =
         let q = rows.line-listed s bs d entries k.count hs.drawn b (omega (arith, count-is)) in
@@ -391,12 +393,12 @@ module _ (bs : List Bool) (d : Draft) (entries order : List ℕ) (k : Known) (t0
             (any (lost i) (own_sets t2 bs d entries t2.width a) || repeats meets (own_sets t2 bs d entries t2.width a))
             || (has_bit j a && any (lost i) (given_sets t2 bs d entries t2.width a))
 
-  pub filled : Fills bs d entries order t0 k t4 bad
+  pub filled : Fills bs d entries order t0 k o t4 bad
   filled = record { catalogued = catalogued-is; lost = lost-is }
 
 -- ---- what each part asks follows from what the whole asks
 
-module _ (bs : List Bool) (d : Draft) (entries order : List ℕ) (t0 : Catalogue) (k : Known) (f : Fillable bs d entries order t0 k) where
+module _ (bs : List Bool) (d : Draft) (entries : List Entry) (order : List ℕ) (t0 : Catalogue) (k : Decoding) (o : Placing) (f : Fillable bs d entries order t0 k o) where
   pub keys-fit : (t1 : Catalogue) → t1.extension_keys ≡ t0.extension_keys → RecordKeysFit t1 k.extensions
   keys-fit t1 e =
       let q = f.stands in
@@ -405,11 +407,15 @@ module _ (bs : List Bool) (d : Draft) (entries order : List ℕ) (t0 : Catalogue
         small = λ i l. rw e (extensions.record-key f.sheet t0 k.extensions q.drawn.within q.extensions i l);
       }
 
+  pub rows-there : RowsThere entries k.count
+  rows-there = rows.rows-there f.sheet bs d entries k.count f.stands.drawn
+
   pub notes-ready : (t2 : Catalogue) → t2.width ≡ k.width → NotesReady bs d entries t2 k.count
   notes-ready t2 e =
       let q = f.stands in
       record {
         few = q.drawn.drafted.few;
+        there = rows-there;
         read = λ a h.
             let r = row_in entries a in
             subst (λ i. Rattle.item_notes.specs.Notes.DoneAt (Rattle.sheet_notes.specs.Notes.notes i (eqb (draft.key_at d r % 256) 0)) bs (draft.place_at d r)) (sym (e ∙ q.wide))

@@ -13,11 +13,12 @@ use Rattle.definitions.specs.Reading.{word_field, word_if_flag, associated, asso
 use Rattle.definitions.specs.Comparisons.{name_before, bytes_before}
 use Rattle.definitions.specs.Checks.{resource_bytes, self_bytes, bad_words, names_twice, keys_twice, words_twice, annotations_twice, same_annotation, something_twice}
 use Rattle.line_laws.specs.Within.{WordsWithin, ResourceWithin, AnnotationWithin, TypeWithin, Within}
-use Rattle.sheet_keys.specs.Keys.{name_of_key, names_from}
+use Rattle.sheet_keys.specs.Keys.{name_of_key}
 use Rattle.sheet_notes.specs.Notes.{notes}
-use Rattle.sheet_draft.specs.Draft.{place_at, key_at, notes_at, type_in, types_in}
-use Rattle.sheet_draft.specs.Drafted.{entry_before, entries_of}
+use Rattle.sheet_draft.specs.Draft.{no_row, place_at, key_at, notes_at, type_in, types_in}
+use Rattle.sheet_draft.specs.Drafted.{no_entry, entry_before, entries_of}
 use Rattle.sheet_draft.specs.declared.Draft.{Draft}
+use Rattle.sheet_draft.specs.declared.entry.Entry.{Entry}
 use Rattle.item_notes.specs.Notes.{DoneAt}
 use Rattle.item_draft.specs.Fill.{by_name, Drawn}
 
@@ -54,11 +55,11 @@ small_bits = bits_of small_bytes
 
 -- row 0 has the name of two words, row 1 that of one
 abbrev pub small_draft : Draft
-small_draft = record { keys = 2 ∷ 0 ∷ replicate 62 0; heads = 1 ∷ 96 ∷ replicate 62 0; places = 0 ∷ 23 ∷ replicate 62 0; parents = replicate 512 0 }
+small_draft = record { rows = record no_row { key = 2; head = 1 } ∷ record no_row { head = 96; place = 23 } ∷ replicate 62 no_row }
 
 -- by name, row 1 comes first
-abbrev pub small_entries : List ℕ
-small_entries = 1 ∷ 128 ∷ replicate 62 0
+abbrev pub small_entries : List Entry
+small_entries = record { key = 0; row = 1 } ∷ record { key = 2; row = 0 } ∷ replicate 62 no_entry
 
 -- ---- that it holds
 
@@ -120,7 +121,7 @@ unfolding something_twice names_twice keys_twice words_twice annotations_twice s
 once-good = refl
 
 types-drafted : types_in 2 small_bits small_draft 2 ≡ small.types
-unfolding types_in type_in tabulate notes_at notes name_of_key names_from bits_of to_bits odd counted allowed repeat_onto field_onto annotation kinds associated_list associated word_field word_if_flag mark
+unfolding types_in type_in tabulate notes_at notes name_of_key bits_of to_bits odd counted allowed repeat_onto field_onto annotation kinds associated_list associated word_field word_if_flag mark
 types-drafted = refl
 
 entries_sorted : take 2 small_entries ≡ sort entry_before (entries_of small_draft 2)
@@ -140,8 +141,8 @@ notes-read zero h = pair_read
 notes-read (suc zero) h = single-read
 notes-read (suc (suc i)) h = absurd (omega arith)
 
-rows-sorted : map (λ e. type_in 2 small_bits small_draft (e % 64)) (take 2 small_entries) ≡ sort by_name (types_in 2 small_bits small_draft 2)
-unfolding types_in type_in tabulate sort insert name_before notes_at notes name_of_key names_from bits_of to_bits odd counted allowed repeat_onto field_onto annotation kinds associated_list associated word_field word_if_flag mark
+rows-sorted : map (λ e. type_in 2 small_bits small_draft e.row) (take 2 small_entries) ≡ sort by_name (types_in 2 small_bits small_draft 2)
+unfolding types_in type_in tabulate sort insert name_before notes_at notes name_of_key bits_of to_bits odd counted allowed repeat_onto field_onto annotation kinds associated_list associated word_field word_if_flag mark
 rows-sorted = refl
 
 pub small-drawn : Drawn small small_bits small_draft small_entries 2

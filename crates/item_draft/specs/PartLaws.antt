@@ -17,6 +17,7 @@ use Rattle.sheet_notes.specs.Notes.{Notes, notes}
 use Rattle.sheet_draft.specs.Draft as draft
 use Rattle.sheet_draft.specs.Draft.{place_at, notes_of, notes_at}
 use Rattle.sheet_draft.specs.declared.Draft.{Draft}
+use Rattle.sheet_draft.specs.declared.entry.Entry.{Entry}
 use Rattle.catalogue.specs.Layout.{looked}
 use Rattle.catalogue.specs.declared.Catalogue.{Catalogue}
 use Rattle.item_names.specs.Names.{key_of}
@@ -48,7 +49,7 @@ head_past h l =
       trait = omega (arith, e, f);
     }
 
-module _ (d : Draft) (entries : List ℕ) where
+module _ (d : Draft) (entries : List Entry) where
   pub heads-none : (t : Catalogue) → HeadsPut d entries 0 t t 0
   heads-none t = record { at = λ a h. absurd (omega arith); resources = λ b. bit-none b ∙ sym (rw (le-ltb b 0 (omega arith))); kept = refl }
 
@@ -86,7 +87,7 @@ classes-kept old new k us =
     map_same (class_in new) (class_in old) us
     (λ u i. class-same old new (ap (λ (x : Catalogue). x.firsts) k) (ap (λ (x : Catalogue). x.seconds) k) u)
 
-module _ (bs : List Bool) (d : Draft) (entries : List ℕ) (old : Catalogue) where
+module _ (bs : List Bool) (d : Draft) (entries : List Entry) (old : Catalogue) where
   -- what the parser gives there
   notes-are : (a W : ℕ) (r : DoneAt (notes W (eqb (draft.key_at d (row_in entries a) % 256) 0)) bs (place_at d (row_in entries a))) → r.value ≡ notes_at W bs d (row_in entries a)
   unfolding notes_at

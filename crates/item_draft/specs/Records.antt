@@ -94,13 +94,13 @@ module _ (s : Sheet) (t : Catalogue) (n : ℕ) (w : Within s) (held : tabulate (
 
   pub record-count : (e : ℕ) → e < n → extension_count_at t e ≤ 8
   unfolding record_in parents_in
-  record-count e h = omega (arith, (record-within e h).parents, length-tabulate (λ j. name_of_key (extension_parent_at t (8 * e + j))) (extension_count_at t e))
+  record-count e h = omega (arith, (record-within e h).parents, length-tabulate (λ j. name_of_key (extension_parent_at t e j)) (extension_count_at t e))
 
-  pub record-parent : (e j : ℕ) → e < n → j < extension_count_at t e → extension_parent_at t (8 * e + j) < 65536
+  pub record-parent : (e j : ℕ) → e < n → j < extension_count_at t e → extension_parent_at t e j < 65536
   unfolding record_in parents_in
   record-parent e j h k =
-      let p = extension_parent_at t (8 * e + j) in
-      omega (arith, first_below (length s.words) p ((record-within e h).parent (name_of_key p) (tabulate-in (λ i. name_of_key (extension_parent_at t (8 * e + i))) (extension_count_at t e) j k)), w.words)
+      let p = extension_parent_at t e j in
+      omega (arith, first_below (length s.words) p ((record-within e h).parent (name_of_key p) (tabulate-in (λ i. name_of_key (extension_parent_at t e i)) (extension_count_at t e) j k)), w.words)
 
   pub record-keys-fit : RecordKeysFit t n
   record-keys-fit = record { few = few-records; small = record-key }

@@ -1,5 +1,5 @@
 -- What the draft with its entries says of the map: the type at each place in name order, its name, its words.
-use Rattle.std.specs.Prelude.{Bool, cond, List, [], ◌∷◌, map, ◌⊎◌, ◌≡◌, refl, ℕ, zero, suc, ◌+◌, ◌-◌, ◌*◌, ◌/◌, ◌%◌, ◌≤◌, ◌<◌, eqb, length, get_or, take}
+use Rattle.std.specs.Prelude.{Bool, cond, List, [], ◌∷◌, map, ◌⊎◌, ◌≡◌, refl, ℕ, zero, suc, ◌+◌, ◌-◌, ◌/◌, ◌%◌, ◌≤◌, ◌<◌, eqb, length, get_or, take}
 use mathlib.Core.List.Memᴰ
 use Rattle.std.proofs.Common.{inl, inr, ⊎_elim, ◌∙◌, arith, eqb-true, length-take, get_or-take}
 use Rattle.std.proofs.Math.Path.{sym, ap, subst}
@@ -9,8 +9,6 @@ use Rattle.lists.specs.Lists.{In, sort}
 use Rattle.lists.specs.Tests.{by}
 use Rattle.lists.specs.Strict.{which}
 use Rattle.lists.specs.Places.{get_d-in, sorted-places}
-use Rattle.lists.specs.Sorting.{sort-is}
-use Rattle.lists.specs.Tabulating.{tabulate-of}
 use Rattle.definitions.specs.Records.{Resource, Sheet, TypeInfo}
 use Rattle.definitions.specs.Map.{LineType, LineMap, TypeMap, type_map_of, line_type_of, line_map_of}
 use Rattle.definitions.specs.Items.{owned, given}
@@ -23,11 +21,13 @@ use Rattle.ordering.specs.Reading as reading
 use Rattle.law_classes.specs.Sets.{type_at, no_type}
 use Rattle.sheet_keys.specs.Keys as keys
 use Rattle.sheet_draft.specs.Draft.{key_at, type_in}
-use Rattle.sheet_draft.specs.Drafted.{entry_at, entry_before, entries_of}
+use Rattle.sheet_draft.specs.Drafted.{no_entry}
+use Rattle.sheet_draft.specs.EnteredLaws.{row-below, key-of-row}
 use Rattle.sheet_draft.specs.declared.Draft.{Draft}
+use Rattle.sheet_draft.specs.declared.entry.Entry.{Entry}
 use Rattle.catalogue.specs.Catalogue.{name_of_key}
 use Rattle.item_names.specs.Named.{WordOrNone, Named, name-of-key}
-use Rattle.item_entries.specs.Entries.{key_in, row_in, firsts_of, seconds_of, KeysFit}
+use Rattle.item_entries.specs.Entries.{key_in, row_in, firsts_of, seconds_of, RowsThere, KeysFit}
 use Rattle.item_entries.specs.EntryLaws.{first-at, second_at_lem, key-at}
 use Rattle.item_draft.specs.Fill.{by_name, Drawn}
 
@@ -54,7 +54,7 @@ second_below W k w =
     (λ e. inl (eqb-true (k % 256) 0 e))
     (λ e. inr (w.below (k % 256 - 1) (Memᴰ.tail (subst (λ (c : Bool). In (k % 256 - 1) (cond c [] ((k % 256 - 1) ∷ []))) (sym e) (Memᴰ.head refl)))))
 
-module _ (s : Sheet) (bs : List Bool) (d : Draft) (entries : List ℕ) (n : ℕ) (w : Drawn s bs d entries n) where
+module _ (s : Sheet) (bs : List Bool) (d : Draft) (entries : List Entry) (n : ℕ) (w : Drawn s bs d entries n) where
   abbrev W : ℕ
   W = length s.words
 
@@ -65,8 +65,8 @@ module _ (s : Sheet) (bs : List Bool) (d : Draft) (entries : List ℕ) (n : ℕ)
   m = line_map s
 
   -- the type in the row of an entry
-  abbrev row_type : ℕ → TypeInfo
-  row_type e = type_in W bs d (e % 64)
+  abbrev row_type : Entry → TypeInfo
+  row_type e = type_in W bs d e.row
 
   few : n ≤ 64
   few = w.drafted.few
@@ -89,8 +89,8 @@ module _ (s : Sheet) (bs : List Bool) (d : Draft) (entries : List ℕ) (n : ℕ)
   pub type-at : (a : ℕ) → a < n → reading.type_at mm a ≡ type_in W bs d (row_in entries a)
   type-at a h =
       ap (λ (l : List TypeInfo). get_or l a reading.no_type) types_are
-      ∙ map_at row_type (take n entries) a 0 reading.no_type (omega (arith, length-entries))
-      ∙ ap row_type (get_or-take n entries a 0 h)
+      ∙ map_at row_type (take n entries) a no_entry reading.no_type (omega (arith, length-entries))
+      ∙ ap row_type (get_or-take n entries a no_entry h)
 
   pub line-listed : (a : ℕ) → a < n → type_at m a ≡ line_type_of (reading.type_at mm a)
   unfolding line_map_of
@@ -104,22 +104,14 @@ module _ (s : Sheet) (bs : List Bool) (d : Draft) (entries : List ℕ) (n : ℕ)
   type-listed a h = (types-is s (reading.type_at mm a)).0 (get_d-in mm.types reading.no_type a (omega (arith, count-types)))
 
   -- the row of an entry, and its key
-  row_of : (a : ℕ) → a < n → (i : ℕ) × (i < n) × (get_or entries a 0 ≡ key_at d i * 64 + i)
-  unfolding entries_of
-  row_of a h =
-      let x : In (get_or (take n entries) a 0) (take n entries) = get_d-in (take n entries) 0 a (omega (arith, length-entries)) in
-      let y : In (get_or entries a 0) (sort entry_before (entries_of d n)) = subst (λ l. In (get_or entries a 0) l) w.entered.sorted (subst (λ e. In e (take n entries)) (get_or-take n entries a 0 h) x) in
-      tabulate-of (entry_at d) n ((sort-is entry_before (entries_of d n) (get_or entries a 0)).0 y)
-
   pub row_below : (a : ℕ) → a < n → row_in entries a < n
-  row_below a h = let r = row_of a h in let e : row_in entries a ≡ r.0 = omega (arith, r.2, r.1, few) in omega (arith, r.1)
+  row_below = row-below d entries n few w.entered
+
+  pub rows-there : RowsThere entries n
+  rows-there a h = omega (arith, row_below a h, few)
 
   pub key-is : (a : ℕ) → a < n → key_in entries a ≡ key_at d (row_in entries a)
-  key-is a h =
-      let r = row_of a h in
-      let e : row_in entries a ≡ r.0 = omega (arith, r.2, r.1, few) in
-      let f : key_in entries a ≡ key_at d r.0 = omega (arith, r.2, r.1, few) in
-      f ∙ ap (key_at d) (sym e)
+  key-is = key-of-row d entries n few w.entered
 
   pub name-at : (a : ℕ) → a < n → (type_at m a).name ≡ name_of_key (key_in entries a)
   unfolding line_type_of type_in

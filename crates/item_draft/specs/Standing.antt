@@ -1,5 +1,5 @@
 -- What was put into the catalogue before the filling stands there when it is filled; and keys are looked up right.
-use Rattle.std.specs.Prelude.{Bool, ◌&&◌, List, ◌≡◌, ℕ, ◌*◌, ◌/◌, ◌%◌, ◌^◌, ◌<◌, ltb, length, get_or}
+use Rattle.std.specs.Prelude.{Bool, ◌&&◌, List, [], ◌≡◌, ℕ, ◌/◌, ◌%◌, ◌^◌, ◌<◌, ltb, length, get_or}
 use Rattle.std.proofs.Math.Path.{sym, ap, ap₂}
 use Rattle.std.proofs.Common.{refl, ◌∙◌, subst, arith, eq-eqb, eqb-true, le-ltb}
 use Rattle.std.specs.Int.Bits.{bit_and}
@@ -16,6 +16,7 @@ use Rattle.ordering.specs.Reading.{type_at}
 use Rattle.sheet_keys.specs.Keys as keys
 use Rattle.sheet_draft.specs.Draft.{parent_count_at, parent_at, type_in}
 use Rattle.sheet_draft.specs.declared.Draft.{Draft}
+use Rattle.sheet_draft.specs.declared.entry.Entry.{Entry}
 use Rattle.catalogue.specs.Layout.{first_at, second_at, extension_key_at, extension_count_at, looked}
 use Rattle.catalogue.specs.Catalogue.{name_of_key, parents_in}
 use Rattle.catalogue.specs.declared.Catalogue.{Catalogue}
@@ -42,9 +43,9 @@ names_stand firsts seconds n width t0 t1 t2 r p e =
 pub record-as : (t : Catalogue) (e : ℕ) → record_in t e ≡ record {
   name = keys.name_of_key (extension_key_at t e / 256);
   word = extension_key_at t e % 256;
-  parents = keys.names_from t.extension_parents (8 * e) (extension_count_at t e);
+  parents = keys.names_in (get_or t.extension_parents e []) (extension_count_at t e);
 }
-unfolding record_in parents_in keys.names_from keys.name_of_key name_of_key
+unfolding record_in parents_in keys.name_of_key name_of_key
 record-as t e = refl
 
 -- records stand in a catalogue in which nothing of theirs changed
@@ -56,7 +57,7 @@ records-stand s t u n held k c p =
 
 -- ---- keys looked up
 
-module _ (s : Sheet) (bs : List Bool) (d : Draft) (entries : List ℕ) (n width : ℕ) (w : Drawn s bs d entries n) (t : Catalogue) (r : ℕ) (ns : NamesStand (firsts_of entries) (seconds_of entries) n width t r) where
+module _ (s : Sheet) (bs : List Bool) (d : Draft) (entries : List Entry) (n width : ℕ) (w : Drawn s bs d entries n) (t : Catalogue) (r : ℕ) (ns : NamesStand (firsts_of entries) (seconds_of entries) n width t r) where
   -- the types of a key: the one that has it, or none
   looked-holds : (key : ℕ) → key < 65536 → Holds n (looked t key) (λ b. same_name (keys.name_of_key key) (type_at (type_map_of s) b).name)
   unfolding looked
@@ -91,10 +92,10 @@ module _ (s : Sheet) (bs : List Bool) (d : Draft) (entries : List ℕ) (n width 
 
 -- ---- parents in the draft
 
-module _ (s : Sheet) (bs : List Bool) (d : Draft) (entries : List ℕ) (n : ℕ) (w : Drawn s bs d entries n) where
+module _ (s : Sheet) (bs : List Bool) (d : Draft) (entries : List Entry) (n : ℕ) (w : Drawn s bs d entries n) where
   -- the parents of a type, as names
   pub parents-listed : (a : ℕ) → a < n → (type_at (type_map_of s) a).parents ≡ tabulate (λ k. keys.name_of_key (parent_at d (row_in entries a) k)) (parent_count_at d (row_in entries a))
-  unfolding type_in keys.names_from
+  unfolding type_in
   parents-listed a h = ap (λ (T : TypeInfo). T.parents) (rows.type-at s bs d entries n w a h)
 
   -- their keys have two bytes

@@ -18,6 +18,7 @@ use Rattle.ordering.specs.Reading.{type_at}
 use Rattle.item_spread.specs.Spread.{Ordered}
 use Rattle.catalogue.specs.Layout.{blank, parents_at, first_at, second_at}
 use Rattle.catalogue.specs.declared.Catalogue.{Catalogue}
+use Rattle.sheet_draft.specs.declared.entry.Entry.{Entry}
 use Rattle.item_names.specs.Names.{second_of, NoSets, KeysPut, SetsPut, OwnersPut, WordsPut, WordPut, FewWords, mask_of, NamesPut}
 use Rattle.item_names.specs.NamesLaws.{keys_none, keys-more, sets-none, sets_more, sets-kept, owners-none, owners-more, words-none, words_more, words-few, names-put}
 use Rattle.item_names.specs.Holding.{Holds}
@@ -26,7 +27,8 @@ use Rattle.item_entries.specs.Entries.{key_in, firsts_of, seconds_of, KeysFit}
 use Rattle.item_entries.specs.EntryLaws.{first-at, key-at}
 use Rattle.item_draft.specs.Fill.{NamesStand, ParentsStand, Stands, Fillable}
 use Rattle.item_draft.specs.Instance.{small, small_bits, small_draft, small_entries, small-drawn}
-use Rattle.item_draft.specs.declared.Known.{Known}
+use Rattle.sheet_draft.specs.declared.Decoding.{Decoding}
+use Rattle.item_draft.specs.declared.Placing.{Placing}
 
 -- a catalogue that differs from the blank one in its keys alone has columns as long
 module _ (t : Catalogue) (k : t ≡ record blank { keys = t.keys }) where
@@ -52,7 +54,7 @@ module _ (t : Catalogue) (k : t ≡ record blank { keys = t.keys }) where
 
 -- ---- names that were put, out of any two entries
 
-module _ (entries : List ℕ) (fit : KeysFit entries 2) where
+module _ (entries : List Entry) (fit : KeysFit entries 2) where
   abbrev F : List ℕ
   F = firsts_of entries
 
@@ -125,8 +127,11 @@ small_table = record blank {
   seconds = 1 ∷ 0 ∷ 2 ∷ replicate 253 0;
 }
 
-pub small_known : Known
-small_known = record { count = 2; words = 2; extensions = 0; resource = 0; childed = 1; width = 2 }
+pub small_known : Decoding
+small_known = record { width = 2; count = 2; extensions = 0; resource = 0; own = 1 }
+
+pub small_placing : Placing
+small_placing = record { words = 2; childed = 1 }
 
 abbrev pub small_order : List ℕ
 small_order = 0 ∷ 1 ∷ replicate 62 0
@@ -231,8 +236,8 @@ resource-number : 0 ≡ (type_map_of small).resource
 unfolding type_map_of number_of
 resource-number = refl
 
-pub small-stands : Stands small small_bits small_draft small_entries small_order small_table small_known
-unfolding small_known tabulate
+pub small-stands : Stands small small_bits small_draft small_entries small_order small_table small_known small_placing
+unfolding small_known small_placing tabulate
 small-stands = record {
   drawn = small-drawn;
   wide = refl;
@@ -244,5 +249,5 @@ small-stands = record {
   extensions = refl;
 }
 
-pub small-fillable : Fillable small_bits small_draft small_entries small_order small_table small_known
+pub small-fillable : Fillable small_bits small_draft small_entries small_order small_table small_known small_placing
 small-fillable = record { sheet = small; stands = small-stands }

@@ -5,22 +5,18 @@
 ghost use Rattle.std.specs.Prelude.{◌≤◌};
 ghost use Rattle.definitions.specs.Bits.{bits_of};
 ghost use Rattle.bits.specs.Reading.{Addressable};
+ghost use Rattle.item_entries.specs.Entries.{RowsThere};
 ghost use Rattle.item_draft.specs.Parts.{HeadOf, HeadsPut, NotesReady, NotesPut};
 ghost use Rattle.item_draft.specs.Fill.{Fillable, Fills};
 
 use catalogue::Catalogue;
-use sheet_draft::Draft;
+use sheet_draft::{Decoding, Draft, Entry};
 
-// What is known besides: how many types, last words and extension records there are, the number of the word `resource`, the
-// types that are a parent, and how many words the sheet has.
+// What is known where there is an order: how many words are the last of a name, and the types that are a parent.
 #[derive(Clone, Copy)]
-pub struct Known {
-    pub count: usize,
+pub struct Placing {
     pub words: usize,
-    pub extensions: usize,
-    pub resource: usize,
     pub childed: u64,
-    pub width: usize,
 }
 
 // A head in 8 bits. The decoder puts no other into the draft; of larger numbers the variant is that past the last.
@@ -35,14 +31,13 @@ fn head_in_bits(h: u64) -> u64
 }
 
 // The head of each type. The answer has the types of the resource variant.
-fn put_heads(t: &mut Catalogue, d: &Draft, entries: &[u64; 64], count: usize) -> u64
-    requires { count ≤ 64 }
+fn put_heads(t: &mut Catalogue, d: &Draft, entries: &[Entry; 64], count: usize) -> u64
+    requires { (count ≤ 64) × RowsThere entries.now count }
     ensures { HeadsPut d.now entries.now count t.old t.new result }
 {
     let mut resources: u64 = 0;
     for a in 0..count {
-        let row = (entries[a] % 64) as usize;
-        let head = head_in_bits(d.heads[row]);
+        let head = head_in_bits(d.rows[entries[a].row].head);
         t.heads[a] = head;
         resources = item_heads::with_resource(resources, a, (head / 64) as usize);
     }
@@ -55,7 +50,7 @@ fn put_notes(
     t: &mut Catalogue,
     s: &[u8],
     d: &Draft,
-    entries: &[u64; 64],
+    entries: &[Entry; 64],
     given: &mut [u64; 64],
     count: usize,
 ) -> bool
@@ -67,8 +62,7 @@ fn put_notes(
     let childed = t.childed;
     let mut lost = false;
     for a in 0..count {
-        let row = (entries[a] % 64) as usize;
-        let x = item_notes::gather_notes(s, t, d.places[row], resources);
+        let x = item_notes::gather_notes(s, t, d.rows[entries[a].row].place, resources);
         let classes = x.classes;
         t.own[a] = classes.own;
         t.marks[a] = x.marks.bits;
@@ -84,25 +78,26 @@ pub fn fill(
     t: &mut Catalogue,
     s: &[u8],
     d: &Draft,
-    entries: &[u64; 64],
+    entries: &[Entry; 64],
     order: &[u64; 64],
-    k: Known,
+    n: Decoding,
+    o: Placing,
 ) -> bool
     requires addressable { Addressable s.now }
-    requires fillable { Fillable (bits_of s.now) d.now entries.now order.now t.old k }
-    ensures { Fills (bits_of s.now) d.now entries.now order.now t.old k t.new result }
+    requires fillable { Fillable (bits_of s.now) d.now entries.now order.now t.old n o }
+    ensures { Fills (bits_of s.now) d.now entries.now order.now t.old n o t.new result }
 {
-    let count = k.count;
+    let count = n.count;
     let resources = put_heads(t, d, entries, count);
-    let extended = item_sets::extended_by(t, k.extensions);
+    let extended = item_sets::extended_by(t, n.extensions);
     t.count = count;
-    t.word_count = k.words;
-    t.extension_count = k.extensions;
+    t.word_count = o.words;
+    t.extension_count = n.extensions;
     t.extended = extended;
-    t.resource = k.resource as u64;
+    t.resource = n.resource as u64;
     t.resources = resources;
-    t.childed = k.childed;
-    t.width = k.width;
+    t.childed = o.childed;
+    t.width = n.width;
     let mut given = [0u64; 64];
     let lost = put_notes(t, s, d, entries, &mut given, count);
     item_sets::spread(t, &given, order, count);

@@ -1,4 +1,4 @@
-// The names of the types in the catalogue, out of the entries of a draft in name order: an entry is a key times 64, and a row.
+// The names of the types in the catalogue, out of the entries of a draft in name order.
 #![tactic(auto)]
 
 ghost use Rattle.std.specs.Prelude.{◌≤◌};
@@ -6,6 +6,8 @@ ghost use Rattle.item_names.specs.Names.{KeysPut, SetsPut, NoSets, NamesPut};
 ghost use Rattle.item_entries.specs.Entries.{firsts_of, seconds_of, KeysFit, SetsCleared};
 
 use catalogue::Catalogue;
+use fields::Name;
+use sheet_draft::Entry;
 
 // No type stands in the sets of the words.
 fn clear_sets(t: &mut Catalogue)
@@ -16,29 +18,29 @@ fn clear_sets(t: &mut Catalogue)
 }
 
 // The key of each type's name.
-fn put_keys(t: &mut Catalogue, entries: &[u64; 64], count: usize)
+fn put_keys(t: &mut Catalogue, entries: &[Entry; 64], count: usize)
     requires keys_fit { KeysFit entries.now count }
     ensures { KeysPut (firsts_of entries.now) (seconds_of entries.now) count t.old t.new }
 {
     for a in 0..count {
-        t.keys[a] = entries[a] / 64;
+        t.keys[a] = entries[a].key;
     }
 }
 
 // Each type goes into the sets of its words, which were empty.
-fn put_sets(t: &mut Catalogue, entries: &[u64; 64], count: usize)
+fn put_sets(t: &mut Catalogue, entries: &[Entry; 64], count: usize)
     requires no_sets { NoSets t.old }
     requires keys_fit { KeysFit entries.now count }
     ensures { SetsPut (firsts_of entries.now) (seconds_of entries.now) count t.old t.new }
 {
     for a in 0..count {
-        let key = entries[a] / 64;
-        item_names::mark_name(t, a, (key / 256) as u8, ((key % 256 + 255) % 256) as u8);
+        let name = Name::from(entries[a].key);
+        item_names::mark_name(t, a, name);
     }
 }
 
 // All that the catalogue has of the names, whatever stood in it before. The answer says how many words are the last of a name.
-pub fn put_names(t: &mut Catalogue, entries: &[u64; 64], count: usize, width: usize) -> usize
+pub fn put_names(t: &mut Catalogue, entries: &[Entry; 64], count: usize, width: usize) -> usize
     requires keys_fit { KeysFit entries.now count }
     requires width_bound { width ≤ 200 }
     ensures { NamesPut (firsts_of entries.now) (seconds_of entries.now) count width t.old t.new result }

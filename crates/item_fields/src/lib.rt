@@ -7,7 +7,7 @@ ghost use Rattle.definitions.specs.Bits.{to_bits};
 ghost use Rattle.definitions.specs.Packing.{name_bits, parent_bits};
 ghost use Rattle.definitions.specs.Comparisons.{dotted};
 ghost use Rattle.catalogue.specs.Catalogue.{name_of_key};
-ghost use Rattle.item_pen.specs.Pen.{Full, field_bits, Holds};
+ghost use Rattle.item_pen.specs.Pen.{field_bits, Holds};
 ghost use Rattle.item_fields.specs.Fields.{words_bits, head_bits, line_bits};
 
 use item_pen::Field;
@@ -39,7 +39,7 @@ pub fn name_field(key: u64) -> Field
 
 // Words behind their number (FORMAT 6.2).
 fn counted_words(words: Field) -> Field
-    requires { Full words × (words.width ≤ 24) }
+    requires { words.width ≤ 24 }
     ensures { Holds result (2 + words.width) (to_bits 2 (words.width / 8) ++ field_bits words) }
 {
     let count = (words.width / 8) as u64;

@@ -2,7 +2,7 @@
 -- set, the lowest first.
 use Rattle.std.specs.Prelude.{Bool, List, [], ◌++◌, ◌≡◌, refl, ℕ}
 use Rattle.std.proofs.Common.{sym}
-use Rattle.item_pen.specs.declared.Field.{Field}
+use Rattle.item_pen.specs.declared.field.Field.{Field}
 use Rattle.item_pen.specs.declared.Pen.{Pen}
 use Rattle.item_pen.specs.Pen.{field_bits, Holds, RoomFor, Adds, Counted}
 use Rattle.item_pen.specs.PenLaws.{adds-as, adds_then, room_as, room-head, room-tail, Pending, pending-room, pending-less, pending-none}

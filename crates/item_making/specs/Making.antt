@@ -1,5 +1,5 @@
 -- What is made for a type and a word, as the catalogue has it.
-use Rattle.std.specs.Prelude.{Bool, true, false, cond, ◌&&◌, List, [], ◌∷◌, ◌++◌, map, ◌≡◌, ℕ, ◌+◌, ◌/◌, ◌%◌, ◌≤◌, ◌<◌}
+use Rattle.std.specs.Prelude.{Bool, true, false, cond, ◌&&◌, List, [], ◌∷◌, ◌++◌, map, ◌≡◌, ℕ, ◌+◌, ◌%◌, ◌≤◌, ◌<◌}
 use Rattle.std.specs.Int.Bits.{bit_and, bit_xor}
 use Rattle.lists.specs.Lists.{all, each}
 use Rattle.definitions.specs.Bits.{odd, to_bits}
@@ -9,7 +9,7 @@ use Rattle.definitions.specs.Comparisons.{dotted}
 use Rattle.definitions.specs.LegalSchedule.{most_marks}
 use Rattle.rows.specs.Rows.{has_bit}
 use Rattle.bitsets.specs.Bitsets.{members, Rest}
-use Rattle.catalogue.specs.Layout.{key_at, head_at, marks_at, tally_at, extension_count_at, second_at}
+use Rattle.catalogue.specs.Layout.{key_at, head_at, marks_at, tally_at, mark_width, extension_count_at, second_at}
 use Rattle.catalogue.specs.Catalogue.{name_of_key, virtual_head, parents_in}
 use Rattle.catalogue.specs.declared.Catalogue.{Catalogue}
 use Rattle.item_making.specs.declared.Making.{Making}
@@ -75,7 +75,7 @@ parents_bits t m = each parent_bits (parents_of t m)
 
 -- The bits of the marks of a class (FORMAT 4.7).
 unfoldable pub marks_bits : Catalogue → ℕ → List Bool
-marks_bits t c = to_bits (tally_at t c / 8 % 64) (marks_at t c)
+marks_bits t c = to_bits (mark_width t c) (marks_at t c)
 
 -- How many marks classes have.
 unfoldable pub marks_in : Catalogue → List ℕ → ℕ

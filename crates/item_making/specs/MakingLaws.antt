@@ -21,11 +21,11 @@ use Rattle.bits.specs.NumberLaws.{length-to_bits, to_bits-split}
 use Rattle.ordering.specs.Lists.{below-same, below_none, below_one}
 use Rattle.rows.specs.Rows.{has_bit}
 use Rattle.rows.specs.RowLaws.{bit-without, bit-none}
-use Rattle.catalogue.specs.Layout.{key_at, head_at, marks_at, tally_at, extension_count_at, extension_parent_at, second_at}
+use Rattle.catalogue.specs.Layout.{key_at, head_at, marks_at, tally_at, mark_width, extension_count_at, extension_parent_at, second_at}
 use Rattle.catalogue.specs.Catalogue.{name_of_key, virtual_head, parents_in}
 use Rattle.bitsets.specs.Bitsets.{members, Lowest, Rest}
 use Rattle.bitsets.specs.BitLaws.{bit-both, members-of, members-next, members-none}
-use Rattle.item_pen.specs.declared.Field.{Field}
+use Rattle.item_pen.specs.declared.field.Field.{Field}
 use Rattle.item_pen.specs.Pen.{field_bits, Holds, flushed, TakesIn}
 use Rattle.item_fields.specs.Fields.{head_bits}
 use Rattle.catalogue.specs.declared.Catalogue.{Catalogue}
@@ -96,18 +96,18 @@ flag_none t flag left e = ap (λ (l : List ℕ). odd flag && all (λ c. virtual_
 
 -- ---- fields
 
-pub marks_long : (t : Catalogue) (c : ℕ) → length (marks_bits t c) ≡ tally_at t c / 8 % 64
+pub marks_long : (t : Catalogue) (c : ℕ) → length (marks_bits t c) ≡ mark_width t c
 unfolding marks_bits
-marks_long t c = length-to_bits (tally_at t c / 8 % 64) (marks_at t c)
+marks_long t c = length-to_bits (mark_width t c) (marks_at t c)
 
 -- the first bits of marks and the last 32
 pub marks-parts : (w v : ℕ) → 32 ≤ w → to_bits (w - 32) (v / 4294967296) ++ to_bits 32 v ≡ to_bits w v
 marks-parts w v h = let e : w - 32 + 32 ≡ w = omega arith in sym (to_bits-split (w - 32) 32 v) ∙ ap (λ (n : ℕ). to_bits n v) e
 
-module _ (t : Catalogue) (c w : ℕ) (e : w ≡ length (marks_bits t c)) where
+module _ (t : Catalogue) (c w : ℕ) (e : w ≡ mark_width t c) where
   pub marks-are : to_bits w (marks_at t c) ≡ marks_bits t c
   unfolding marks_bits
-  marks-are = ap (λ (n : ℕ). to_bits n (marks_at t c)) (e ∙ marks_long t c)
+  marks-are = ap (λ (n : ℕ). to_bits n (marks_at t c)) e
 
   pub marks-parted : 32 ≤ w → to_bits (w - 32) (marks_at t c / 4294967296) ++ to_bits 32 (marks_at t c) ≡ marks_bits t c
   marks-parted h = marks-parts w (marks_at t c) h ∙ marks-are
@@ -122,13 +122,13 @@ pub record-all : (t : Catalogue) (e : ℕ) → record_bits t e ≡ record_from t
 unfolding record_bits record_from
 record-all t e = refl
 
-pub record-next : (t : Catalogue) (e j : ℕ) → j < extension_count_at t e → record_from t e j ≡ parent_bits (name_of_key (extension_parent_at t (8 * e + j))) ++ record_from t e (j + 1)
+pub record-next : (t : Catalogue) (e j : ℕ) → j < extension_count_at t e → record_from t e j ≡ parent_bits (name_of_key (extension_parent_at t e j)) ++ record_from t e (j + 1)
 unfolding record_from parents_in
-record-next t e j h = from_next parent_bits (λ i. name_of_key (extension_parent_at t (8 * e + i))) (extension_count_at t e) j h
+record-next t e j h = from_next parent_bits (λ i. name_of_key (extension_parent_at t e i)) (extension_count_at t e) j h
 
 pub record-end : (t : Catalogue) (e j : ℕ) → extension_count_at t e ≤ j → record_from t e j ≡ []
 unfolding record_from parents_in
-record-end t e j h = from_end parent_bits (λ i. name_of_key (extension_parent_at t (8 * e + i))) (extension_count_at t e) j h
+record-end t e j h = from_end parent_bits (λ i. name_of_key (extension_parent_at t e i)) (extension_count_at t e) j h
 
 -- ---- parts
 
@@ -256,6 +256,9 @@ first-long t m p =
 pub firsts_most : (t : Catalogue) (m : Making) (set : ℕ) → length (each_of (first_bits t m) set) ≤ 1664
 firsts_most t m set = omega (arith, each-most (first_bits t m) 26 set (first-long t m), members_most set)
 
+pub mark_bits_next : (t : Catalogue) (left k r : ℕ) → Lowest left k → Rest left r → length (each_of (marks_bits t) left) ≡ mark_width t k + length (each_of (marks_bits t) r)
+mark_bits_next t left k r l d = omega (arith, long_next (marks_bits t) left k r l d, marks_long t k)
+
 pub mark_bits_most : (t : Catalogue) (set : ℕ) → length (each_of (marks_bits t) set) ≤ 4032
 mark_bits_most t set = omega (arith, each-most (marks_bits t) 63 set (λ c. omega (arith, marks_long t c)), members_most set)
 
@@ -349,7 +352,7 @@ module _ (t : Catalogue) (m : Making) (l : Alone m) (c : ℕ) (w : Lowest m.clas
       ∙ ap (λ (x : ℕ). (R ++ each_of (record_bits t) m.records) ++ (to_bits 9 x ++ each (marks_bits t) (classes_of t m.classes))) count
 
 -- what stands behind the first parents, as it is added
-module _ (t : Catalogue) (c w : ℕ) (e : w ≡ length (marks_bits t c)) where
+module _ (t : Catalogue) (c w : ℕ) (e : w ≡ mark_width t c) where
   abbrev start : List Bool
   start = parent_bits (t.resource ∷ []) ++ to_bits 9 (tally_at t c % 8)
 

@@ -8,7 +8,7 @@ ghost use Rattle.definitions.specs.LegalSchedule.{most_marks};
 ghost use Rattle.definitions.specs.Packing.{parent_bits};
 ghost use Rattle.catalogue.specs.Layout.{key_at, head_at, tally_at, extension_count_at};
 ghost use Rattle.bitsets.specs.Bitsets.{members};
-ghost use Rattle.item_pen.specs.Pen.{Full, field_bits, Holds, RoomFor, Adds};
+ghost use Rattle.item_pen.specs.Pen.{field_bits, Holds, RoomFor, Adds};
 ghost use Rattle.item_fields.specs.Fields.{line_bits};
 ghost use Rattle.item_making.specs.Making.{each_of, classes_of, marks_in, Recorded, added, record_bits, first_bits, marks_bits, Gathers};
 ghost use Rattle.item_making.specs.Making.{all_marks_bits, GathersAll, parents_of, made_bits, others_bits, behind_bits, tail_bits, Alone};
@@ -90,8 +90,7 @@ fn first_field(t: &Catalogue, m: Making, p: usize) -> Field
 
 // The head and the first parents, several written together.
 fn add_firsts(buf: &mut [u8], pen: Pen, t: &Catalogue, m: Making, head: Field) -> Pen
-    requires full { Full head }
-    requires room_for { RoomFor buf.old pen 0 (field_bits head ++ each_of (first_bits t.now m) m.firsts) }
+    requires { RoomFor buf.old pen 0 (field_bits head ++ each_of (first_bits t.now m) m.firsts) }
     ensures { Adds buf.old buf.new pen result 0 (field_bits head ++ each_of (first_bits t.now m) m.firsts) }
 {
     let mut to = pen;
@@ -113,7 +112,7 @@ fn add_record(buf: &mut [u8], pen: Pen, t: &Catalogue, e: usize) -> Pen
     let count = t.extension_counts[e];
     let mut to = pen;
     for j in 0..count as usize {
-        let key = t.extension_parents[8 * e + j];
+        let key = t.extension_parents[e][j];
         to = item_pen::add(buf, to, item_fields::parent_field(key));
     }
     to
@@ -150,22 +149,13 @@ fn add_others(buf: &mut [u8], pen: Pen, t: &Catalogue, records: u64) -> Pen
     add_records(buf, to, t, records)
 }
 
-// How many bits the marks of a class have.
-#[tactic(auto, using(crate::specs::MakingLaws::marks_long))]
-fn mark_width(t: &Catalogue, c: usize) -> usize
-    requires { c < 64 }
-    ensures { (result ≡ length (marks_bits t.now c)) × (result ≤ 63) }
-{
-    ((t.tallies[c] >> 3) % 64) as usize
-}
-
 // The marks of a class, up to 63 bits: more than 56 in two parts.
 fn add_class(buf: &mut [u8], pen: Pen, t: &Catalogue, c: usize) -> Pen
     requires c_bound { c < 64 }
     requires room_for { RoomFor buf.old pen 0 (marks_bits t.now c) }
     ensures { Adds buf.old buf.new pen result 0 (marks_bits t.now c) }
 {
-    let width = mark_width(t, c);
+    let width = t.mark_width(c);
     let marks = t.marks[c];
     if width <= 56 {
         return item_pen::add(buf, pen, item_pen::number(width, marks));
@@ -238,7 +228,7 @@ fn add_tail(buf: &mut [u8], pen: Pen, t: &Catalogue, c: usize) -> Pen
     ensures { Adds buf.old buf.new pen result 0 (tail_bits t.now c) }
 {
     let start = tail_start(t, c);
-    let width = mark_width(t, c);
+    let width = t.mark_width(c);
     let marks = t.marks[c];
     if width <= 37 {
         let f = item_pen::join(start, item_pen::number(width, marks));
@@ -310,13 +300,13 @@ fn firsts_width(t: &Catalogue, m: Making) -> usize
 }
 
 // How many bits the marks of the classes of a set have.
-#[tactic(auto, using(crate::specs::MakingLaws::long_next, crate::specs::MakingLaws::long_none, crate::specs::MakingLaws::mark_bits_most))]
+#[tactic(auto, using(crate::specs::MakingLaws::mark_bits_next, crate::specs::MakingLaws::long_none, crate::specs::MakingLaws::mark_bits_most))]
 fn marks_width(t: &Catalogue, set: u64) -> usize
     ensures { (result ≡ length (each_of (marks_bits t.now) set)) × (result ≤ 9 * most_marks) }
 {
     let mut n: usize = 0;
     for c in bitsets::members(set) {
-        n += mark_width(t, c);
+        n += t.mark_width(c);
     }
     n
 }

@@ -6,15 +6,16 @@ ghost use Rattle.std.specs.Prelude.{◌≡◌, ◌+◌, ◌<◌};
 ghost use Rattle.item_names.specs.Names.{NameMarked, WordPut, WordsPut, FewWords, owner_of, OwnersPut, KeysSmall};
 
 use catalogue::Catalogue;
+use fields::Name;
 
 // A type goes into the set of its first word and into that of its second, or of those that have none.
-pub fn mark_name(t: &mut Catalogue, a: usize, first: u8, second: u8)
+pub fn mark_name(t: &mut Catalogue, a: usize, name: Name)
     requires { a < 64 }
-    ensures { NameMarked a first second t.old t.new }
+    ensures { NameMarked a name.first name.second t.old t.new }
 {
     let bit = 1u64 << a;
-    let w = first as usize;
-    let v = (second as usize + 1) % 256;
+    let w = name.first as usize;
+    let v = (name.second as usize + 1) % 256;
     t.firsts[w] |= bit;
     t.seconds[v] |= bit;
 }

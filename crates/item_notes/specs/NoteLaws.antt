@@ -26,7 +26,7 @@ use Rattle.records.specs.AnnotationLaws.{annotation-rows, rows_none}
 use Rattle.sheet_notes.specs.Notes.{Notes, notes}
 use Rattle.catalogue.specs.declared.Catalogue.{Catalogue}
 use Rattle.catalogue.specs.Layout.{looked}
-use Rattle.item_names.specs.Names.{key_of}
+use Rattle.fields.specs.Keys.{key_of}
 use Rattle.item_classes.specs.Classes.{class_in, Gathers, own_if, GathersMore}
 use Rattle.item_classes.specs.ClassLaws.{only_if, lists, own-as, given-as, gathers-none}
 use Rattle.item_classes.specs.declared.Classes.{Classes}
@@ -135,12 +135,10 @@ module _ (bs : List Bool) (p w : ℕ) (e : w ≡ num 17 (drop p bs)) where
 
 -- ---- the class of a name
 
-pub class-one : (t : Catalogue) (w : ℕ) → w / 256 % 2 ≡ 0 → looked t (w / 512 * 256) ≡ class_in t (resource_of (name_in w))
-class-one t w e =
-    let k : w / 512 * 256 ≡ key_of (w / 512) 255 = omega arith in
-    ap (looked t) k ∙ sym (rw (eq-eqb (w / 256 % 2) 0 e))
+pub class-one : (t : Catalogue) (w : ℕ) → w / 256 % 2 ≡ 0 → looked t (key_of (record { first = w / 512; second = 255 })) ≡ class_in t (resource_of (name_in w))
+class-one t w e = sym (rw (eq-eqb (w / 256 % 2) 0 e))
 
-pub class-two : (t : Catalogue) (w : ℕ) → (w / 256 % 2 ≡ 0 → ⊥) → looked t (w % 256 * 256 + (w / 512 + 1) % 256) ≡ class_in t (resource_of (name_in w))
+pub class-two : (t : Catalogue) (w : ℕ) → (w / 256 % 2 ≡ 0 → ⊥) → looked t (key_of (record { first = w % 256; second = w / 512 })) ≡ class_in t (resource_of (name_in w))
 class-two t w n = sym (rw (ne_eqb (w / 256 % 2) 0 n))
 
 -- ---- sets added

@@ -11,6 +11,7 @@ ghost use Rattle.records.specs.Annotations.{resource_of};
 ghost use Rattle.item_notes.specs.Notes.{name_in, NamesAt, RowsAt, AnnotationAt, AnnotationsAt, MarksAt, NotesAt, RowsGathered, NamesSkipped, RowsSkipped, AnnotationGathered, AnnotationsGathered, MarksPacked, NotesGathered};
 
 use catalogue::Catalogue;
+use fields::{Key, Name};
 use item_classes::Classes;
 use item_heads::Packed;
 
@@ -35,10 +36,18 @@ fn class_in(t: &Catalogue, w: usize) -> u64
 {
     let word = w / 512;
     if w / 256 % 2 == 0 {
-        return t.type_of((word * 256) as u64);
+        let alone = Name {
+            first: word as u8,
+            second: 255,
+        };
+        return t.type_of(Key::from(alone));
     }
     let dom = w % 256;
-    t.type_of((dom * 256 + (word + 1) % 256) as u64)
+    let class = Name {
+        first: dom as u8,
+        second: word as u8,
+    };
+    t.type_of(Key::from(class))
 }
 
 // The classes of n resources more, of an annotation of that kind. The loops here, of `gather` and of `pack_marks` count down: by

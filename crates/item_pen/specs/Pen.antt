@@ -3,7 +3,7 @@ use Rattle.std.specs.Prelude.{Bool, true, cond, List, [], ◌++◌, ◌≡◌, �
 use Rattle.lists.specs.Lists.{each}
 use Rattle.definitions.specs.Bits.{to_bits}
 use Rattle.bits.specs.Writing.{put}
-use Rattle.item_pen.specs.declared.Field.{Field}
+use Rattle.item_pen.specs.declared.field.Field.{Field}
 use Rattle.item_pen.specs.declared.Pen.{Pen}
 
 -- ---- fields
@@ -12,15 +12,9 @@ use Rattle.item_pen.specs.declared.Pen.{Pen}
 abbrev pub field_bits : Field → List Bool
 field_bits f = to_bits f.width f.value
 
--- A field is small enough to be written at once, and its number has no bits besides its own.
-pub record Full (f : Field) : Type 0 where
-  pub few : f.width ≤ 56
-  pub most : f.value < 2 ^ f.width
-
 -- A field is n bits wide and holds the bits bs.
 pub record Holds (f : Field) (n : ℕ) (bs : List Bool) : Type 0 where
   pub wide : f.width ≡ n
-  pub full : Full f
   pub bits : field_bits f ≡ bs
 
 -- ---- bits at a place
@@ -29,10 +23,8 @@ pub record Holds (f : Field) (n : ℕ) (bs : List Bool) : Type 0 where
 pub record Merged (old o n v r : ℕ) : Type 0 where
   pub is : r ≡ old / 2 ^ (64 - o) * 2 ^ (64 - o) + (v * 2 ^ (64 - o - n) + old % 2 ^ ((64 - o - n) / 8 * 8))
 
--- What writing the n bits of v at bit p asks: room where the pen is down, and that the places are numbers of 64 bits.
-pub record Room (down : Bool) (buf : List ℕ) (p n v : ℕ) : Type 0 where
-  pub few : n ≤ 56
-  pub most : v < 2 ^ n
+-- What writing n bits at bit p asks: room where the pen is down, and that the places are numbers of 64 bits.
+pub record Room (down : Bool) (buf : List ℕ) (p n : ℕ) : Type 0 where
   pub fits : down ≡ true → p + n ≤ 8 * length buf
   pub small : p + n < 2 ^ 64
 
@@ -78,7 +70,6 @@ flushed held f = cond (ltb 56 (held.width + f.width)) (field_bits held) []
 
 -- What is held then.
 pub record TakesIn (held f r : Field) : Type 0 where
-  pub full : Full r
   pub bits : flushed held f ++ field_bits r ≡ field_bits held ++ field_bits f
 
 -- ---- lists of items

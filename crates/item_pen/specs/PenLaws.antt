@@ -8,9 +8,9 @@ use Rattle.definitions.specs.Bits.{to_bits}
 use Rattle.bits.specs.Writing.{put, Wrote, Left}
 use Rattle.bits.specs.NumberLaws.{length-to_bits, to_bits-split, to_bits-low}
 use Rattle.bits.specs.WriteLaws.{put-append, length-put, left_less, left-none}
-use Rattle.item_pen.specs.declared.Field.{Field}
+use Rattle.item_pen.specs.declared.field.Field.{Field}
 use Rattle.item_pen.specs.declared.Pen.{Pen}
-use Rattle.item_pen.specs.Pen.{field_bits, Full, Holds, Room, Penned, is_down, fresh, RoomFor, Adds, Counted, joined, RoomForAll, AddsAll, PassesOver, flushed}
+use Rattle.item_pen.specs.Pen.{field_bits, Holds, Room, Penned, is_down, fresh, RoomFor, Adds, Counted, joined, RoomForAll, AddsAll, PassesOver, flushed}
 
 -- ---- fields
 
@@ -35,30 +35,23 @@ module _ (a x b y : ℕ) (h : x < 2 ^ a) (k : y < 2 ^ b) where
   pub joined_small : a + b ≤ 56 → x * 2 ^ b % 2 ^ 64 + y < 2 ^ 64
   joined_small few = rw (joined-shift few) (omega (arith, joined-fits, Pow.pow_mono {i = a + b} {j = 56} few))
 
-  pub join-holds : a + b ≤ 56 → Holds (record { width = a + b; value = x * 2 ^ b % 2 ^ 64 + y }) (a + b) (to_bits a x ++ to_bits b y)
-  join-holds few =
-      let e : x * 2 ^ b % 2 ^ 64 + y ≡ x * 2 ^ b + y = ap (λ (z : ℕ). z + y) (joined-shift few) in
-      record {
-        wide = refl;
-        full = record { few = few; most = rw e joined-fits };
-        bits = ap (to_bits (a + b)) e ∙ joined-bits;
-      }
+  pub joined-sum : a + b ≤ 56 → x * 2 ^ b % 2 ^ 64 + y ≡ x * 2 ^ b + y
+  joined-sum few = ap (λ (z : ℕ). z + y) (joined-shift few)
 
 -- what fields hold, joined
 pub holds-join : {f g r : Field} {m n : ℕ} {xs ys : List Bool} → Holds f m xs → Holds g n ys → Holds r (f.width + g.width) (field_bits f ++ field_bits g) → Holds r (m + n) (xs ++ ys)
 holds-join p q t = record {
   wide = t.wide ∙ ap₂ (λ (a b : ℕ). a + b) p.wide q.wide;
-  full = t.full;
   bits = t.bits ∙ ap₂ (λ a b. a ++ b) p.bits q.bits;
 }
 
 -- the bits by another name
 pub holds_as : {f : Field} {n : ℕ} {xs : List Bool} (m : ℕ) (ys : List Bool) → m ≡ n → xs ≡ ys → Holds f n xs → Holds f m ys
-holds_as m ys e h w = record { wide = w.wide ∙ sym e; full = w.full; bits = w.bits ∙ h }
+holds_as m ys e h w = record { wide = w.wide ∙ sym e; bits = w.bits ∙ h }
 
 -- as many as they are
 pub holds-all : {f : Field} {n : ℕ} {xs : List Bool} (ys : List Bool) → xs ≡ ys → Holds f n xs → Holds f (length ys) ys
-holds-all {f} {n} {xs} ys h w = record { wide = sym (length-to_bits f.width f.value) ∙ ap length (w.bits ∙ h); full = w.full; bits = w.bits ∙ h }
+holds-all {f} {n} {xs} ys h w = record { wide = sym (length-to_bits f.width f.value) ∙ ap length (w.bits ∙ h); bits = w.bits ∙ h }
 
 -- ---- one put after another
 
@@ -222,12 +215,12 @@ all_none zs e p = pending-none (ap length e) (ap joined e) p
 
 -- ---- what is added
 
-module _ (buf : List ℕ) (P : Pen) (f : Field) (full : Full f) (room : RoomFor buf P 0 (field_bits f)) where
+module _ (buf : List ℕ) (P : Pen) (f : Field) (room : RoomFor buf P 0 (field_bits f)) where
   -- room for a field
-  pub field_room : Room (is_down P) buf P.at f.width f.value
+  pub field_room : Room (is_down P) buf P.at f.width
   field_room =
       let l = length-to_bits f.width f.value in
-      record { few = full.few; most = full.most; fits = λ d. omega (arith, room.fits d); small = omega (arith, room.small) }
+      record { fits = λ d. omega (arith, room.fits d); small = omega (arith, room.small) }
 
 -- a first field
 module _ (down : Bool) (buf : List ℕ) (f : Field) where

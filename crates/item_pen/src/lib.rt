@@ -4,16 +4,12 @@
 ghost use Rattle.std.specs.Prelude.{false, ◌++◌, ◌≡◌, ◌+◌, ◌*◌, ◌/◌, ◌^◌, ◌≤◌, ◌<◌, length, drop};
 ghost use Rattle.definitions.specs.Bits.{to_bits, bits_of, num};
 ghost use Rattle.bits.specs.Writing.{put, Wrote};
-ghost use Rattle.item_pen.specs.Pen.{Holds, field_bits, Full, Merged, Room, Penned, is_down, fresh, RoomFor, Adds, Counted, PassesOver, flushed, TakesIn};
+ghost use Rattle.item_pen.specs.Pen.{Holds, field_bits, Merged, Room, Penned, is_down, fresh, RoomFor, Adds, Counted, PassesOver, flushed, TakesIn};
+
+mod field;
 
 use bits::Cursor;
-
-// Bits that are made before they are written: the last `width` bits of a number that has no others.
-#[derive(Clone, Copy)]
-pub struct Field {
-    pub width: usize,
-    pub value: u64,
-}
+pub use field::Field;
 
 // Where the next bit goes, and twice the number of items that were put, one more where the pen is down: two numbers, since a
 // struct of three is handed on in memory.
@@ -37,7 +33,7 @@ pub fn number(n: usize, v: u64) -> Field
 
 // One field behind another, as one field.
 pub fn join(a: Field, b: Field) -> Field
-    requires { Full a × Full b × (a.width + b.width ≤ 56) }
+    requires { a.width + b.width ≤ 56 }
     ensures { Holds result (a.width + b.width) (field_bits a ++ field_bits b) }
 {
     Field {
@@ -71,73 +67,73 @@ fn put_eight(buf: &mut [u8], i: usize, x: u64)
     buf[i..i + 8].copy_from_slice(&x.to_be_bytes());
 }
 
-// Eight bytes as one number, with the n bits of v behind its first o bits: those stay, zeros go behind v to the end of its last
+// Eight bytes as one number, with a field behind its first o bits: those stay, zeros go behind the field to the end of its last
 // byte, and what stands behind that stays.
-fn merged(old: u64, o: usize, n: usize, v: u64) -> u64
-    requires { (0 < n) × (n ≤ 56) × (o < 8) × (v < 2 ^ n) }
-    ensures { Merged old o n v result }
+fn merged(old: u64, o: usize, f: Field) -> u64
+    requires { (0 < f.width) × (o < 8) }
+    ensures { Merged old o f.width f.value result }
 {
-    let behind = 64 - o - n;
+    let behind = 64 - o - f.width;
     let kept = behind / 8 * 8;
     let all: u64 = 18446744073709551615;
     let one: u64 = 1;
     let hole = (all >> o) - ((one << kept) - 1);
-    (old - (old & hole)) + (v << behind)
+    (old - (old & hole)) + (f.value << behind)
 }
 
-// The n bits of v at bit `at`, in the eight bytes from its byte on, and zeros to the end of the byte that the last of them is in.
-pub fn put_wide(buf: &mut [u8], at: usize, n: usize, v: u64)
-    requires { (0 < n) × (n ≤ 56) × (v < 2 ^ n) × (at / 8 + 8 ≤ length buf.old) }
-    ensures { buf.new ≡ put buf.old at (to_bits n v) }
+// A field at bit `at`, in the eight bytes from its byte on, and zeros to the end of the byte that its last bit is in.
+pub fn put_wide(buf: &mut [u8], at: usize, f: Field)
+    requires { (0 < f.width) × (at / 8 + 8 ≤ length buf.old) }
+    ensures { buf.new ≡ put buf.old at (field_bits f) }
 {
     let i = at / 8;
     let old = eight_at(buf, i);
-    put_eight(buf, i, merged(old, at % 8, n, v));
+    put_eight(buf, i, merged(old, at % 8, f));
 }
 
 // The same near the end of the bytes, and for what is written once, 16 bits at a time. The answer is the bit behind them.
-fn put_near(buf: &mut [u8], at: usize, n: usize, v: u64) -> usize
-    requires { (n ≤ 56) × (at + n ≤ 8 * length buf.old) × (at + n < 2 ^ 64) }
-    ensures { Wrote buf.old buf.new at result (to_bits n v) }
+fn put_near(buf: &mut [u8], at: usize, f: Field) -> usize
+    requires { (at + f.width ≤ 8 * length buf.old) × (at + f.width < 2 ^ 64) }
+    ensures { Wrote buf.old buf.new at result (field_bits f) }
 {
     let mut c = Cursor { at };
-    let mut left = n;
+    let mut left = f.width;
     // What is left of the width is needed at each step and behind the last: a count of the steps would be no plainer.
     while 16 < left {
         left -= 16;
-        c = c.write(buf, 16, (v >> left) as usize);
+        c = c.write(buf, 16, (f.value >> left) as usize);
     }
-    let end = c.write(buf, left, v as usize);
+    let end = c.write(buf, left, f.value as usize);
     end.at
 }
 
-// The n bits of v at bit `at`, and zeros to the end of the byte that the last of them is in. No other byte is touched. The answer
-// is the bit behind them.
-fn put_bits(buf: &mut [u8], at: usize, n: usize, v: u64) -> usize
-    requires { (n ≤ 56) × (v < 2 ^ n) × (at + n ≤ 8 * length buf.old) × (at + n < 2 ^ 64) }
-    ensures { Wrote buf.old buf.new at result (to_bits n v) }
+// A field at bit `at`, and zeros to the end of the byte that its last bit is in. No other byte is touched. The answer is the bit
+// behind it.
+fn put_bits(buf: &mut [u8], at: usize, f: Field) -> usize
+    requires { (at + f.width ≤ 8 * length buf.old) × (at + f.width < 2 ^ 64) }
+    ensures { Wrote buf.old buf.new at result (field_bits f) }
 {
-    if n == 0 {
+    if f.width == 0 {
         return at;
     }
     if buf.len() < at / 8 + 8 {
-        return put_near(buf, at, n, v);
+        return put_near(buf, at, f);
     }
-    put_wide(buf, at, n, v);
-    at + n
+    put_wide(buf, at, f);
+    at + f.width
 }
 
-// With the pen down the n bits of v go to bit `at`, and zeros to the end of their last byte; with the pen up nothing is touched.
-// The answer is the bit behind them. `down` is a bool, here and in `begin`, so that counting and writing are one function with
-// one contract: an enum of the two would be the same test.
-pub fn put(buf: &mut [u8], at: usize, down: bool, n: usize, v: u64) -> usize
-    requires { Room down buf.old at n v }
-    ensures { Penned down buf.old buf.new at result (to_bits n v) }
+// With the pen down a field goes to bit `at`, and zeros to the end of its last byte; with the pen up nothing is touched. The
+// answer is the bit behind it. `down` is a bool, here and in `begin`, so that counting and writing are one function with one
+// contract: an enum of the two would be the same test.
+pub fn put(buf: &mut [u8], at: usize, down: bool, f: Field) -> usize
+    requires { Room down buf.old at f.width }
+    ensures { Penned down buf.old buf.new at result (field_bits f) }
 {
     if !down {
-        return at + n;
+        return at + f.width;
     }
-    put_bits(buf, at, n, v)
+    put_bits(buf, at, f)
 }
 
 // Whether the pen is down.
@@ -149,8 +145,7 @@ pub fn is_down(pen: Pen) -> bool
 
 // A pen that has put a first field, at the first bit.
 pub fn begin(buf: &mut [u8], down: bool, f: Field) -> Pen
-    requires full { Full f }
-    requires room_for { RoomFor buf.old (fresh down) 0 (field_bits f) }
+    requires { RoomFor buf.old (fresh down) 0 (field_bits f) }
     ensures { Adds buf.old buf.new (fresh down) result 0 (field_bits f) }
 {
     if !down {
@@ -159,7 +154,7 @@ pub fn begin(buf: &mut [u8], down: bool, f: Field) -> Pen
             at: f.width,
         };
     }
-    put_near(buf, 0, f.width, f.value);
+    put_near(buf, 0, f);
     Pen {
         count: 1,
         at: f.width,
@@ -168,43 +163,39 @@ pub fn begin(buf: &mut [u8], down: bool, f: Field) -> Pen
 
 // One more field.
 pub fn add(buf: &mut [u8], pen: Pen, f: Field) -> Pen
-    requires full { Full f }
-    requires room_for { RoomFor buf.old pen 0 (field_bits f) }
+    requires { RoomFor buf.old pen 0 (field_bits f) }
     ensures { Adds buf.old buf.new pen result 0 (field_bits f) }
 {
-    let at = put(buf, pen.at, is_down(pen), f.width, f.value);
+    let at = put(buf, pen.at, is_down(pen), f);
     Pen { at, ..pen }
 }
 
 // One more field, one that a listing has once.
 pub fn add_once(buf: &mut [u8], pen: Pen, f: Field) -> Pen
-    requires full { Full f }
-    requires room_for { RoomFor buf.old pen 0 (field_bits f) }
+    requires { RoomFor buf.old pen 0 (field_bits f) }
     ensures { Adds buf.old buf.new pen result 0 (field_bits f) }
 {
     if !is_down(pen) {
         return pass_over(pen, f.width);
     }
-    let at = put_near(buf, pen.at, f.width, f.value);
+    let at = put_near(buf, pen.at, f);
     Pen { at, ..pen }
 }
 
 // Fields are held back to be written together. What is held is written where a field finds no room beside it.
 pub fn make_room(buf: &mut [u8], pen: Pen, held: Field, f: Field) -> Pen
-    requires full { Full held × Full f }
-    requires room_for { RoomFor buf.old pen 0 (flushed held f) }
+    requires { RoomFor buf.old pen 0 (flushed held f) }
     ensures { Adds buf.old buf.new pen result 0 (flushed held f) }
 {
     if held.width + f.width <= 56 {
         return pen;
     }
-    let at = put(buf, pen.at, is_down(pen), held.width, held.value);
+    let at = put(buf, pen.at, is_down(pen), held);
     Pen { at, ..pen }
 }
 
 // What is held then.
 pub fn take_in(held: Field, f: Field) -> Field
-    requires { Full held × Full f }
     ensures { TakesIn held f result }
 {
     if held.width + f.width <= 56 {

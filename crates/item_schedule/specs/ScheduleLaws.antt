@@ -27,7 +27,7 @@ use Rattle.line_laws.specs.Size.{schedule-at-most}
 use Rattle.catalogue.specs.Catalogue.{Catalogued}
 use Rattle.catalogue.specs.declared.Catalogue.{Catalogue}
 use Rattle.law_classes.proofs.ItemLaws.{items-by-sets}
-use Rattle.item_pen.specs.declared.Field.{Field}
+use Rattle.item_pen.specs.declared.field.Field.{Field}
 use Rattle.item_pen.specs.declared.Pen.{Pen}
 use Rattle.item_pen.specs.Pen as pen
 use Rattle.item_pen.specs.Pen.{field_bits, joined, fresh, Penned, RoomFor, Adds, RoomForAll, AddsAll}

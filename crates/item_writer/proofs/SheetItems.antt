@@ -31,7 +31,7 @@ use Rattle.law_classes.specs.Sets.{Set, both, some, one_word, masked, own_set, a
 use Rattle.law_classes.specs.Numbers.{Fits, fits_both, holds-both, holds-either, holds-some}
 use Rattle.law_classes.specs.Walks.{filter-twice}
 use Rattle.catalogue.specs.Layout.{key_at, head_at, marks_at, tally_at, parents_at, own_at, above_at, passed_at, word_at, mask_at, second_at}
-use Rattle.catalogue.specs.Catalogue.{virtual_head, trait_head, Entry, Catalogued}
+use Rattle.catalogue.specs.Catalogue.{virtual_head, trait_head, Entry, Catalogued, marks-wide}
 use Rattle.catalogue.specs.declared.Catalogue.{Catalogue}
 use Rattle.item_fields.specs.Fields.{line_bits}
 use Rattle.bitsets.specs.Bitsets.{members}
@@ -125,10 +125,7 @@ module _ (s : Sheet) (t : Catalogue) (within : Within s) (c : Catalogued s t) wh
     unfolding marks_bits
     marks-are cs h =
         each_same (marks_bits t) (λ p. each mark_bits (type_at m p).marks) cs
-        (λ p i.
-        let x = entry p (h p i) in
-        let w : tally_at t p / 8 % 64 ≡ tally_at t p / 8 = omega (arith, x.tally) in
-        ap (λ (k : ℕ). to_bits k (marks_at t p)) w ∙ x.mark_bits)
+        (λ p i. marks-wide s t p (entry p (h p i)))
         ∙ sym (each-each (λ (C : LineType). C.marks) mark_bits (map (type_at m) cs) ∙ each_map (λ (C : LineType). each mark_bits C.marks) (type_at m) cs)
 
     count-is : (cs : List ℕ) → ((p : ℕ) → In p cs → p < n) → marks_in t cs ≡ length (each (λ (C : LineType). C.marks) (map (type_at m) cs))

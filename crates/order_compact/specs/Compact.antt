@@ -1,12 +1,14 @@
 -- What the steps that fill the compact form leave in it, out of a draft.
-use Rattle.std.specs.Prelude.{List, ◌≡◌, ℕ, ◌+◌, ◌*◌, ◌≤◌, ◌<◌, get_or}
+use Rattle.std.specs.Prelude.{List, ◌≡◌, ℕ, ◌≤◌, ◌<◌, get_or}
 use Rattle.bitsets.specs.Bitsets.{Lowest}
 use Rattle.ordering.specs.Reading as reading
-use Rattle.ordering.specs.Reading.{Parent, how_many}
+use Rattle.ordering.specs.Reading.{how_many}
+use Rattle.ordering.specs.declared.Parent.{Parent}
 use Rattle.ordering.specs.declared.Parents.{Parents}
-use Rattle.order_table.specs.Keys.{first_of, second_of}
+use Rattle.fields.specs.Keys.{first_of, second_of}
 use Rattle.sheet_draft.specs.Draft.{key_at, parent_count_at, parent_at}
 use Rattle.sheet_draft.specs.declared.Draft.{Draft}
+use Rattle.sheet_draft.specs.declared.entry.Entry.{Entry}
 use Rattle.catalogue.specs.Layout.{looked}
 use Rattle.catalogue.specs.declared.Catalogue.{Catalogue}
 use Rattle.order_parents.specs.Parents.{row_of, KeysOf}
@@ -17,7 +19,7 @@ pub record PlaceIs (types n r : ℕ) : Type 0 where
   pub some : 0 < types → Lowest types r
 
 -- The keys of the names and of the parents are keys of two words.
-pub record Drafts (d : Draft) (entries : List ℕ) (n : ℕ) : Type 0 where
+pub record Drafts (d : Draft) (entries : List Entry) (n : ℕ) : Type 0 where
   pub few : n ≤ 64
   pub name : (a : ℕ) → a < n → key_at d (row_of entries a) < 65536
   pub parents : (a : ℕ) → a < n → KeysOf d (row_of entries a)
@@ -41,17 +43,17 @@ pub record KeptBefore (a : ℕ) (old new : Parents) : Type 0 where
   pub firsts : (b : ℕ) → b < a → get_or new.firsts b 0 ≡ get_or old.firsts b 0
   pub seconds : (b : ℕ) → b < a → get_or new.seconds b 0 ≡ get_or old.seconds b 0
   pub counts : (b : ℕ) → b < a → how_many new b ≡ how_many old b
-  pub parents : (i : ℕ) → i < 8 * a → reading.parent_at new i ≡ reading.parent_at old i
+  pub parents : (b i : ℕ) → b < a → reading.parent_at new b i ≡ reading.parent_at old b i
 
 -- Type a and its first k parents, out of a row.
 pub record TypePut (t : Catalogue) (d : Draft) (row a n k : ℕ) (old new : Parents) : Type 0 where
   pub kept : KeptBefore a old new
   pub type : TypeIs (key_at d row) (parent_count_at d row) new a
-  pub parents : (j : ℕ) → j < k → ParentIs t (parent_at d row j) n (reading.parent_at new (8 * a + j))
+  pub parents : (j : ℕ) → j < k → ParentIs t (parent_at d row j) n (reading.parent_at new a j)
 
 -- The first b of n types; w is the number of the word `self`.
-pub record Stands (t : Catalogue) (d : Draft) (entries : List ℕ) (n w b : ℕ) (l : Parents) : Type 0 where
+pub record Stands (t : Catalogue) (d : Draft) (entries : List Entry) (n w b : ℕ) (l : Parents) : Type 0 where
   pub count : l.count ≡ n
   pub self_word : l.self_word ≡ w
   pub type : (a : ℕ) → a < b → TypeIs (key_at d (row_of entries a)) (parent_count_at d (row_of entries a)) l a
-  pub parents : (a k : ℕ) → a < b → k < parent_count_at d (row_of entries a) → ParentIs t (parent_at d (row_of entries a) k) n (reading.parent_at l (8 * a + k))
+  pub parents : (a k : ℕ) → a < b → k < parent_count_at d (row_of entries a) → ParentIs t (parent_at d (row_of entries a) k) n (reading.parent_at l a k)

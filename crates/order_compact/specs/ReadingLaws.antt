@@ -1,5 +1,5 @@
 -- A filled form reads the map of the draft.
-use Rattle.std.specs.Prelude.{Bool, true, false, List, [], ◌∷◌, map, ◌≡◌, refl, ℕ, zero, suc, ◌+◌, ◌*◌, ◌%◌, ◌≤◌, ◌<◌, eqb, ltb, length, get_or}
+use Rattle.std.specs.Prelude.{Bool, true, false, List, [], ◌∷◌, map, ◌≡◌, refl, ℕ, zero, suc, ◌%◌, ◌≤◌, ◌<◌, eqb, ltb, length, get_or}
 use Rattle.std.proofs.Math.Path.{sym, ap}
 use Rattle.std.proofs.Common.{◌∙◌, subst, arith, eqb-true, lt-ltb, ltb-true}
 use Rattle.std.proofs.lemmas.Bool.{eqb-false}
@@ -11,15 +11,17 @@ use Rattle.definitions.specs.Records.{TypeInfo}
 use Rattle.definitions.specs.Comparisons.{same_name}
 use Rattle.definitions.specs.Map.{TypeMap}
 use Rattle.ordering.specs.Lists.{tab, tab-same, map-tab}
-use Rattle.ordering.specs.Reading.{Parent, listed, how_many, no_type, type_at, place_in, first_word, second_word, parent_in, Valid, ReadsType, Reads}
+use Rattle.ordering.specs.Reading.{listed, no_type, type_at, place_in, first_word, second_word, parent_in, ReadsType, Reads}
+use Rattle.ordering.specs.declared.Parent.{Parent}
 use Rattle.ordering.specs.Reading as reading
 use Rattle.ordering.specs.declared.Parents.{Parents}
 use Rattle.sheet_keys.specs.Keys.{name_of_key}
 use Rattle.sheet_draft.specs.Draft.{key_at, parent_count_at, parent_at}
-use Rattle.order_table.specs.Keys.{first_of, second_of}
+use Rattle.fields.specs.Keys.{first_of, second_of}
 use Rattle.catalogue.specs.Layout.{looked}
 use Rattle.catalogue.specs.declared.Catalogue.{Catalogue}
 use Rattle.sheet_draft.specs.declared.Draft.{Draft}
+use Rattle.sheet_draft.specs.declared.entry.Entry.{Entry}
 use Rattle.order_parents.specs.Parents.{row_of}
 use Rattle.order_parents.specs.Known.{Looks}
 use Rattle.order_compact.specs.Compact.{PlaceIs, Drafts, Stands}
@@ -71,21 +73,15 @@ parent x a b = record { place = x; first = a; second = b }
 same-parent : (x a b y c d : ℕ) → x ≡ y → a ≡ c → b ≡ d → parent x a b ≡ parent y c d
 same-parent x a b y c d e f g = rw (e, f, g)
 
-module _ (t : Catalogue) (d : Draft) (entries : List ℕ) (n w b : ℕ) (l : Parents) (s : Stands t d entries n w b l) (whole : n ≤ b) (a : Drafts d entries n) where
-  valid : Valid l
-  valid = record {
-    types = omega (arith, s.count, a.few);
-    parents = λ i h. let k = s.type i (omega (arith, whole, s.count)) in omega (arith, k.many);
-  }
-
+module _ (t : Catalogue) (d : Draft) (entries : List Entry) (n w b : ℕ) (l : Parents) (s : Stands t d entries n w b l) (whole : n ≤ b) (a : Drafts d entries n) where
   module _ (m : TypeMap) (g : Drawn m t d entries n w) where
-    parent_is : (i k : ℕ) → i < n → k < parent_count_at d (row_of entries i) → reading.parent_at l (8 * i + k) ≡ parent_in m (name_of_key (parent_at d (row_of entries i) k))
+    parent_is : (i k : ℕ) → i < n → k < parent_count_at d (row_of entries i) → reading.parent_at l i k ≡ parent_in m (name_of_key (parent_at d (row_of entries i) k))
     unfolding parent_in
     parent_is i k h e =
         let key = parent_at d (row_of entries i) k in
         let q = s.parents i k (omega (arith, whole)) e in
         same-parent _ _ _ _ _ _
-        (place-of-key m t key _ (g.rows.looks i k h e) (subst (λ (x : ℕ). PlaceIs (looked t key) x (reading.parent_at l (8 * i + k)).place) g.rows.count q.place))
+        (place-of-key m t key _ (g.rows.looks i k h e) (subst (λ (x : ℕ). PlaceIs (looked t key) x (reading.parent_at l i k).place) g.rows.count q.place))
         (q.first ∙ first-word key ((a.parents i h).keys k e))
         (q.second ∙ second-word key)
 
@@ -98,7 +94,7 @@ module _ (t : Catalogue) (d : Draft) (entries : List ℕ) (n w b : ℕ) (l : Par
           first = k.first ∙ first-word key (a.name i h) ∙ ap first_word (sym (g.names i h));
           second = k.second ∙ second-word key ∙ ap second_word (sym (g.names i h));
           parents =
-              ap (tab (λ j. reading.parent_at l (8 * i + j))) k.many
+              ap (tab (λ j. reading.parent_at l i j)) k.many
               ∙ tab-same _ _ (parent_count_at d (row_of entries i)) (λ j e. parent_is i j h e)
               ∙ sym (map-tab (parent_in m) (λ j. name_of_key (parent_at d (row_of entries i) j)) (parent_count_at d (row_of entries i)))
               ∙ ap (map (parent_in m)) (sym (g.rows.parents i h));
@@ -117,4 +113,4 @@ module _ (t : Catalogue) (d : Draft) (entries : List ℕ) (n w b : ℕ) (l : Par
     }
 
   pub stands_reads : Compacts t d entries n w l
-  stands_reads = record { valid = valid; reads = reads_all }
+  stands_reads = record { reads = reads_all }

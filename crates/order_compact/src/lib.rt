@@ -10,7 +10,7 @@ ghost use Rattle.order_compact.specs.Reading.{Compacts};
 
 use catalogue::Catalogue;
 use ordering::Parents;
-use sheet_draft::Draft;
+use sheet_draft::{Draft, Entry};
 
 // The place of the type that has a key; `count` where none has it (FORMAT 1.5), as the column of places has it.
 fn place_of(t: &Catalogue, key: u64, count: usize) -> usize
@@ -27,17 +27,18 @@ fn place_of(t: &Catalogue, key: u64, count: usize) -> usize
 // Type a, which is in a row of the draft: its name and the parents that it lists.
 #[tactic(auto, using(crate::specs::FillLaws::type_start, crate::specs::FillLaws::type_more))]
 fn put_type(l: &mut Parents, t: &Catalogue, d: &Draft, row: usize, a: usize)
-    requires bounds { (a < 64) × (l.old.count ≤ 64) × (key_at d.now row < 65536) }
+    requires bounds { (a < 64) × (key_at d.now row < 65536) }
     requires keys_of { KeysOf d.now row }
     ensures { TypePut t.now d.now row a l.old.count (parent_count_at d.now row) l.old l.new }
 {
     let count = l.count;
     let many = d.parent_count(row);
-    order_table::put_type(l, a, d.keys[row], many);
+    order_table::put_name(l, a, d.rows[row].key);
+    l.counts[a] = many as u16;
     for k in 0..many {
         let key = d.parent(row, k);
         let place = place_of(t, key, count);
-        order_table::put_parent(l, 8 * a + k, key, place);
+        order_table::put_parent(l, a, k, key, place);
     }
 }
 
@@ -46,7 +47,7 @@ pub fn fill(
     l: &mut Parents,
     t: &Catalogue,
     d: &Draft,
-    entries: &[u64; 64],
+    entries: &[Entry; 64],
     count: usize,
     self_word: u8,
 )
@@ -56,7 +57,6 @@ pub fn fill(
     l.count = count;
     l.self_word = self_word;
     for a in 0..count {
-        let row = (entries[a] % 64) as usize;
-        put_type(l, t, d, row, a);
+        put_type(l, t, d, entries[a].row, a);
     }
 }

@@ -1,5 +1,5 @@
 -- A draft, a catalogue and the map that they are of, computed: type `b` inherits `a`. The numbers of `a` and `b` are 2 and 3.
-use Rattle.std.specs.Prelude.{Bool, false, ◌&&◌, List, [], ◌∷◌, ◌≡◌, refl, ℕ, zero, suc, ◌+◌, ◌*◌, ◌^◌, ◌<◌, ltb, replicate}
+use Rattle.std.specs.Prelude.{Bool, false, ◌&&◌, List, [], ◌∷◌, ◌≡◌, refl, ℕ, zero, suc, ◌^◌, ◌<◌, ltb, replicate}
 use Rattle.std.proofs.Common.{sym, ap, ◌∙◌, not-suc-le-zero, arith, ne_eqb, le-ltb}
 use Rattle.rows.specs.Rows.{has_bit}
 use Rattle.rows.specs.RowLaws.{bit-one, bit-none}
@@ -11,8 +11,10 @@ use Rattle.ordering.specs.Reading.{type_at}
 use Rattle.catalogue.specs.Layout.{parents_at, looked, blank}
 use Rattle.catalogue.specs.declared.Catalogue.{Catalogue}
 use Rattle.sheet_draft.specs.declared.Draft.{Draft}
+use Rattle.sheet_draft.specs.declared.entry.Entry.{Entry}
 use Rattle.sheet_keys.specs.Keys.{name_of_key}
-use Rattle.sheet_draft.specs.Draft.{parent_count_at, parent_at}
+use Rattle.sheet_draft.specs.Draft.{no_row, parent_count_at, parent_at}
+use Rattle.sheet_draft.specs.Drafted.{no_entry}
 use Rattle.order_parents.specs.Parents.{row_of, KeysOf, Prepared}
 use Rattle.order_parents.specs.Known.{ParentSets, Looks, Rows}
 
@@ -24,10 +26,10 @@ pair = record { resource = 0; self = 1; types = typed 2 [] ∷ typed 3 ((2 ∷ [
 
 -- row 0 is `b`, with one parent, row 1 is `a`
 abbrev pub draft : Draft
-draft = record { keys = 768 ∷ 512 ∷ []; heads = 1 ∷ []; places = []; parents = 512 ∷ [] }
+draft = record { rows = record no_row { key = 768; head = 1; parents = 512 ∷ [] } ∷ record no_row { key = 512 } ∷ [] }
 
-abbrev pub entries : List ℕ
-entries = (512 * 64 + 1) ∷ (768 * 64) ∷ replicate 62 0
+abbrev pub entries : List Entry
+entries = record { key = 512; row = 1 } ∷ record { key = 768; row = 0 } ∷ replicate 62 no_entry
 
 -- the sets of their first words, and of those of one word
 abbrev pub names : Catalogue

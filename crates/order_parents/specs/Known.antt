@@ -13,6 +13,7 @@ use Rattle.sheet_draft.specs.Draft.{parent_count_at, parent_at}
 use Rattle.catalogue.specs.Layout.{parents_at, looked}
 use Rattle.catalogue.specs.declared.Catalogue.{Catalogue}
 use Rattle.sheet_draft.specs.declared.Draft.{Draft}
+use Rattle.sheet_draft.specs.declared.entry.Entry.{Entry}
 use Rattle.order_parents.specs.Parents.{row_of}
 
 -- Whether a listed parent is declared, and not `self` (FORMAT 3.2).
@@ -40,7 +41,7 @@ pub record Looks (m : TypeMap) (t : Catalogue) (key : ℕ) : Type 0 where
   pub bits : (b : ℕ) → has_bit (looked t key) b ≡ (ltb b (length m.types) && same_name (name_of_key key) (type_at m b).name)
 
 -- The draft has the parents of the map's types, the catalogue their names; `own` is the key of the name `self`.
-pub record Rows (m : TypeMap) (d : Draft) (entries : List ℕ) (n own : ℕ) (t : Catalogue) : Type 0 where
+pub record Rows (m : TypeMap) (d : Draft) (entries : List Entry) (n own : ℕ) (t : Catalogue) : Type 0 where
   pub few : n ≤ 64
   pub count : n ≡ length m.types
   pub self : own ≡ m.self * 256

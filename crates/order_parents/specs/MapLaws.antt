@@ -23,6 +23,7 @@ use Rattle.sheet_draft.specs.Draft.{parent_count_at, parent_at}
 use Rattle.catalogue.specs.Layout.{parents_at, looked}
 use Rattle.catalogue.specs.declared.Catalogue.{Catalogue}
 use Rattle.sheet_draft.specs.declared.Draft.{Draft}
+use Rattle.sheet_draft.specs.declared.entry.Entry.{Entry}
 use Rattle.order_parents.specs.Parents.{known_key, row_of, keys_in, ParentsPut}
 use Rattle.order_parents.specs.Known.{known, all_known, ParentSets, Childed, Looks, Rows}
 use Rattle.order_parents.specs.declared.Found.{Found}
@@ -82,7 +83,7 @@ module _ (m : TypeMap) (t : Catalogue) (own key : ℕ) (l : Looks m t key) (s : 
 
 -- ---- all types
 
-module _ (m : TypeMap) (d : Draft) (entries : List ℕ) (n own : ℕ) (old new : Catalogue) (r : Found) (w : Rows m d entries n own old) (q : ParentsPut d entries own n old new r) where
+module _ (m : TypeMap) (d : Draft) (entries : List Entry) (n own : ℕ) (old new : Catalogue) (r : Found) (w : Rows m d entries n own old) (q : ParentsPut d entries own n old new r) where
   -- the parents of one type
   looks-at : (a b : ℕ) → a < n → b < length m.types → any (λ key. has_bit (looked old key) b) (keys_in d (row_of entries a)) ≡ elem_name (type_at m b).name (type_at m a).parents
   unfolding keys_in

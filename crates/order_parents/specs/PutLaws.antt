@@ -14,6 +14,7 @@ use Rattle.sheet_draft.specs.Draft.{parent_count_at, parent_at}
 use Rattle.catalogue.specs.Layout.{looked}
 use Rattle.catalogue.specs.declared.Catalogue.{Catalogue}
 use Rattle.sheet_draft.specs.declared.Draft.{Draft}
+use Rattle.sheet_draft.specs.declared.entry.Entry.{Entry}
 use Rattle.order_parents.specs.Parents.{known_key, row_of, keys_in, ParentsOf, ParentsPut}
 use Rattle.order_parents.specs.declared.Found.{Found}
 
@@ -65,7 +66,7 @@ all-is : (f g : ℕ → Bool) (l : List ℕ) → ((x : ℕ) → f x ≡ g x) →
 all-is f g [] e = refl
 all-is f g (x ∷ l) e = ap₂ (λ (a b : Bool). a && b) (e x) (all-is f g l e)
 
-module _ (d : Draft) (entries : List ℕ) (own : ℕ) where
+module _ (d : Draft) (entries : List Entry) (own : ℕ) where
   known_same : (t old : Catalogue) (key : ℕ) → looked t key ≡ looked old key → known_key t own key ≡ known_key old own key
   unfolding known_key
   known_same t old key e = ap (λ (y : ℕ). not (eqb y 0) && not (eqb key own)) e

@@ -26,20 +26,22 @@ use Rattle.ordering.specs.Reading.{no_type, type_at}
 use Rattle.law_classes.specs.Sets as lines
 use Rattle.law_classes.specs.Sets.{some, one_word, SetIs}
 use Rattle.law_classes.specs.Numbers.{Fits}
-use Rattle.sheet_keys.specs.Keys.{name_of_key, names_from}
+use Rattle.sheet_keys.specs.Keys.{name_of_key}
 use Rattle.sheet_draft.specs.Draft.{parent_count_at, parent_at, type_in, types_in}
-use Rattle.sheet_draft.specs.Drafted.{Drafted}
+use Rattle.sheet_draft.specs.Drafted.{no_entry, Drafted, Entered}
+use Rattle.sheet_draft.specs.EnteredLaws.{row-below}
 use Rattle.catalogue.specs.Layout.{parents_at, first_at, second_at, looked}
 use Rattle.catalogue.specs.Catalogue.{first_is, second_is, Listed}
 use Rattle.catalogue.specs.declared.Catalogue.{Catalogue}
 use Rattle.sheet_draft.specs.declared.Draft.{Draft}
+use Rattle.sheet_draft.specs.declared.entry.Entry.{Entry}
 use Rattle.order_parents.specs.Parents.{row_of, Prepared}
 use Rattle.order_parents.specs.Known.{Looks, Rows, ParentSets, Childed}
 
 -- the types of the draft by name, by the entries
-abbrev pub ByName : Sheet → List Bool → Draft → List ℕ → ℕ → Type 0
+abbrev pub ByName : Sheet → List Bool → Draft → List Entry → ℕ → Type 0
 ByName s bs d entries n =
-    map (λ e. type_in (length s.words) bs d (e % 64)) (take n entries) ≡ sort (λ (T U : TypeInfo). name_before T.name U.name) (types_in (length s.words) bs d n)
+    map (λ e. type_in (length s.words) bs d e.row) (take n entries) ≡ sort (λ (T U : TypeInfo). name_before T.name U.name) (types_in (length s.words) bs d n)
 
 tabulate-tab : {A : Type 0} (f : ℕ → A) (n : ℕ) → tabulate f n ≡ tab f n
 unfolding tabulate
@@ -143,26 +145,26 @@ looks-of s t key w l k = record {
 
 -- ---- the draft
 
-module _ (s : Sheet) (bs : List Bool) (d : Draft) (entries : List ℕ) (n : ℕ) (r : Drafted s bs d n) (size : length entries ≡ 64) (o : ByName s bs d entries n) where
-  abbrev row_type : ℕ → TypeInfo
-  row_type e = type_in (length s.words) bs d (e % 64)
+module _ (s : Sheet) (bs : List Bool) (d : Draft) (entries : List Entry) (n : ℕ) (r : Drafted s bs d n) (en : Entered d entries n) (o : ByName s bs d entries n) where
+  abbrev row_type : Entry → TypeInfo
+  row_type e = type_in (length s.words) bs d e.row
 
   types_are : (type_map_of s).types ≡ map row_type (take n entries)
   unfolding type_map_of
   types_are = sym (o ∙ ap (sort (λ (T U : TypeInfo). name_before T.name U.name)) r.types)
 
   pub rows-count : length (type_map_of s).types ≡ n
-  rows-count = ap length types_are ∙ length-map (take n entries) row_type ∙ length-take-le n entries (omega (arith, r.few))
+  rows-count = ap length types_are ∙ length-map (take n entries) row_type ∙ length-take-le n entries (omega (arith, r.few, en.long))
 
   pub row-at : (a : ℕ) → a < n → type_at (type_map_of s) a ≡ type_in (length s.words) bs d (row_of entries a)
   row-at a h =
       ap (λ (l : List TypeInfo). get_or l a no_type) types_are
-      ∙ get_d_any (map row_type (take n entries)) a no_type (row_type 0) (omega (arith, length-map (take n entries) row_type, length-take-le n entries (omega (arith, r.few))))
-      ∙ get_or-map row_type (take n entries) a 0
-      ∙ ap row_type (get_or-take n entries a 0 h)
+      ∙ get_d_any (map row_type (take n entries)) a no_type (row_type no_entry) (omega (arith, length-map (take n entries) row_type, length-take-le n entries (omega (arith, r.few, en.long))))
+      ∙ get_or-map row_type (take n entries) a no_entry
+      ∙ ap row_type (get_or-take n entries a no_entry h)
 
   parents-at : (a : ℕ) → a < n → (type_at (type_map_of s) a).parents ≡ tabulate (λ k. name_of_key (parent_at d (row_of entries a) k)) (parent_count_at d (row_of entries a))
-  unfolding type_in names_from
+  unfolding type_in
   parents-at a h = ap (λ (T : TypeInfo). T.parents) (row-at a h)
 
   key-at : Within s → (a k : ℕ) → a < n → k < parent_count_at d (row_of entries a) → KeyWithin (length s.words) (parent_at d (row_of entries a) k)
@@ -175,7 +177,7 @@ module _ (s : Sheet) (bs : List Bool) (d : Draft) (entries : List ℕ) (n : ℕ)
   prepared-of w = record {
     few = r.few;
     keys = λ a h. record {
-      place = omega arith;
+      place = omega (arith, row-below d entries n r.few en a h, r.few);
       keys = λ k l. let e = key-at w a k h l in omega (arith, e.first, w.words);
     };
   }

@@ -5,7 +5,7 @@ ghost use Rattle.std.specs.Prelude.{◌&&◌, not, ◌≡◌, eqb};
 ghost use Rattle.order_parents.specs.Parents.{KeysOf, Prepared, ParentsOf, ParentsPut};
 
 use catalogue::Catalogue;
-use sheet_draft::Draft;
+use sheet_draft::{Draft, Entry};
 
 // A set of parents; and whether each name that was listed for it is that of a declared type, and not `self`. The set has the
 // declared parents also where some name is not.
@@ -43,7 +43,7 @@ fn parents_of(t: &Catalogue, d: &Draft, row: usize, own: u64) -> Found
 pub fn put_parents(
     t: &mut Catalogue,
     d: &Draft,
-    entries: &[u64; 64],
+    entries: &[Entry; 64],
     count: usize,
     own: u64,
 ) -> Found
@@ -53,8 +53,7 @@ pub fn put_parents(
     let mut set: u64 = 0;
     let mut whole = true;
     for a in 0..count {
-        let row = (entries[a] % 64) as usize;
-        let found = parents_of(t, d, row, own);
+        let found = parents_of(t, d, entries[a].row, own);
         t.parents[a] = found.set;
         set |= found.set;
         whole &= found.whole;

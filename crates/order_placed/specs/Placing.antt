@@ -3,7 +3,8 @@ use Rattle.std.specs.Prelude.{Bool, true, false, ◌&&◌, not, ◌⊎◌, ◌�
 use Rattle.lists.specs.Lists.{any, all}
 use Rattle.rows.specs.Rows.{has_bit}
 use Rattle.ordering.specs.Lists.{elem, below}
-use Rattle.ordering.specs.Reading.{Parent, listed, self_in}
+use Rattle.ordering.specs.Reading.{listed, self_in}
+use Rattle.ordering.specs.declared.Parent.{Parent}
 use Rattle.ordering.specs.Rounds.{placed, final}
 use Rattle.ordering.specs.declared.Parents.{Parents}
 

@@ -4,7 +4,7 @@ use Rattle.std.proofs.Math.Bool.{true, not, or-false, or-true}
 use mathlib.Core.List.{List, [], ◌∷◌, ◌++◌}
 use Rattle.std.proofs.Common.{inl, inr, ⊎_elim, sym, ◌∙◌, arith}
 use Rattle.std.proofs.Math.Path.{refl, ap, subst}
-use Prim.Native.Nat.{ℕ, zero, suc, ◌+◌, ◌*◌, ◌<◌}
+use Prim.Native.Nat.{ℕ, zero, suc, ◌+◌, ◌<◌}
 use borrow.Author.Tests.{eq-eqb, ne_eqb, eqb-true, eqb-false, lt-ltb, not-true}
 use Rattle.lists.specs.Lists.{any, all, null}
 use Rattle.lists.specs.Tests.{by, never, same_test, and_left, and_right, and_both, or_elim, or_right}
@@ -14,7 +14,8 @@ use Rattle.rows.specs.RowLaws.{bit-none}
 use Rattle.bitsets.specs.Bitsets.{more}
 use Rattle.bitsets.specs.BitLaws.{bit-more}
 use Rattle.ordering.specs.Lists.{all-imp, tab, all-tab-in, all-tab-of, any-tab-out, elem, only, below, below_in, below_one, below_split, below-same}
-use Rattle.ordering.specs.Reading.{Parent, parent_at, how_many, listed, self_in}
+use Rattle.ordering.specs.Reading.{parent_at, how_many, listed, self_in}
+use Rattle.ordering.specs.declared.Parent.{Parent}
 use Rattle.ordering.specs.Rounds.{settled, is_ready, free, next, round, placed, final, stays, was, earlier, final-rests}
 use Rattle.ordering.specs.declared.Parents.{Parents}
 use Rattle.order_placed.specs.Placing.{settled_in, free_in, off, Plain, Sound, Closed, Joined, Passed, PlacedAll}
@@ -82,12 +83,12 @@ module _ (p : Parents) where
   plain-less k h x e = h x (stays p k x e)
 
   -- the parents of a placed type were placed before it
-  pub parent_in : (k t i : ℕ) → Plain p (suc k) → elem t (placed p (suc k)) ≡ true → i < how_many p t → elem (parent_at p (8 * t + i)).place (placed p k) ≡ true
+  pub parent_in : (k t i : ℕ) → Plain p (suc k) → elem t (placed p (suc k)) ≡ true → i < how_many p t → elem (parent_at p t i).place (placed p k) ≡ true
   unfolding is_ready listed
   parent_in k t i h e l =
-      or_elim (self_in p (parent_at p (8 * t + i))) (elem (parent_at p (8 * t + i)).place (placed p k))
-      (all-tab-in (λ j. parent_at p (8 * t + j)) (settled p (placed p k)) (how_many p t) i (was p k t e).1 l)
-      (λ q. never q (any-tab-out (λ j. parent_at p (8 * t + j)) (self_in p) (how_many p t) i (h t e) l))
+      or_elim (self_in p (parent_at p t i)) (elem (parent_at p t i).place (placed p k))
+      (all-tab-in (λ j. parent_at p t j) (settled p (placed p k)) (how_many p t) i (was p k t e).1 l)
+      (λ q. never q (any-tab-out (λ j. parent_at p t j) (self_in p) (how_many p t) i (h t e) l))
       (λ q. q)
 
   -- a type whose parents are all placed is placed
@@ -160,11 +161,11 @@ module _ (p : Parents) where
       by (has_bit out x)
       (λ f. f)
       (λ f.
-      let a : all (settled_in p out) (tab (λ j. parent_at p (8 * x + j)) (how_many p x)) ≡ true =
-      all-tab-of (λ j. parent_at p (8 * x + j)) (settled_in p out) (how_many p x)
+      let a : all (settled_in p out) (tab (λ j. parent_at p x j) (how_many p x)) ≡ true =
+      all-tab-of (λ j. parent_at p x j) (settled_in p out) (how_many p x)
       (λ i l.
       let r = parent_in k x i n e l in
-      and_both (lt-ltb _ _ (earlier p k (parent_at p (8 * x + i)).place r).0) (complete out c k (plain-less k n) (parent_at p (8 * x + i)).place r)) in
+      and_both (lt-ltb _ _ (earlier p k (parent_at p x i).place r).0) (complete out c k (plain-less k n) (parent_at p x i).place r)) in
       never (rw (f, a)) (c.none x (earlier p (suc k) x e).0))
 
   pub placed-all : (out : ℕ) → Sound p out → Closed p out p.count → PlacedAll p out

@@ -4,7 +4,7 @@
 
 ghost use Rattle.std.specs.Prelude.{◌≡◌, not, ◌<◌};
 ghost use Rattle.lists.specs.Lists.{any, all, null};
-ghost use Rattle.ordering.specs.Reading.{Valid, listed, self_in};
+ghost use Rattle.ordering.specs.Reading.{listed, self_in};
 ghost use Rattle.ordering.specs.Rounds.{placed, lists_self};
 ghost use Rattle.order_placed.specs.Placing.{free_in, Passed, PlacedAll};
 
@@ -12,16 +12,14 @@ use ordering::Parents;
 
 // Whether type t lists a parent as `self`.
 fn lists_self(l: &Parents, t: usize) -> bool
-    requires valid { Valid l.now }
-    requires t_bound { t < l.now.count }
+    requires { t < l.now.count }
     ensures { result ≡ any (self_in l.now) (listed l.now t) }
 {
-    (0..usize::from(l.counts[t])).any(|i| l.is_self(8 * t + i))
+    (0..usize::from(l.counts[t])).any(|i| l.is_self(t, i))
 }
 
 // Whether a parent is listed as `self`.
 pub fn inherits_self(l: &Parents) -> bool
-    requires { Valid l.now }
     ensures { result ≡ lists_self l.now }
 {
     (0..l.count).any(|t| lists_self(l, t))
@@ -29,16 +27,14 @@ pub fn inherits_self(l: &Parents) -> bool
 
 // Whether type t lists no parent but `self`, which holds no type back (FORMAT 3.4).
 fn lists_only_self(l: &Parents, t: usize) -> bool
-    requires valid { Valid l.now }
-    requires t_bound { t < l.now.count }
+    requires { t < l.now.count }
     ensures { result ≡ all (self_in l.now) (listed l.now t) }
 {
-    (0..usize::from(l.counts[t])).all(|i| l.is_self(8 * t + i))
+    (0..usize::from(l.counts[t])).all(|i| l.is_self(t, i))
 }
 
 // Whether round one places a type.
 pub fn first_places(l: &Parents) -> bool
-    requires { Valid l.now }
     ensures { result ≡ not (null (placed l.now 1)) }
 {
     (0..l.count).any(|t| lists_only_self(l, t))
@@ -46,8 +42,7 @@ pub fn first_places(l: &Parents) -> bool
 
 // Whether type t is not placed, and each parent of it is a type that is.
 fn is_free(l: &Parents, t: usize, out: u64) -> bool
-    requires valid { Valid l.now }
-    requires t_bound { t < l.now.count }
+    requires { t < l.now.count }
     ensures { result ≡ free_in l.now out t }
 {
     if bitsets::has(out, t) {
@@ -62,7 +57,6 @@ fn is_free(l: &Parents, t: usize, out: u64) -> bool
 // The placed types, with those that are free when their turn comes. A type joins at once, and not at the end of a round: the set
 // that remains is the same.
 fn place_more(l: &Parents, from: u64) -> u64
-    requires { Valid l.now }
     ensures { Passed l.now from result }
 {
     let mut out = from;
@@ -76,7 +70,6 @@ fn place_more(l: &Parents, from: u64) -> u64
 
 // What all rounds place, where no placed type lists `self`.
 pub fn place_all(l: &Parents) -> u64
-    requires { Valid l.now }
     ensures { PlacedAll l.now result }
 {
     let mut out: u64 = 0;

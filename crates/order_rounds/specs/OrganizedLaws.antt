@@ -15,7 +15,8 @@ use Rattle.definitions.specs.Comparisons.{same_name}
 use Rattle.definitions.specs.Map.{TypeMap}
 use Rattle.definitions.specs.Order.{is_self, inherits_self, has_order, organize_type_map}
 use Rattle.ordering.specs.Lists.{elem, same-list-sym}
-use Rattle.ordering.specs.Reading.{Parent, listed, no_type, type_at, place_in, parent_in, Reads}
+use Rattle.ordering.specs.Reading.{listed, no_type, type_at, place_in, parent_in, Reads}
+use Rattle.ordering.specs.declared.Parent.{Parent}
 use Rattle.ordering.specs.Compact.{compact_of, Within, compact-reads}
 use Rattle.ordering.specs.Names.{place_same, self-lists, order-found, order_is, whole-order, no_self}
 use Rattle.ordering.specs.Rounds.{final, count-full}
@@ -71,29 +72,29 @@ module _ (m : TypeMap) (k : all_known m ≡ true) where
 
 module _ (m : TypeMap) (t : Catalogue) (n : ℕ) (h : Holds m t n true) where
   abbrev p : Parents
-  p = compact_of m
+  p = compact_of m h.within
 
-  reads : Reads (compact_of m) m
+  reads : Reads (compact_of m h.within) m
   reads = compact-reads m h.within
 
-  many : (compact_of m).count ≡ n
+  many : (compact_of m h.within).count ≡ n
   many = reads.count ∙ sym h.count
 
   -- the places of the parents, as a test
-  listed-are : (a b : ℕ) → a < n → any (λ (q : Parent). eqb q.place b) (listed (compact_of m) a) ≡ any (λ (x : Name). eqb (place_in m x) b) (type_at m a).parents
+  listed-are : (a b : ℕ) → a < n → any (λ (q : Parent). eqb q.place b) (listed (compact_of m h.within) a) ≡ any (λ (x : Name). eqb (place_in m x) b) (type_at m a).parents
   unfolding parent_in
   listed-are a b l =
       ap (any (λ (q : Parent). eqb q.place b)) (reads.types a (omega (arith, many))).parents
       ∙ any-map (λ (q : Parent). eqb q.place b) (parent_in m) (type_at m a).parents
 
-  bits_are : (a b : ℕ) → a < n → has_bit (parents_at t a) b ≡ any (λ (q : Parent). eqb q.place b) (listed (compact_of m) a)
+  bits_are : (a b : ℕ) → a < n → has_bit (parents_at t a) b ≡ any (λ (q : Parent). eqb q.place b) (listed (compact_of m h.within) a)
   bits_are a b l =
       by (ltb b n)
       (λ e.
       let k = ltb-true b n e in
       h.sets.bits a b (omega (arith, h.count)) (omega (arith, h.count))
       ∙ any-is (same_name (type_at m b).name) (λ (x : Name). eqb (place_in m x) b) (type_at m a).parents
-      (λ x. same-list-sym (type_at m b).name x ∙ place_same (compact_of m) m reads x b (omega (arith, many)))
+      (λ x. same-list-sym (type_at m b).name x ∙ place_same (compact_of m h.within) m reads x b (omega (arith, many)))
       ∙ sym (listed-are a b l))
       (λ e.
       let k = ltb-false b n e in
@@ -102,33 +103,33 @@ module _ (m : TypeMap) (t : Catalogue) (n : ℕ) (h : Holds m t n true) where
       (λ x j. ne_eqb (place_in m x) b (λ q. omega (arith, h.count, known-place m (sym h.known) a (omega (arith, h.count)) x j))))
       ∙ sym (listed-are a b l))
 
-  pub sets-for : SetsFor (compact_of m) t n
+  pub sets-for : SetsFor (compact_of m h.within) t n
   sets-for = record {
     few = omega (arith, h.count, h.within.most);
     count = many;
     most = λ a l. h.sets.most a (omega (arith, h.count));
     bits = bits_are;
-    no_self = sym (self-lists (compact_of m) m reads) ∙ known-self m (sym h.known);
+    no_self = sym (self-lists (compact_of m h.within) m reads) ∙ known-self m (sym h.known);
   }
 
 -- ---- where there is an order, each parent is known
 
 module _ (m : TypeMap) (w : Within m) (e : has_order m ≡ true) where
-  there : Reads (compact_of m) m
+  there : Reads (compact_of m w) m
   there = compact-reads m w
 
-  lower : (a : ℕ) → a < length m.types → all (λ (q : Parent). ltb q.place (length m.types)) (listed (compact_of m) a) ≡ true
+  lower : (a : ℕ) → a < length m.types → all (λ (q : Parent). ltb q.place (length m.types)) (listed (compact_of m w) a) ≡ true
   lower a l =
       let r = there in
-      let k : a < (compact_of m).count = omega (arith, r.count) in
-      all_of (λ (q : Parent). ltb q.place (length m.types)) (listed (compact_of m) a)
-      (λ q i. lt-ltb q.place (length m.types) (omega (arith, r.count, (all-below (compact_of m) (whole-order (compact_of m) m r e) (no_self (compact_of m) m r e) a k).lower q i)))
+      let k : a < (compact_of m w).count = omega (arith, r.count) in
+      all_of (λ (q : Parent). ltb q.place (length m.types)) (listed (compact_of m w) a)
+      (λ q i. lt-ltb q.place (length m.types) (omega (arith, r.count, (all-below (compact_of m w) (whole-order (compact_of m w) m r e) (no_self (compact_of m w) m r e) a k).lower q i)))
 
   declared : (a : ℕ) → a < length m.types → (x : Name) → In x (type_at m a).parents → any (λ (T : TypeInfo). same_name x T.name) m.types ≡ true
   unfolding place_in parent_in
   declared a l x j =
       let r = there in
-      let k : a < (compact_of m).count = omega (arith, r.count) in
+      let k : a < (compact_of m w).count = omega (arith, r.count) in
       let b = sym (all_map (λ (q : Parent). ltb q.place (length m.types)) (parent_in m) (type_at m a).parents) ∙ ap (all (λ (q : Parent). ltb q.place (length m.types))) (sym (r.types a k).parents) ∙ lower a l in
       any_below (λ (T : TypeInfo). same_name x T.name) m.types
       (ltb-true _ _ (all_in (λ (y : Name). ltb (place_in m y) (length m.types)) b j))
@@ -170,26 +171,26 @@ asked-true : (t : Catalogue) (n : ℕ) (w : Bool) → w ≡ true → Asked t n w
 asked-true t n w z a = record { map = a.map; holds = holds-true t n w z a.map a.holds }
 
 pub some-sets : (t : Catalogue) (n : ℕ) (w : Bool) → w ≡ true → Asked t n w → Sets t n
-some-sets t n w z a = record { compact = compact_of a.map; right = sets-for a.map t n (holds-true t n w z a.map a.holds) }
+some-sets t n w z a = let h = holds-true t n w z a.map a.holds in record { compact = compact_of a.map h.within; right = sets-for a.map t n h }
 
 module _ (t : Catalogue) (n : ℕ) (order : List ℕ) (r : ℕ) (a : Asked t n true) (q : Placed t n order r) where
   found-is : (m : TypeMap) → Holds m t n true → eqb r n ≡ has_order m
   found-is m h =
       let s = sets-for m t n h in
       let c = compact-reads m h.within in
-      sym (order-found (compact_of m) m c ∙ ap₂ (λ (x : Bool) (y : ℕ). not x && eqb y (compact_of m).count) s.no_self (sym (q.count (compact_of m) s)) ∙ ap (eqb r) s.count)
+      sym (order-found (compact_of m h.within) m c ∙ ap₂ (λ (x : Bool) (y : ℕ). not x && eqb y (compact_of m h.within).count) s.no_self (sym (q.count (compact_of m h.within) s)) ∙ ap (eqb r) s.count)
 
   names-are : (m : TypeMap) → Holds m t n true → r ≡ n → map (λ (b : ℕ). (type_at m b).name) (take n order) ≡ organize_type_map m
   names-are m h e =
       let s = sets-for m t n h in
-      ap (map (λ (b : ℕ). (type_at m b).name)) (ap (λ (k : ℕ). take k order) (sym e) ∙ q.places (compact_of m) s)
-      ∙ sym (order_is (compact_of m) m (compact-reads m h.within))
+      ap (map (λ (b : ℕ). (type_at m b).name)) (ap (λ (k : ℕ). take k order) (sym e) ∙ q.places (compact_of m h.within) s)
+      ∙ sym (order_is (compact_of m h.within) m (compact-reads m h.within))
 
   module _ (e : r ≡ n) where
     abbrev one : Parents
-    one = compact_of a.map
+    one = compact_of a.map a.holds.within
 
-    right : SetsFor (compact_of a.map) t n
+    right : SetsFor (compact_of a.map a.holds.within) t n
     right = sets-for a.map t n a.holds
 
     whole : take n order ≡ final one

@@ -4,7 +4,8 @@ use Rattle.lists.specs.Lists.{any, all}
 use Rattle.rows.specs.Rows.{has_bit}
 use Rattle.bitsets.specs.Bitsets.{members}
 use Rattle.ordering.specs.Lists.{elem}
-use Rattle.ordering.specs.Reading.{Parent, listed}
+use Rattle.ordering.specs.Reading.{listed}
+use Rattle.ordering.specs.declared.Parent.{Parent}
 use Rattle.ordering.specs.Rounds.{lists_self, final}
 use Rattle.ordering.specs.declared.Parents.{Parents}
 use Rattle.catalogue.specs.Layout.{parents_at}

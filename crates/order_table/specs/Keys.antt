@@ -1,8 +1,7 @@
--- The words of a key, 255 for one that it lacks.
-use Rattle.std.specs.Prelude.{ℕ, ◌+◌, ◌/◌, ◌%◌}
+-- The listed parent that has the words of a key, and a place.
+use Rattle.std.specs.Prelude.{ℕ}
+use Rattle.fields.specs.Keys.{first_of, second_of}
+use Rattle.ordering.specs.declared.Parent.{Parent}
 
-abbrev pub first_of : ℕ → ℕ
-first_of key = key / 256 % 256
-
-abbrev pub second_of : ℕ → ℕ
-second_of key = (key % 256 + 255) % 256
+abbrev pub parent_of : ℕ → ℕ → Parent
+parent_of key place = record { place = place; first = first_of key; second = second_of key }

@@ -1,11 +1,13 @@
 -- A map and the compact form that reads it, computed.
 -- Words `a`, `b`, `resource`, `self`, `zz`. Type `a` inherits `self` and `zz`, type `b` inherits `b.a`, `a` and itself, type
 -- `b.a` nothing.
-use Rattle.std.specs.Prelude.{false, List, [], ◌∷◌, ◌++◌, refl, ℕ, zero, suc, ◌<◌, replicate}
+use Rattle.std.specs.Prelude.{false, List, [], ◌∷◌, ◌++◌, refl, ℕ, zero, suc, ◌<◌, take, replicate}
 use Rattle.std.proofs.Common.{arith}
 use Rattle.definitions.specs.Records.{Name, domain, TypeInfo}
 use Rattle.definitions.specs.Map.{TypeMap}
-use Rattle.ordering.specs.Reading.{listed, place_in, parent_in, ReadsType, Reads}
+use Rattle.ordering.specs.Lists.{all_most}
+use Rattle.ordering.specs.Reading.{no_parent, listed, place_in, parent_in, ReadsType, Reads}
+use Rattle.ordering.specs.declared.Parent.{Parent}
 use Rattle.ordering.specs.declared.Parents.{Parents}
 
 abbrev pub under : Name → List Name → TypeInfo
@@ -19,7 +21,13 @@ small = record {
   extensions = [];
 }
 
--- eight places for the parents of each type
+-- a listed parent, and the eight of a type
+abbrev pub parent : ℕ → ℕ → ℕ → Parent
+parent x a b = record { place = x; first = a; second = b }
+
+abbrev pub eight : List Parent → List Parent
+eight l = take 8 (l ++ replicate 8 no_parent)
+
 abbrev pub compact : Parents
 compact = record {
   count = 3;
@@ -27,9 +35,9 @@ compact = record {
   firsts = 0 ∷ 1 ∷ 1 ∷ replicate 61 0;
   seconds = 255 ∷ 255 ∷ 0 ∷ replicate 61 0;
   counts = 2 ∷ 3 ∷ 0 ∷ replicate 61 0;
-  places = 3 ∷ 3 ∷ replicate 6 0 ++ (2 ∷ 0 ∷ 1 ∷ replicate 501 0);
-  parent_firsts = 3 ∷ 4 ∷ replicate 6 0 ++ (1 ∷ 0 ∷ 1 ∷ replicate 501 0);
-  parent_seconds = 255 ∷ 255 ∷ replicate 6 0 ++ (0 ∷ 255 ∷ 255 ∷ replicate 501 0);
+  parents = eight (parent 3 3 255 ∷ parent 3 4 255 ∷ []) ∷ eight (parent 2 1 0 ∷ parent 0 0 255 ∷ parent 1 1 255 ∷ []) ∷ replicate 62 (eight []);
+  few = omega arith;
+  short = all_most 8 (2 ∷ 3 ∷ 0 ∷ replicate 61 0) refl;
 }
 
 small-types : (t : ℕ) → t < 3 → ReadsType compact small t

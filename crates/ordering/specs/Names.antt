@@ -17,7 +17,8 @@ use Rattle.definitions.specs.Map.{TypeMap}
 use Rattle.definitions.specs.Order.{is_self, ready, pass, passes, last_pass, inherits_self, has_order, organize_type_map}
 use Rattle.definitions.specs.OrderRows.{type_named}
 use Rattle.ordering.specs.Lists.{all_same, any_same, any_at, same-list-sym, tab-get_d, any-tab-same, elem, below, below-same, below_one, below_none, below-full, below_in, below_all, filter-below, map_below}
-use Rattle.ordering.specs.Reading.{Parent, listed, self_in, no_type, type_at, place_in, parent_in, is_name, Reads}
+use Rattle.ordering.specs.Reading.{listed, self_in, no_type, type_at, place_in, parent_in, is_name, Reads}
+use Rattle.ordering.specs.declared.Parent.{Parent}
 use Rattle.ordering.specs.Rounds.{settled, is_ready, free, next, round, placed, final, lists_self, placed_below, next-is, count}
 use Rattle.ordering.specs.declared.Parents.{Parents}
 

@@ -1,14 +1,20 @@
 -- How the compact form reads a type map.
-use Rattle.std.specs.Prelude.{Bool, true, false, ◌&&◌, List, [], map, ◌≡◌, ℕ, ◌+◌, ◌*◌, ◌≤◌, ◌<◌, eqb, ltb, length, get_or, replicate}
+use Rattle.std.specs.Prelude.{Bool, true, false, ◌&&◌, List, [], map, ◌≡◌, refl, ℕ, ◌≤◌, ◌<◌, eqb, ltb, length, get_or, replicate}
+use Rattle.std.proofs.Common.{zero-le}
 use Rattle.lists.specs.Lists.{all, repeats, place_of}
 use Rattle.definitions.specs.Records.{Name, domain, TypeInfo}
 use Rattle.definitions.specs.Comparisons.{same_name}
 use Rattle.definitions.specs.Map.{TypeMap}
 use Rattle.definitions.specs.Packing.{name_bytes}
-use Rattle.ordering.specs.Lists.{tab, tab-length}
+use Rattle.ordering.specs.Lists.{tab, tab-length, all_most}
+use Rattle.ordering.specs.declared.Parent.{Parent}
 use Rattle.ordering.specs.declared.Parents.{Parents}
 
 -- ---- the compact form by itself
+
+-- no parent
+abbrev pub no_parent : Parent
+no_parent = record { place = 0; first = 0; second = 0 }
 
 -- the form of no types
 unfoldable pub blank : Parents
@@ -18,40 +24,29 @@ blank = record {
   firsts = replicate 64 0;
   seconds = replicate 64 0;
   counts = replicate 64 0;
-  places = replicate 512 0;
-  parent_firsts = replicate 512 0;
-  parent_seconds = replicate 512 0;
+  parents = replicate 64 (replicate 8 no_parent);
+  few = zero-le;
+  short = all_most 8 (replicate 64 0) refl;
 }
 
--- a listed parent: the place of the type that it names, and its words
-pub record Parent : Type 0 where
-  pub place : ℕ
-  pub first : ℕ
-  pub second : ℕ
-
--- the parent at a place of the arrays
-abbrev pub parent_at : Parents → ℕ → Parent
-parent_at p at = record { place = get_or p.places at 0; first = get_or p.parent_firsts at 0; second = get_or p.parent_seconds at 0 }
+-- parent i of type t
+abbrev pub parent_at : Parents → ℕ → ℕ → Parent
+parent_at p t i = get_or (get_or p.parents t []) i no_parent
 
 -- how many parents type t lists, and these, in their order
 abbrev pub how_many : Parents → ℕ → ℕ
 how_many p t = get_or p.counts t 0
 
 unfoldable pub listed : Parents → ℕ → List Parent
-listed p t = tab (λ i. parent_at p (8 * t + i)) (how_many p t)
+listed p t = tab (λ i. parent_at p t i) (how_many p t)
 
 pub listed-length : (p : Parents) (t : ℕ) → length (listed p t) ≡ how_many p t
 unfolding listed
-listed-length p t = tab-length (λ i. parent_at p (8 * t + i)) (how_many p t)
+listed-length p t = tab-length (λ i. parent_at p t i) (how_many p t)
 
 -- a parent that is spelled `self`
 abbrev pub self_in : Parents → Parent → Bool
 self_in p q = eqb q.first p.self_word && eqb q.second 255
-
--- the counts are within the arrays
-pub record Valid (p : Parents) : Type 0 where
-  pub types : p.count ≤ 64
-  pub parents : (t : ℕ) → t < p.count → how_many p t ≤ 8
 
 -- ---- the type map that it stands for
 
@@ -97,6 +92,3 @@ pub record Reads (p : Parents) (m : TypeMap) : Type 0 where
   pub word : m.self < 255
   pub distinct : repeats (λ (T U : TypeInfo). same_name T.name U.name) m.types ≡ false
   pub types : (t : ℕ) → t < p.count → ReadsType p m t
-
-pub valid : (p : Parents) (m : TypeMap) → Reads p m → Valid p
-valid p m r = record { types = r.most; parents = λ t h. (r.types t h).most }

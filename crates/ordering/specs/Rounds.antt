@@ -9,7 +9,8 @@ use Rattle.lists.specs.Lists.{any, all}
 use Rattle.lists.specs.Tests.{never, same_test, and_left, and_right, or_elim, or_left, or_right}
 use Rattle.lists.specs.Appending.{any_append}
 use Rattle.ordering.specs.Lists.{all-imp, elem, elem-left, elem-cases, all_of, tab, below, below_in, below-is, below-most, below_none, below-full, below_split}
-use Rattle.ordering.specs.Reading.{Parent, listed, self_in}
+use Rattle.ordering.specs.Reading.{listed, self_in}
+use Rattle.ordering.specs.declared.Parent.{Parent}
 use Rattle.ordering.specs.declared.Parents.{Parents}
 
 -- a parent that holds its child back no longer: it is `self`, or placed

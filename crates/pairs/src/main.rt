@@ -4,10 +4,10 @@
 // between them.
 #![tactic(auto)]
 
-ghost use Rattle.std.specs.Prelude.{◌<◌, ◌≤◌, IfOk};
-ghost use Rattle.annotations.specs.Reading.{Held};
+ghost use Rattle.std.specs.Prelude.{◌≤◌};
 
 use annotations::AnnotationInfo;
+use records::Kind;
 use std::fmt::Display;
 use std::io::{BufReader, BufWriter, Read, Write};
 use std::{fmt, io};
@@ -19,7 +19,7 @@ struct Numbers<'a>(&'a AnnotationInfo);
 impl fmt::Display for Numbers<'_> {
     fn fmt<W: fmt::Write>(&self, f: &mut fmt::Formatter<W>) -> fmt::Result {
         let x = self.0;
-        write!(f, "{} {} {}", x.kind, x.tag, x.count)?;
+        write!(f, "{} {} {}", x.kind.number(), x.tag, x.count)?;
         for (word, dom) in x.words.iter().zip(x.doms.iter()).take(x.count) {
             write!(f, " {word} {}", dom.a)?;
         }
@@ -42,12 +42,11 @@ impl fmt::Display for Part {
 
 fn read_resources<R: Read>(
     input: &mut R,
-    kind: u8,
+    kind: Kind,
     tag: u8,
     count: usize,
 ) -> io::Result<AnnotationInfo>
-    requires { (kind < 7) × (count ≤ 15) }
-    ensures { IfOk result (λ x. Held x) }
+    requires { count ≤ 15 }
 {
     let none = rows::empty_row();
     let mut words = [0u8; 15];
@@ -67,11 +66,14 @@ fn read_resources<R: Read>(
 }
 
 // A kind past the last one counts as it, and more than 15 words as 15.
-fn read_annotation<R: Read>(input: &mut R, head: [u8; 3]) -> io::Result<AnnotationInfo>
-    ensures { IfOk result (λ x. Held x) }
-{
+fn read_annotation<R: Read>(input: &mut R, head: [u8; 3]) -> io::Result<AnnotationInfo> {
     let [kind, tag, count] = head;
-    read_resources(input, kind.min(6), tag, usize::from(count.min(15)))
+    read_resources(
+        input,
+        Kind::of(usize::from(kind.min(6))),
+        tag,
+        usize::from(count.min(15)),
+    )
 }
 
 // Two annotations that can be compared.
@@ -79,8 +81,6 @@ fn read_annotation<R: Read>(input: &mut R, head: [u8; 3]) -> io::Result<Annotati
 struct Pair {
     x: AnnotationInfo,
     y: AnnotationInfo,
-    ghost first: { Held x },
-    ghost second: { Held y },
 }
 
 impl Pair {

@@ -11,7 +11,8 @@ use Rattle.std.proofs.lemmas.List.{take-append-le}
 use Rattle.std.proofs.Math.Seq.{take-append-add, get_or-append-add}
 use Rattle.lists.specs.Lists.{In, any}
 use Rattle.ordering.specs.Lists.{all-imp, elem, elem-left, elem_at, any-tab-out, below-is}
-use Rattle.ordering.specs.Reading.{Parent, listed, self_in}
+use Rattle.ordering.specs.Reading.{listed, self_in}
+use Rattle.ordering.specs.declared.Parent.{Parent}
 use Rattle.ordering.specs.Rounds.{settled, is_ready, free, next, round, placed, final, lists_self, earlier, count-full}
 use Rattle.ordering.specs.declared.Parents.{Parents}
 use Rattle.lists.specs.Tests as tests

@@ -1,12 +1,13 @@
 -- A map and its compact form: what is asked of them is no empty demand.
 -- Type `a`, type `b` under `a`, type `c` under `b`, listed twice.
-use mathlib.Core.List.{List, [], ◌∷◌, ◌++◌}
+use mathlib.Core.List.{List, [], ◌∷◌}
 use Rattle.std.specs.Prelude.{refl, ℕ, zero, suc, ◌<◌, replicate}
 use Rattle.std.proofs.Common.{arith}
 use Rattle.lists.specs.Tests.{cons-elim}
 use Rattle.definitions.specs.Map.{TypeMap}
+use Rattle.ordering.specs.Lists.{all_most}
 use Rattle.ordering.specs.Reading.{listed, place_in, parent_in, ReadsType, Reads}
-use Rattle.ordering.specs.Instance.{under}
+use Rattle.ordering.specs.Instance.{under, parent, eight}
 use Rattle.ordering.specs.declared.Parents.{Parents}
 use Rattle.parent_laws.specs.Placed.{ParentsBelow}
 
@@ -25,9 +26,9 @@ chained = record {
   firsts = 0 ∷ 1 ∷ 2 ∷ replicate 61 0;
   seconds = 255 ∷ 255 ∷ 255 ∷ replicate 61 0;
   counts = 0 ∷ 1 ∷ 2 ∷ replicate 61 0;
-  places = replicate 8 0 ++ (0 ∷ replicate 7 0 ++ (1 ∷ 1 ∷ replicate 494 0));
-  parent_firsts = replicate 8 0 ++ (0 ∷ replicate 7 0 ++ (1 ∷ 1 ∷ replicate 494 0));
-  parent_seconds = replicate 8 0 ++ (255 ∷ replicate 7 0 ++ (255 ∷ 255 ∷ replicate 494 0));
+  parents = eight [] ∷ eight (parent 0 0 255 ∷ []) ∷ eight (parent 1 1 255 ∷ parent 1 1 255 ∷ []) ∷ replicate 61 (eight []);
+  few = omega arith;
+  short = all_most 8 (0 ∷ 1 ∷ 2 ∷ replicate 61 0) refl;
 }
 
 chained-types : (t : ℕ) → t < 3 → ReadsType chained chain t

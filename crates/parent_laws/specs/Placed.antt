@@ -1,7 +1,8 @@
 -- What is asked of the parents in the compact form.
 use Rattle.std.specs.Prelude.{ℕ, ◌<◌}
 use Rattle.lists.specs.Lists.{In}
-use Rattle.ordering.specs.Reading.{Parent, listed}
+use Rattle.ordering.specs.Reading.{listed}
+use Rattle.ordering.specs.declared.Parent.{Parent}
 use Rattle.ordering.specs.declared.Parents.{Parents}
 
 -- the parents of type t are declared (FORMAT 3.2)

@@ -123,21 +123,29 @@ pub fn print_schedule<W: Write>(alloc: Global, out: &mut W, sheet: &[u8]) -> io:
     }
 }
 
-// A packed schedule in the words of a sheet that can be read, or the sheet's refusal by 1 to 7. Whether the sheet has an order is
-// not asked: its words are there.
+// Why a sheet cannot be read, by 1 to 7. A listing of one byte is too short or is filled: neither 8 nor 10 is asked for here.
+pub fn unread(sheet: &[u8]) -> Option<Refusal> {
+    let mut diagnosis = [0u8; answers::DIAGNOSIS];
+    match access::order(sheet, &mut [0], &mut diagnosis) {
+        Ok(_) | Err(Refusal::NoOrder(_)) | Err(Refusal::ShortListing(_)) => None,
+        Err(refusal) => Some(refusal),
+    }
+}
+
+// A packed schedule in the words of a sheet that can be read, or the sheet's refusal. Whether the sheet has an order is not
+// asked: its words are there.
 pub fn print_shown<W: Write>(
     alloc: Global,
     out: &mut W,
     sheet: &[u8],
     schedule: &[u8],
 ) -> io::Result<()> {
-    let mut diagnosis = [0u8; answers::DIAGNOSIS];
-    match access::order(sheet, &mut [0], &mut diagnosis) {
-        Ok(_) | Err(Refusal::NoOrder(_)) | Err(Refusal::ShortListing(_)) => {
+    match unread(sheet) {
+        None => {
             let words = Words::of_sheet(alloc, sheet)?;
             print_packed(alloc, out, &words, schedule)
         }
-        Err(refusal) => print_refused(out, refusal.number()),
+        Some(refusal) => print_refused(out, refusal.number()),
     }
 }
 

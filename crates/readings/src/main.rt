@@ -5,7 +5,6 @@
 
 ghost use Rattle.std.specs.Prelude.{◌<◌, length};
 
-use answers::Refusal;
 use std::alloc::Global;
 use std::io;
 use std::io::{BufReader, BufWriter, Read, Write};
@@ -31,17 +30,9 @@ impl From<u8> for Mode {
     }
 }
 
-// A listing of one byte is too short or is filled: neither 8 nor 10 is asked for here.
-fn refusal(sheet: &[u8]) -> usize {
-    let mut diagnosis = [0u8; answers::DIAGNOSIS];
-    match access::order(sheet, &mut [0], &mut diagnosis) {
-        Ok(_) | Err(Refusal::NoOrder(_)) | Err(Refusal::ShortListing(_)) => 0,
-        Err(refusal) => refusal.number(),
-    }
-}
-
+// The number of the refusal by 1 to 7, 0 for none.
 fn print<W: Write>(out: &mut W, sheet: &[u8]) -> io::Result<()> {
-    let n = refusal(sheet);
+    let n = printing::unread(sheet).map_or(0, |refusal| refusal.number());
     write!(out, "{n}")
 }
 

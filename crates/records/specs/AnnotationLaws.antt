@@ -1,20 +1,21 @@
 -- Laws of annotations.
-use Rattle.std.specs.Prelude.{Bool, true, false, ◌&&◌, not, List, [], ◌∷◌, ◌++◌, map, ◌≡◌, refl, ℕ, zero, suc, ◌+◌, ◌<◌, eqb, leb, length, get_or, set, ◌⊎◌}
-use Rattle.std.proofs.Common.{arith, le-leb, inl, inr}
+use Rattle.std.specs.Prelude.{Bool, true, false, ◌&&◌, not, List, [], ◌∷◌, ◌++◌, map, ◌≡◌, refl, ℕ, zero, suc, eqb, leb, length, get_or, ◌⊎◌}
+use Rattle.std.proofs.Common.{◌∙◌, arith, le-leb, inl, inr}
 use Rattle.std.proofs.lemmas.Bool.{lt-leb}
-use Rattle.lists.specs.Tabulating.{places-set, length-places}
+use Rattle.std.proofs.lemmas.List.{length-map}
+use Rattle.bounded.specs.Items.{items_of, length-items_of, items-places, items_none, items_more}
+use Rattle.lists.specs.Tabulating.{places}
 use Rattle.definitions.specs.Parse.{not_allowed, Parsed, done, refused, next, ◌>>=◌, pure, refuse, choose, field, allowed, between, counted}
 use Rattle.definitions.specs.Reading.{word_field, word_if_flag, name, associated, associated_list, kinds, annotation}
 use Rattle.definitions.specs.Records.{Resource, AnnotationOf, associate, nest_associate, alias, derive}
 use Rattle.fields.specs.ParseLaws.{counted-map}
 use Rattle.fields.specs.Fields.{of_names}
 use Rattle.fields.specs.declared.Names.{Names}
-use Rattle.records.specs.Annotations.{resource_of, annotation_as, row_of_word, row_of_tag, rows_for, with_kind, annotation_of, zero_annotation, of_annotations}
+use Rattle.records.specs.Annotations.{resource_of, annotation_as, row_of_word, row_of_tag, rows_for, with_kind, annotation_of, zero_annotation, Annotations, of_annotations}
 use Rattle.records.specs.declared.Annotation.{Annotation}
 use Rattle.records.specs.declared.Kind.{Kind}
 use Rattle.records.specs.declared.Kind.TheVariants.{MakeList, Associate, NestAssociate, Inherit, NoDerive}
 use Rattle.records.specs.Kinds.{number_of}
-use Rattle.records.specs.declared.Annotations.{Annotations}
 
 -- a resource is read like a name
 associated-name : (W : ℕ) (bs : List Bool) → associated W bs ≡ next (name W bs) (λ n. pure (resource_of n))
@@ -85,15 +86,23 @@ pub with-kind-is : (kind : Kind) (rows : Names) → annotation_of (with_kind kin
 unfolding annotation_of
 with-kind-is kind rows = refl
 
--- one annotation more
-pub annotations-more : (t : Annotations) (a : Annotation) → t.count < length t.items →
-    of_annotations (record { count = t.count + 1; items = set t.items t.count a }) ≡ of_annotations t ++ (annotation_of a ∷ [])
+-- no annotation, and one more
+pub annotations_none : (t : Annotations) → items_of t ≡ [] → of_annotations t ≡ []
 unfolding of_annotations
-annotations-more t a h = places-set annotation_of zero_annotation t.items t.count a h
+annotations_none t e = items_none annotation_of t e
+
+pub annotations_more : (t u : Annotations) (a : Annotation) → items_of u ≡ items_of t ++ (a ∷ []) → of_annotations u ≡ of_annotations t ++ (annotation_of a ∷ [])
+unfolding of_annotations
+annotations_more t u a e = items_more annotation_of t u a e
+
+-- by their places
+pub annotations-places : (t : Annotations) → of_annotations t ≡ places annotation_of zero_annotation t.items t.count
+unfolding of_annotations
+annotations-places t = items-places annotation_of zero_annotation t
 
 pub length-of_annotations : (t : Annotations) → length (of_annotations t) ≡ t.count
 unfolding of_annotations
-length-of_annotations t = length-places annotation_of zero_annotation t.items t.count
+length-of_annotations t = length-map (items_of t) annotation_of ∙ length-items_of t
 
 -- the kinds with nothing behind them
 pub rows_none : (W kind : ℕ) (bs : List Bool) → (kind ≡ 1 → ⊥) → (kind ≡ 2 → ⊥) → (kind ≡ 3 → ⊥) → (kind ≡ 4 → ⊥) → (kind ≡ 5 → ⊥) →

@@ -1,6 +1,7 @@
 -- What the answers of the code on annotations mean, as the definitions' parsers give it.
 use Rattle.std.specs.Prelude.{List, [], ◌∷◌, map, ℕ, drop, get_or}
-use Rattle.lists.specs.Tabulating.{places}
+use Rattle.bounded.specs.declared.UpTo.{UpTo}
+use Rattle.bounded.specs.Items.{items_of}
 use Rattle.definitions.specs.Parse.{Parser, ◌>>=◌, pure, field, counted}
 use Rattle.definitions.specs.Reading.{word_field, name}
 use Rattle.definitions.specs.Records.{Resource, AnnotationOf, make_list, associate, nest_associate, alias, inherit, derive, no_derive}
@@ -9,7 +10,6 @@ use Rattle.fields.specs.declared.Names.{Names}
 use Rattle.records.specs.declared.Annotation.{Annotation}
 use Rattle.records.specs.declared.Kind.{Kind}
 use Rattle.records.specs.Kinds.{number_of}
-use Rattle.records.specs.declared.Annotations.{Annotations}
 
 -- a row is a word with what stands behind it: a resource with its dom, or a name
 abbrev pub resource_of : List ℕ → Resource
@@ -60,5 +60,8 @@ annotation_of a = annotation_as (number_of a.kind) (of_names (record { count = a
 abbrev pub zero_annotation : Annotation
 zero_annotation = record { kind = Kind.MakeList; count = 0; words = []; doms = [] }
 
+abbrev pub Annotations : Type 0
+Annotations = UpTo Annotation 12
+
 unfoldable pub of_annotations : Annotations → List (AnnotationOf Resource)
-of_annotations t = places annotation_of zero_annotation t.items t.count
+of_annotations t = map annotation_of (items_of t)

@@ -1,17 +1,20 @@
 -- Laws of marks.
-use Rattle.std.specs.Prelude.{[], ◌∷◌, ◌++◌, ◌≡◌, ◌+◌, ◌<◌, length, set}
-use Rattle.lists.specs.Tabulating.{places-set, length-places}
-use Rattle.records.specs.Marks.{mark_of, of_marks}
+use Rattle.std.specs.Prelude.{[], ◌∷◌, ◌++◌, ◌≡◌, length}
+use Rattle.std.proofs.Common.{◌∙◌}
+use Rattle.std.proofs.lemmas.List.{length-map}
+use Rattle.bounded.specs.Items.{items_of, length-items_of, items_none, items_more}
+use Rattle.records.specs.Marks.{mark_of, Marks, of_marks}
 use Rattle.records.specs.declared.Mark.{Mark}
-use Rattle.records.specs.declared.Mark.TheVariants.{Makelist}
-use Rattle.records.specs.declared.Marks.{Marks}
 
--- one mark more
-pub marks-more : (t : Marks) (m : Mark) → t.count < length t.items →
-    of_marks (record { count = t.count + 1; items = set t.items t.count m }) ≡ of_marks t ++ (mark_of m ∷ [])
+-- no mark, and one more
+pub marks_none : (t : Marks) → items_of t ≡ [] → of_marks t ≡ []
 unfolding of_marks
-marks-more t m h = places-set mark_of Makelist t.items t.count m h
+marks_none t e = items_none mark_of t e
+
+pub marks_more : (t u : Marks) (m : Mark) → items_of u ≡ items_of t ++ (m ∷ []) → of_marks u ≡ of_marks t ++ (mark_of m ∷ [])
+unfolding of_marks
+marks_more t u m e = items_more mark_of t u m e
 
 pub length-of_marks : (t : Marks) → length (of_marks t) ≡ t.count
 unfolding of_marks
-length-of_marks t = length-places mark_of Makelist t.items t.count
+length-of_marks t = length-map (items_of t) mark_of ∙ length-items_of t

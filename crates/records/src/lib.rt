@@ -12,10 +12,11 @@ ghost use Rattle.records.specs.Annotations.{rows_for, with_kind, annotation_of, 
 ghost use Rattle.records.specs.Marks.{mark_of, of_marks};
 
 use bits::Cursor;
+use bounded::UpTo;
 use fields::{Fault, Name, Names, Parsed, Sheet};
 
 // The kinds of annotations, in the order of their numbers (FORMAT 2.7).
-#[derive(Clone, Copy, PartialEq, Eq)]
+#[derive(Clone, Copy, PartialEq, Eq, PartialOrd, Ord)]
 pub enum Kind {
     MakeList,
     Associate,
@@ -63,12 +64,18 @@ pub struct Annotation {
     pub doms: [u8; 15],
 }
 
-// The first count annotations: an array, as the proved calls have no heap.
-#[derive(Clone, Copy)]
-pub struct Annotations {
-    pub count: usize,
-    pub items: [Annotation; 12],
+impl Annotation {
+    // What stands where a list has no annotation.
+    pub const BLANK: Annotation = Annotation {
+        kind: Kind::MakeList,
+        count: 0,
+        words: [255; 15],
+        doms: [255; 15],
+    };
 }
+
+// The annotations of a type.
+pub type Annotations = UpTo<Annotation, 12>;
 
 // A mark (FORMAT 2.9): makelist, or a derive with its tag.
 #[derive(Clone, Copy, PartialEq, Eq)]
@@ -77,12 +84,8 @@ pub enum Mark {
     Derive(u8),
 }
 
-// The first count marks: an array, as the proved calls have no heap.
-#[derive(Clone, Copy)]
-pub struct Marks {
-    pub count: usize,
-    pub items: [Mark; 7],
-}
+// The marks of a type.
+pub type Marks = UpTo<Mark, 7>;
 
 // One row, a word alone, of a word that was read.
 fn one_row(word: Parsed<u8>) -> Parsed<Names>
@@ -142,39 +145,14 @@ pub fn read_annotation(s: Sheet, c: Cursor, single: bool) -> Parsed<Annotation>
     Ok((with_kind(kind, rows), end))
 }
 
-impl Annotations {
-    pub fn new() -> Annotations
-        ensures { (of_annotations result ≡ []) × (result.count ≡ 0) }
-    {
-        let a = Annotation {
-            kind: Kind::MakeList,
-            count: 0,
-            words: [255u8; 15],
-            doms: [255u8; 15],
-        };
-        Annotations {
-            count: 0,
-            items: [a; 12],
-        }
-    }
-
-    pub fn push(&mut self, a: Annotation)
-        requires { self.old.count < 12 }
-        ensures { (of_annotations self.new ≡ of_annotations self.old ++ (annotation_of a ∷ [])) × (self.new.count ≡ self.old.count + 1) }
-    {
-        let i = self.count;
-        self.items[i] = a;
-        self.count = i + 1;
-    }
-}
-
 // n annotations: a loop of its own, as each kind of list has.
+#[tactic(auto, using(crate::specs::AnnotationLaws::annotations_none))]
 fn read_each_annotation(s: Sheet, c: Cursor, single: bool, n: usize) -> Parsed<Annotations>
     requires { n ≤ 12 }
     ensures { of_parsed of_annotations (bits_in s.entry) result ≡ repeat (annotation s.entry.words single) n (drop c.at (bits_in s.entry)) }
 {
     let mut next = c;
-    let mut annotations = Annotations::new();
+    let mut annotations: Annotations = UpTo::new(Annotation::BLANK);
     for _ in 0..n {
         let (annotation, end) = read_annotation(s, next, single)?;
         annotations.push(annotation);
@@ -204,33 +182,14 @@ pub fn read_mark(s: &[u8], c: Cursor) -> Parsed<Mark>
     }
 }
 
-impl Marks {
-    pub fn new() -> Marks
-        ensures { (of_marks result ≡ []) × (result.count ≡ 0) }
-    {
-        Marks {
-            count: 0,
-            items: [Mark::Makelist; 7],
-        }
-    }
-
-    pub fn push(&mut self, m: Mark)
-        requires { self.old.count < 7 }
-        ensures { (of_marks self.new ≡ of_marks self.old ++ (mark_of m ∷ [])) × (self.new.count ≡ self.old.count + 1) }
-    {
-        let i = self.count;
-        self.items[i] = m;
-        self.count = i + 1;
-    }
-}
-
 // n marks: a loop of its own, as each kind of list has.
+#[tactic(auto, using(crate::specs::MarkLaws::marks_none))]
 fn read_each_mark(s: &[u8], c: Cursor, n: usize) -> Parsed<Marks>
     requires { Addressable s.now × (n ≤ 7) }
     ensures { of_parsed of_marks (bits_of s.now) result ≡ repeat mark n (drop c.at (bits_of s.now)) }
 {
     let mut next = c;
-    let mut marks = Marks::new();
+    let mut marks: Marks = UpTo::new(Mark::Makelist);
     for _ in 0..n {
         let (mark, end) = read_mark(s, next)?;
         marks.push(mark);

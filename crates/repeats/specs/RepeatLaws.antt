@@ -17,13 +17,12 @@ use Rattle.definitions.specs.Records.{Resource, AnnotationOf}
 use Rattle.definitions.specs.Records as records
 use Rattle.fields.specs.Fields.{two_words, of_names}
 use Rattle.fields.specs.FieldLaws.{same-words}
-use Rattle.records.specs.AnnotationLaws.{length-of_annotations}
-use Rattle.records.specs.Annotations.{resource_of, word_of_rows, annotation_as, annotation_of, zero_annotation, of_annotations}
+use Rattle.records.specs.AnnotationLaws.{annotations-places, length-of_annotations}
+use Rattle.records.specs.Annotations.{resource_of, word_of_rows, annotation_as, annotation_of, zero_annotation, Annotations, of_annotations}
 use Rattle.records.specs.declared.Annotation.{Annotation}
 use Rattle.records.specs.declared.Kind.{Kind}
 use Rattle.records.specs.declared.Kind.TheVariants.{MakeList, Associate, NestAssociate, Alias, Inherit, Derive, NoDerive}
 use Rattle.records.specs.Kinds.{number_of}
-use Rattle.records.specs.declared.Annotations.{Annotations}
 use Rattle.repeats.specs.RangeLaws.{any-range, all-range}
 use Rattle.repeats.specs.Repeats.{words_of, row_at, rows_of, same_word, repeats_word, same_content, repeats_in, type_repeats, same_type_name, same_extension_key}
 
@@ -284,8 +283,7 @@ only-word a =
 -- ---- annotations by place
 
 pub annotation-of : (t : Annotations) (i : ℕ) (d : AnnotationOf Resource) → i < t.count → get_or (of_annotations t) i d ≡ annotation_of (get_or t.items i zero_annotation)
-unfolding of_annotations
-annotation-of t i d h = get_d-places annotation_of zero_annotation t.items t.count i d h
+annotation-of t i d h = ap (λ (l : List (AnnotationOf Resource)). get_or l i d) (annotations-places t) ∙ get_d-places annotation_of zero_annotation t.items t.count i d h
 
 -- a test of the annotations from a place on
 pub annotations-any : (f : AnnotationOf Resource → Bool) (t : Annotations) (from : ℕ) →

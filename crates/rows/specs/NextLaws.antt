@@ -50,8 +50,8 @@ next-zeros n from l =
       some = λ p. ap (λ (x : ℕ). eqb x 1) (sym (bit_shifted n from t) ∙ one-there 64 (n / 2 ^ from) (omega arith));
     }
 
--- where they lead past its end, there is none
-pub next-none : (n from : ℕ) → from ≤ 64 → 64 < from + count_trailing_zeros 64 (n / 2 ^ from) → NextBit n from 64
+-- where they lead to its end or past it, there is none
+pub next-none : (n from : ℕ) → from ≤ 64 → 64 ≤ from + count_trailing_zeros 64 (n / 2 ^ from) → NextBit n from 64
 unfolding has_bit
 next-none n from f l =
     record {

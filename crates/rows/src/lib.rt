@@ -1,7 +1,7 @@
 // Sets of numbers below 256 as rows of bits: dom sets, and sets of words.
 #![tactic(auto)]
 
-ghost use Rattle.std.specs.Prelude.{◌≡◌, ◌<◌, ◌≤◌};
+ghost use Rattle.std.specs.Prelude.{◌≡◌, ◌<◌, ◌≤◌, MatchOption};
 ghost use Rattle.rows.specs.Next.{Next, NextBit};
 ghost use Rattle.rows.specs.Rows.{common, without, either, none, limb, has, single, empty};
 
@@ -113,32 +113,28 @@ pub fn alone(w: usize) -> Row
     }
 }
 
-// The first number from `from` on that stands in a row of 64; 64 where none does, as trailing_zeros answers for 0.
-pub fn next_type(types: u64, from: usize) -> usize
+// The first number from `from` on that stands in a row of 64.
+pub fn next_type(types: u64, from: usize) -> Option<usize>
     requires { from ≤ 64 }
-    ensures { NextBit types from result }
+    ensures { MatchOption result (NextBit types from 64) (λ k. NextBit types from k × (k < 64)) }
 {
     if from == 64 {
-        return 64;
+        return None;
     }
     let zeros = u64::trailing_zeros(types >> from) as usize;
     let k = from + zeros;
-    if k > 64 {
-        return 64;
-    }
-    k
+    (k < 64).then_some(k)
 }
 
-// The first number from `from` on that stands in the row; 256 where none does. No Option: a walk has a bound of its own below 256,
-// and its one test of that ends it for both.
+// The first number from `from` on that stands in the row; 256 where none does. No Option: a walk has a bound of its own below
+// 256, and its one test of that ends it for both.
 pub fn next(r: Row, from: usize) -> usize
     requires { from ≤ 256 }
     ensures { Next r from result }
 {
     let mut j = from % 64;
     for i in from / 64..4 {
-        let k = next_type(quarter(r, i), j);
-        if k < 64 {
+        if let Some(k) = next_type(quarter(r, i), j) {
             return i * 64 + k;
         }
         j = 0;

@@ -7,7 +7,8 @@ ghost use Rattle.schedule_fields.specs.Places.{fields_at, RuleOf, Comes, names_a
 ghost use Rattle.schedule_fields.specs.Places.{behind_name, behind_lead, behind_made, behind_mark, behind_line, Follows};
 ghost use Rattle.schedule_fields.specs.Places.{names_left, items_left, parents_left, words_left, marks_left, made_left};
 
-// The limits: names, items, parents of a synthesized resource and the words of one of them, its marks, a mark's tag (FORMAT 6.1, 6.2).
+// The limits: names, items, parents of a synthesized resource and the words of one of them, its marks, a mark's tag
+// (FORMAT 6.1, 6.2).
 const MOST_NAMES: usize = 64;
 
 const MOST_ITEMS: usize = 65535;
@@ -22,7 +23,8 @@ const MOST_MARKS: usize = 448;
 
 const MOST_TAG: usize = 255;
 
-// A field of a schedule. Its numbers say how many names, items, parents, words or marks come behind the one that it is in: of items first.
+// A field of a schedule. Its numbers say how many names, items, parents, words or marks come behind the one that it is in: of
+// items first.
 #[derive(Clone, Copy)]
 pub enum Place {
     Names,

@@ -1,6 +1,6 @@
 // The two calls that turn a packed schedule into records, and records into a packed schedule (FORMAT 12). Both are one loop over
-// the fields: first it looks, and where nothing is to be refused it goes again and writes. Bools say which form is read and whether
-// the pen is down, so that one loop, with one proof, makes all four passes.
+// the fields: first it looks, and where nothing is to be refused it goes again and writes. Bools say which form is read and
+// whether the pen is down, so that one loop, with one proof, makes all four passes.
 #![tactic(auto)]
 
 ghost use Rattle.std.specs.Prelude.{true, not, ◌≡◌, ◌+◌, ◌*◌, ◌≤◌, ◌<◌, length};
@@ -44,21 +44,21 @@ fn put_record(target: &mut [u8], i: usize, v: u64)
 
 // A field at bit `at`, in eight bytes at once where there are as many. The answer is the bit behind it.
 fn put_packed(target: &mut [u8], at: usize, f: Field) -> usize
-    requires room { Room true target.old at f.width f.value }
+    requires room { Room true target.old at f.width }
     requires width_nonzero { 0 < f.width }
     ensures { Penned true target.old target.new at result (to_bits f.width f.value) }
 {
     if at / 8 + 8 <= target.len() {
-        item_pen::put_wide(target, at, f.width, f.value);
+        item_pen::put_wide(target, at, f);
         return at + f.width;
     }
-    item_pen::put(target, at, true, f.width, f.value)
+    item_pen::put(target, at, true, f)
 }
 
-// With the pen down a field goes to bit `at`, packed or as a record; with the pen up nothing is touched. The answer is the bit behind
-// it.
+// With the pen down a field goes to bit `at`, packed or as a record; with the pen up nothing is touched. The answer is the bit
+// behind it.
 fn lay(target: &mut [u8], at: usize, down: bool, packed: bool, f: Field) -> usize
-    requires room { Room down target.old at f.width f.value }
+    requires room { Room down target.old at f.width }
     requires aligned { Aligned packed f.width at }
     ensures { Penned down target.old target.new at result (to_bits f.width f.value) }
 {

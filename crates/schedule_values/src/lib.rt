@@ -43,7 +43,8 @@ pub fn is_bad_width(w: usize) -> bool
     (w < LEAST_WORDS) | (MOST_WORDS < w)
 }
 
-// The bits of so many bytes, or as many as no schedule has in either form: those of longer slices may be more than a number counts.
+// The bits of so many bytes, or as many as no schedule has in either form: those of longer slices may be more than a number
+// counts.
 pub fn bits_within(bytes: usize) -> usize
     ensures { result ≡ bits_within bytes }
 {
@@ -61,8 +62,8 @@ fn value_at(source: &[u8], at: usize, n: usize) -> usize
     sheet_window::wide(source, at, n) as usize
 }
 
-// The n bits at a place as the value of a field, where the source has `end` bits, and `short` tells that the other form has no room
-// for it: both ends before the value (FORMAT 12.3).
+// The n bits at a place as the value of a field, where the source has `end` bits, and `short` tells that the other form has no
+// room for it: both ends before the value (FORMAT 12.3).
 pub fn meet(
     source: &[u8],
     end: usize,

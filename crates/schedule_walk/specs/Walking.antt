@@ -13,7 +13,7 @@ use Rattle.tariff_definitions.specs.DecodedLaws.{OneOrTwo, NamedItem}
 use Rattle.fields.specs.declared.Fault.{Fault}
 use Rattle.fields.specs.Fields.{fault_of}
 use Rattle.schedule_fields.specs.declared.Rule.{Rule}
-use Rattle.schedule_values.specs.Meeting.{bits_within, most_bits, Met, Missed, Meets}
+use Rattle.schedule_values.specs.Meeting.{Met, Missed, Meets}
 use Rattle.schedule_walk.specs.declared.Entry.{Entry}
 use Rattle.schedule_walk.specs.Sorts.{number_of}
 
@@ -51,11 +51,6 @@ Lacks n least most source p f = Missed false n (rule_of n least most) source p f
 
 abbrev pub Reads : ℕ → ℕ → ℕ → List ℕ → ℕ → Result ℕ Fault → Type 0
 Reads n least most source p r = Meets false n (rule_of n least most) source p r
-
--- What it is told: how many bits the source has, and that so many bits from p on can be counted.
-pub record Ready (source : List ℕ) (end p bits : ℕ) : Type 0 where
-  pub all : end ≡ bits_within (length source)
-  pub few : p + bits ≤ most_bits
 
 -- A form was gone through: some x of which `ok` holds stands there, in at most so many bits.
 pub record Gone {A : Type 0} (F : Fields → Fields) (values : A → List ℕ) (ok : A → Type 0) (bits : ℕ) (source : List ℕ) (p q : ℕ) : Type 0 where

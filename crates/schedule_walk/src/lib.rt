@@ -2,16 +2,17 @@
 // function goes through one form of the grammar, and hands back the bit behind it, or the fault that refuses it.
 #![tactic(auto)]
 
-ghost use Rattle.std.specs.Prelude.{[], ◌∷◌, ◌≡◌, ◌+◌, ◌*◌, ◌≤◌, ◌<◌};
+ghost use Rattle.std.specs.Prelude.{[], ◌∷◌, ◌≡◌, ◌+◌, ◌*◌, ◌≤◌, ◌<◌, length};
 ghost use Rattle.lists.specs.Lists.{each};
 ghost use Rattle.definitions.specs.Legal.{Every};
 ghost use Rattle.definitions.specs.LegalSchedule.{most_parents, most_items};
 ghost use Rattle.definitions.specs.ScheduleFields.{times, word_fields, name_fields, parent_fields, mark_fields, marks_fields, made_fields, line_fields, item_fields};
 ghost use Rattle.definitions.specs.Packing.{item_count_bits};
 ghost use Rattle.definitions.specs.Values.{name_values, parent_values, mark_values, counted_values};
+ghost use Rattle.schedule_values.specs.Meeting.{bits_within, most_bits};
 ghost use Rattle.tariff_definitions.specs.DecodedLaws.{OneOrTwo};
 ghost use Rattle.schedule_walk.specs.Sorts.{number_of};
-ghost use Rattle.schedule_walk.specs.Walking.{Ready, Reads, Goes, GoesItem, one, Anything, Many, NamedWord, named_values, ManyParents, listed_values, names_fields, name_bits, parent_bits, mark_bits, marks_bits, line_bits, made_bits, item_bits, names_bits};
+ghost use Rattle.schedule_walk.specs.Walking.{Reads, Goes, GoesItem, one, Anything, Many, NamedWord, named_values, ManyParents, listed_values, names_fields, name_bits, parent_bits, mark_bits, marks_bits, line_bits, made_bits, item_bits, names_bits};
 
 use fields::Fault;
 use schedule_fields::{Place, Rule};
@@ -53,227 +54,240 @@ pub struct Entry {
     pub parents: usize,
 }
 
-// ---- single fields
-
-// The field with a rule.
-fn field(source: &[u8], end: usize, at: usize, rule: Rule) -> Result<usize, Fault>
-    requires { Ready source.now end at rule.width × (0 < rule.width) × (rule.width ≤ 16) }
-    ensures { Reads rule.width rule.least rule.most source.now at result }
-{
-    schedule_values::meet(source, end, at, rule.width, false, rule)
-}
-
-// A flag, or any field of one bit (FORMAT 2.1).
-fn flag(source: &[u8], end: usize, at: usize) -> Result<usize, Fault>
-    requires { Ready source.now end at 1 }
-    ensures { Reads 1 0 1 source.now at result }
-{
-    field(
-        source,
-        end,
-        at,
-        schedule_fields::rule_at(Place::NameFlag(0), 1),
-    )
-}
-
-// A word of w (FORMAT 2.5).
-fn word(source: &[u8], end: usize, w: usize, at: usize) -> Result<usize, Fault>
-    requires { Ready source.now end at 8 × (0 < w) }
-    ensures { Goes (word_fields w) one Anything 8 source.now at result }
-{
-    field(
-        source,
-        end,
-        at,
-        schedule_fields::rule_at(Place::NameSecond(0), w),
-    )?;
-    Ok(at + 8)
-}
-
-// ---- names
-
-// A name (FORMAT 2.5).
-fn name(source: &[u8], end: usize, w: usize, at: usize) -> Result<usize, Fault>
-    requires { Ready source.now end at name_bits × (0 < w) }
-    ensures { Goes (name_fields w) name_values OneOrTwo name_bits source.now at result }
-{
-    let first = word(source, end, w, at)?;
-    let second = flag(source, end, first)?;
-    if second == 0 {
-        return Ok(first + 1);
-    }
-    word(source, end, w, first + 1)
-}
-
-// So many names. The four loops over a form stay apart: one over a closure needs a contract that is longer than they are.
-fn each_name(source: &[u8], end: usize, w: usize, at: usize, n: usize) -> Result<usize, Fault>
-    requires { Ready source.now end at (n * name_bits) × (0 < w) }
-    ensures { Goes (times n (name_fields w)) (each name_values) (Many OneOrTwo n) (n * name_bits) source.now at result }
-{
-    let mut q = at;
-    for _ in 0..n {
-        q = name(source, end, w, q)?;
-    }
-    Ok(q)
-}
-
-// The names of a schedule, their number first (FORMAT 6.1).
-pub fn names(source: &[u8], end: usize, w: usize) -> Result<usize, Fault>
-    requires { Ready source.now end 0 names_bits × (0 < w) }
-    ensures { Goes (names_fields w) (counted_values name_values) (Every OneOrTwo) names_bits source.now 0 result }
-{
-    let rule = schedule_fields::rule_at(Place::Names, w);
-    let count = field(source, end, 0, rule)?;
-    each_name(source, end, w, rule.width, count)
-}
-
-// The number of items (FORMAT 6.1).
-pub fn item_count(source: &[u8], end: usize, w: usize, at: usize) -> Result<usize, Fault>
-    requires { Ready source.now end at item_count_bits × (0 < w) }
-    ensures { Reads item_count_bits 0 most_items source.now at result }
-{
-    field(source, end, at, schedule_fields::rule_at(Place::Items, w))
-}
-
-// ---- a synthesized resource
-
-// So many words.
-fn each_word(source: &[u8], end: usize, w: usize, at: usize, n: usize) -> Result<usize, Fault>
-    requires { Ready source.now end at (n * 8) × (0 < w) }
-    ensures { Goes (times n (word_fields w)) (each one) (Many Anything n) (n * 8) source.now at result }
-{
-    let mut q = at;
-    for _ in 0..n {
-        q = word(source, end, w, q)?;
-    }
-    Ok(q)
-}
-
-// A parent: how many words, and the words (FORMAT 6.2).
-fn parent(source: &[u8], end: usize, w: usize, at: usize) -> Result<usize, Fault>
-    requires { Ready source.now end at parent_bits × (0 < w) }
-    ensures { Goes (parent_fields w) parent_values Anything parent_bits source.now at result }
-{
-    let rule = schedule_fields::rule_at(Place::ParentWords(0, 0), w);
-    let count = field(source, end, at, rule)?;
-    each_word(source, end, w, at + rule.width, count)
-}
-
-// So many parents.
-fn each_parent(source: &[u8], end: usize, w: usize, at: usize, n: usize) -> Result<usize, Fault>
-    requires { Ready source.now end at (n * parent_bits) × (0 < w) }
-    ensures { Goes (times n (parent_fields w)) (each parent_values) (Many Anything n) (n * parent_bits) source.now at result }
-{
-    let mut q = at;
-    for _ in 0..n {
-        q = parent(source, end, w, q)?;
-    }
-    Ok(q)
-}
-
-// A mark (FORMAT 2.9).
-fn mark(source: &[u8], end: usize, at: usize) -> Result<usize, Fault>
-    requires { Ready source.now end at mark_bits }
-    ensures { Goes mark_fields mark_values Anything mark_bits source.now at result }
-{
-    let derive = flag(source, end, at)?;
-    if derive == 0 {
-        return Ok(at + 1);
-    }
-    let rule = schedule_fields::rule_at(Place::Tag(0, 0), 1);
-    field(source, end, at + 1, rule)?;
-    Ok(at + 1 + rule.width)
-}
-
-// So many marks.
-fn each_mark(source: &[u8], end: usize, at: usize, n: usize) -> Result<usize, Fault>
-    requires { Ready source.now end at (n * mark_bits) }
-    ensures { Goes (times n mark_fields) (each mark_values) (Many Anything n) (n * mark_bits) source.now at result }
-{
-    let mut q = at;
-    for _ in 0..n {
-        q = mark(source, end, q)?;
-    }
-    Ok(q)
-}
-
-// The marks of a resource, their number first (FORMAT 6.2).
-fn marks(source: &[u8], end: usize, at: usize) -> Result<usize, Fault>
-    requires { Ready source.now end at marks_bits }
-    ensures { Goes marks_fields (counted_values mark_values) Anything marks_bits source.now at result }
-{
-    let rule = schedule_fields::rule_at(Place::Marks(0), 1);
-    let count = field(source, end, at, rule)?;
-    each_mark(source, end, at + rule.width, count)
-}
-
-// The name of its type, and its word.
-fn name_and_word(source: &[u8], end: usize, w: usize, at: usize) -> Result<usize, Fault>
-    requires { Ready source.now end at (name_bits + 8) × (0 < w) }
-    ensures { Goes (λ k. name_fields w (word_fields w k)) named_values NamedWord (name_bits + 8) source.now at result }
-{
-    let named = name(source, end, w, at)?;
-    word(source, end, w, named)
-}
-
-// n parents, and the marks.
-fn parents_and_marks(
-    source: &[u8],
+// A packed schedule, lent: its bytes, how many bits of them are read, and W, the number of words of the sheet that it belongs to.
+#[derive(Clone, Copy)]
+pub struct Walk<'a> {
+    pub source: &'a [u8],
     end: usize,
-    w: usize,
-    at: usize,
-    n: usize,
-) -> Result<usize, Fault>
-    requires { Ready source.now end at (most_parents * parent_bits + marks_bits) × (0 < w) × (n ≤ most_parents) }
-    ensures { Goes (λ k. times n (parent_fields w) (marks_fields k)) listed_values (ManyParents n) (most_parents * parent_bits + marks_bits) source.now at result }
-{
-    let listed = each_parent(source, end, w, at, n)?;
-    marks(source, end, listed)
+    pub words: usize,
+    ghost whole: { end ≡ bits_within (length source.now) },
+    ghost some: { 0 < words },
 }
 
-// A synthesized resource behind its lead bit (FORMAT 6.2).
-fn made(source: &[u8], end: usize, w: usize, at: usize) -> Result<Entry, Fault>
-    requires { Ready source.now end at made_bits × (0 < w) }
-    ensures { GoesItem (made_fields w) (0 ∷ []) made_bits source.now at result }
-{
-    let head = name_and_word(source, end, w, at)?;
-    let is_virtual = flag(source, end, head)?;
-    let rule = schedule_fields::rule_at(Place::Parents(0), w);
-    let count = field(source, end, head + 1, rule)?;
-    let rest = parents_and_marks(source, end, w, head + 1 + rule.width, count)?;
-    Ok(Entry {
-        at: rest,
-        sort: of_flag(is_virtual),
-        parents: count,
-    })
-}
-
-// ---- an extension line, and items
-
-// An extension line behind its lead bit (FORMAT 6.3).
-fn line(source: &[u8], end: usize, w: usize, at: usize) -> Result<Entry, Fault>
-    requires { Ready source.now end at line_bits × (0 < w) }
-    ensures { GoesItem (line_fields w) (1 ∷ []) line_bits source.now at result }
-{
-    let named = name(source, end, w, at)?;
-    flag(source, end, named)?; // whether it is virtual
-    flag(source, end, named + 1)?; // whether it is a trait
-    let last = word(source, end, w, named + 2)?;
-    Ok(Entry {
-        at: last,
-        sort: Sort::Line,
-        parents: 0,
-    })
-}
-
-// An item, by its lead bit (FORMAT 6.1).
-pub fn item(source: &[u8], end: usize, w: usize, at: usize) -> Result<Entry, Fault>
-    requires { Ready source.now end at item_bits × (0 < w) }
-    ensures { GoesItem (item_fields w) [] item_bits source.now at result }
-{
-    let lead = flag(source, end, at)?;
-    if lead == 0 {
-        return made(source, end, w, at + 1);
+impl<'a> Walk<'a> {
+    // Through a schedule for a sheet of so many words.
+    pub fn new(source: &'a [u8], words: usize) -> Walk<'a>
+        requires { 0 < words }
+        ensures { (result.source.now ≡ source.now) × (result.words ≡ words) }
+    {
+        Walk {
+            source,
+            end: schedule_values::bits_within(source.len()),
+            words,
+        }
     }
-    line(source, end, w, at + 1)
+
+    // ---- single fields
+
+    // The field with a rule.
+    fn field(self, at: usize, rule: Rule) -> Result<usize, Fault>
+        requires { (at + rule.width ≤ most_bits) × (0 < rule.width) × (rule.width ≤ 16) }
+        ensures { Reads rule.width rule.least rule.most self.entry.source.now at result }
+    {
+        schedule_values::meet(self.source, self.end, at, rule.width, false, rule)
+    }
+
+    // A flag, or any field of one bit (FORMAT 2.1).
+    fn flag(self, at: usize) -> Result<usize, Fault>
+        requires { at + 1 ≤ most_bits }
+        ensures { Reads 1 0 1 self.entry.source.now at result }
+    {
+        self.field(at, schedule_fields::rule_at(Place::NameFlag(0), 1))
+    }
+
+    // A word, which is below W (FORMAT 2.5).
+    fn word(self, at: usize) -> Result<usize, Fault>
+        requires { at + 8 ≤ most_bits }
+        ensures { Goes (word_fields self.entry.words) one Anything 8 self.entry.source.now at result }
+    {
+        self.field(
+            at,
+            schedule_fields::rule_at(Place::NameSecond(0), self.words),
+        )?;
+        Ok(at + 8)
+    }
+
+    // ---- names
+
+    // A name (FORMAT 2.5).
+    fn name(self, at: usize) -> Result<usize, Fault>
+        requires { at + name_bits ≤ most_bits }
+        ensures { Goes (name_fields self.entry.words) name_values OneOrTwo name_bits self.entry.source.now at result }
+    {
+        let first = self.word(at)?;
+        let second = self.flag(first)?;
+        if second == 0 {
+            return Ok(first + 1);
+        }
+        self.word(first + 1)
+    }
+
+    // So many names. The four loops over a form stay apart: one over a closure needs a contract that is longer than they are.
+    fn each_name(self, at: usize, n: usize) -> Result<usize, Fault>
+        requires { at + n * name_bits ≤ most_bits }
+        ensures { Goes (times n (name_fields self.entry.words)) (each name_values) (Many OneOrTwo n) (n * name_bits) self.entry.source.now at result }
+    {
+        let mut q = at;
+        for _ in 0..n {
+            q = self.name(q)?;
+        }
+        Ok(q)
+    }
+
+    // The names of a schedule, their number first (FORMAT 6.1).
+    #[tactic(auto, unfolding(definitions::specs::ScheduleFields::schedule_fields))]
+    pub fn names(self) -> Result<usize, Fault>
+        ensures { Goes (names_fields self.entry.words) (counted_values name_values) (Every OneOrTwo) names_bits self.entry.source.now 0 result }
+    {
+        let rule = schedule_fields::rule_at(Place::Names, self.words);
+        let count = self.field(0, rule)?;
+        self.each_name(rule.width, count)
+    }
+
+    // The number of items (FORMAT 6.1).
+    pub fn item_count(self, at: usize) -> Result<usize, Fault>
+        requires { at + item_count_bits ≤ most_bits }
+        ensures { Reads item_count_bits 0 most_items self.entry.source.now at result }
+    {
+        self.field(at, schedule_fields::rule_at(Place::Items, self.words))
+    }
+
+    // ---- a synthesized resource
+
+    // So many words.
+    fn each_word(self, at: usize, n: usize) -> Result<usize, Fault>
+        requires { at + n * 8 ≤ most_bits }
+        ensures { Goes (times n (word_fields self.entry.words)) (each one) (Many Anything n) (n * 8) self.entry.source.now at result }
+    {
+        let mut q = at;
+        for _ in 0..n {
+            q = self.word(q)?;
+        }
+        Ok(q)
+    }
+
+    // A parent: how many words, and the words (FORMAT 6.2).
+    #[tactic(auto, unfolding(definitions::specs::ScheduleFields::parent_fields))]
+    fn parent(self, at: usize) -> Result<usize, Fault>
+        requires { at + parent_bits ≤ most_bits }
+        ensures { Goes (parent_fields self.entry.words) parent_values Anything parent_bits self.entry.source.now at result }
+    {
+        let rule = schedule_fields::rule_at(Place::ParentWords(0, 0), self.words);
+        let count = self.field(at, rule)?;
+        self.each_word(at + rule.width, count)
+    }
+
+    // So many parents.
+    fn each_parent(self, at: usize, n: usize) -> Result<usize, Fault>
+        requires { at + n * parent_bits ≤ most_bits }
+        ensures { Goes (times n (parent_fields self.entry.words)) (each parent_values) (Many Anything n) (n * parent_bits) self.entry.source.now at result }
+    {
+        let mut q = at;
+        for _ in 0..n {
+            q = self.parent(q)?;
+        }
+        Ok(q)
+    }
+
+    // A mark (FORMAT 2.9).
+    fn mark(self, at: usize) -> Result<usize, Fault>
+        requires { at + mark_bits ≤ most_bits }
+        ensures { Goes mark_fields mark_values Anything mark_bits self.entry.source.now at result }
+    {
+        let derive = self.flag(at)?;
+        if derive == 0 {
+            return Ok(at + 1);
+        }
+        let rule = schedule_fields::rule_at(Place::Tag(0, 0), 1);
+        self.field(at + 1, rule)?;
+        Ok(at + 1 + rule.width)
+    }
+
+    // So many marks.
+    fn each_mark(self, at: usize, n: usize) -> Result<usize, Fault>
+        requires { at + n * mark_bits ≤ most_bits }
+        ensures { Goes (times n mark_fields) (each mark_values) (Many Anything n) (n * mark_bits) self.entry.source.now at result }
+    {
+        let mut q = at;
+        for _ in 0..n {
+            q = self.mark(q)?;
+        }
+        Ok(q)
+    }
+
+    // The marks of a resource, their number first (FORMAT 6.2).
+    #[tactic(auto, unfolding(definitions::specs::ScheduleFields::marks_fields))]
+    fn marks(self, at: usize) -> Result<usize, Fault>
+        requires { at + marks_bits ≤ most_bits }
+        ensures { Goes marks_fields (counted_values mark_values) Anything marks_bits self.entry.source.now at result }
+    {
+        let rule = schedule_fields::rule_at(Place::Marks(0), 1);
+        let count = self.field(at, rule)?;
+        self.each_mark(at + rule.width, count)
+    }
+
+    // The name of its type, and its word.
+    fn name_and_word(self, at: usize) -> Result<usize, Fault>
+        requires { at + name_bits + 8 ≤ most_bits }
+        ensures { Goes (λ k. name_fields self.entry.words (word_fields self.entry.words k)) named_values NamedWord (name_bits + 8) self.entry.source.now at result }
+    {
+        let named = self.name(at)?;
+        self.word(named)
+    }
+
+    // n parents, and the marks.
+    fn parents_and_marks(self, at: usize, n: usize) -> Result<usize, Fault>
+        requires { (at + most_parents * parent_bits + marks_bits ≤ most_bits) × (n ≤ most_parents) }
+        ensures { Goes (λ k. times n (parent_fields self.entry.words) (marks_fields k)) listed_values (ManyParents n) (most_parents * parent_bits + marks_bits) self.entry.source.now at result }
+    {
+        let listed = self.each_parent(at, n)?;
+        self.marks(listed)
+    }
+
+    // A synthesized resource behind its lead bit (FORMAT 6.2).
+    fn made(self, at: usize) -> Result<Entry, Fault>
+        requires { at + made_bits ≤ most_bits }
+        ensures { GoesItem (made_fields self.entry.words) (0 ∷ []) made_bits self.entry.source.now at result }
+    {
+        let head = self.name_and_word(at)?;
+        let is_virtual = self.flag(head)?;
+        let rule = schedule_fields::rule_at(Place::Parents(0), self.words);
+        let count = self.field(head + 1, rule)?;
+        let rest = self.parents_and_marks(head + 1 + rule.width, count)?;
+        Ok(Entry {
+            at: rest,
+            sort: of_flag(is_virtual),
+            parents: count,
+        })
+    }
+
+    // ---- an extension line, and items
+
+    // An extension line behind its lead bit (FORMAT 6.3).
+    fn line(self, at: usize) -> Result<Entry, Fault>
+        requires { at + line_bits ≤ most_bits }
+        ensures { GoesItem (line_fields self.entry.words) (1 ∷ []) line_bits self.entry.source.now at result }
+    {
+        let named = self.name(at)?;
+        self.flag(named)?; // whether it is virtual
+        self.flag(named + 1)?; // whether it is a trait
+        let last = self.word(named + 2)?;
+        Ok(Entry {
+            at: last,
+            sort: Sort::Line,
+            parents: 0,
+        })
+    }
+
+    // An item, by its lead bit (FORMAT 6.1).
+    pub fn item(self, at: usize) -> Result<Entry, Fault>
+        requires { at + item_bits ≤ most_bits }
+        ensures { GoesItem (item_fields self.entry.words) [] item_bits self.entry.source.now at result }
+    {
+        let lead = self.flag(at)?;
+        if lead == 0 {
+            return self.made(at + 1);
+        }
+        self.line(at + 1)
+    }
 }

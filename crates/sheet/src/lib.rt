@@ -1,7 +1,7 @@
 // The ends of a sheet: its version, and the fill behind its lists.
 #![tactic(auto)]
 
-ghost use Rattle.std.specs.Prelude.{◌≡◌, ◌≤◌, length, drop};
+ghost use Rattle.std.specs.Prelude.{◌≡◌, drop};
 ghost use Rattle.definitions.specs.Bits.{bits_of};
 ghost use Rattle.definitions.specs.Checks.{bad_fill};
 ghost use Rattle.bits.specs.Reading.{Addressable};

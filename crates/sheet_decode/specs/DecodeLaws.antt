@@ -1,9 +1,6 @@
 -- Laws of the decoder: the lists that were read are those of a sheet, and the tests behind them.
-use Rattle.std.specs.Prelude.{Bool, true, false, List, ◌≡◌, refl, ℕ, ◌/◌, ◌≤◌, ◌<◌, length, drop, Ok, Err}
-use mathlib.Core.List.Memᴰ
-use Rattle.std.proofs.Common.{sym, ap, ◌∙◌, subst, arith}
-use Rattle.lists.specs.Lists.{In}
-use Rattle.lists.specs.Tabulating.{tabulate-in}
+use Rattle.std.specs.Prelude.{Bool, true, false, List, ◌≡◌, refl, ℕ, ◌≤◌, length, drop, Ok, Err}
+use Rattle.std.proofs.Common.{sym, ap, ◌∙◌, arith}
 use Rattle.definitions.specs.Bits.{bits_of}
 use Rattle.definitions.specs.Parse.{Parsed, done, refused}
 use Rattle.definitions.specs.Reading.{sheet}
@@ -14,23 +11,20 @@ use Rattle.definitions.specs.Answer as rules
 use Rattle.definitions.specs.Answer.{sheet_fault}
 use Rattle.fields.specs.declared.Fault.{Fault}
 use Rattle.fields.specs.Fields.{fault_of}
-use Rattle.line_laws.specs.Reading.{read-is-within}
 use Rattle.decoding.specs.Decoding.{turned_back, decoded}
 use Rattle.decoding.specs.DecodingLaws.{was_read, not-read, seven, five, six}
 use Rattle.sheet_words.specs.Words.{Telling, telling_of}
-use Rattle.sheet_keys.specs.Keys.{name_of_key}
 use Rattle.catalogue.specs.declared.Catalogue.{Catalogue}
 use Rattle.sheet_draft.specs.declared.Draft.{Draft}
-use Rattle.sheet_draft.specs.Draft.{key_at, type_in, types_in}
+use Rattle.sheet_draft.specs.declared.entry.Entry.{Entry}
+use Rattle.sheet_draft.specs.Draft.{types_in}
 use Rattle.sheet_draft.specs.Drafted.{Entered}
-use Rattle.sheet_order.specs.Entries.{LowKeys}
 use Rattle.sheet_extensions.specs.Records.{records_in}
 use Rattle.sheet_decode.specs.Lists.{Seen, seen, of_lists, Kept}
 use Rattle.answers.specs.declared.Refusal.{Refusal}
 use Rattle.answers.specs.Answers.{alone, refusal_of}
 use Rattle.sheet_decode.specs.Decodes.{Whole, Back}
 use Rattle.sheet_decode.specs.declared.Lists.{Lists}
-use Rattle.sheet_decode.specs.declared.Decoding.{Decoding}
 
 -- ---- the lists
 
@@ -38,19 +32,19 @@ use Rattle.sheet_decode.specs.declared.Decoding.{Decoding}
 pub record Listed (bytes : List ℕ) (d : Draft) (t : Catalogue) (l : Lists) : Type 0 where
   pub s : Sheet
   pub read : sheet (bits_of bytes) ≡ done s (drop l.at (bits_of bytes))
-  pub width : l.width ≡ length s.words
+  pub width : l.read.width ≡ length s.words
   pub bad : l.bad ≡ bad_words s.words
-  pub resource : l.resource ≡ number_of resource_bytes s.words
-  pub own : l.own ≡ number_of self_bytes s.words
-  pub types : types_in l.width (bits_of bytes) d l.count ≡ s.types
-  pub extensions : records_in t l.extensions ≡ s.extensions
+  pub resource : l.read.resource ≡ number_of resource_bytes s.words
+  pub own : l.read.own ≡ number_of self_bytes s.words
+  pub types : types_in l.read.width (bits_of bytes) d l.read.count ≡ s.types
+  pub extensions : records_in t l.read.extensions ≡ s.extensions
 
 module _ (bytes : List ℕ) (d : Draft) (t : Catalogue) where
   abbrev here : Lists → Seen
   here l = record {
-    telling = record { count = l.width; bad = l.bad; resource = l.resource; own = l.own };
-    types = types_in l.width (bits_of bytes) d l.count;
-    extensions = records_in t l.extensions;
+    telling = record { count = l.read.width; bad = l.bad; resource = l.read.resource; own = l.read.own };
+    types = types_in l.read.width (bits_of bytes) d l.read.count;
+    extensions = records_in t l.read.extensions;
   }
 
   pub listed : (l : Lists) → of_lists (bits_of bytes) d t (Ok l) ≡ seen (sheet (bits_of bytes)) → Listed bytes d t l
@@ -60,7 +54,7 @@ module _ (bytes : List ℕ) (d : Draft) (t : Catalogue) where
       go (done s rest) q f =
           let w : here l ≡ record { telling = telling_of s.words; types = s.types; extensions = s.extensions } = cc in
           let r : drop l.at (bits_of bytes) ≡ rest = cc in
-          let v : record { count = l.width; bad = l.bad; resource = l.resource; own = l.own } ≡ telling_of s.words = ap (λ (z : Seen). z.telling) w in
+          let v : record { count = l.read.width; bad = l.bad; resource = l.read.resource; own = l.read.own } ≡ telling_of s.words = ap (λ (z : Seen). z.telling) w in
           record {
             s = s;
             read = q ∙ ap (done s) (sym r);
@@ -79,21 +73,6 @@ module _ (bytes : List ℕ) (d : Draft) (t : Catalogue) where
       go : (x : Parsed Sheet) → sheet (bits_of bytes) ≡ x → refused (fault_of n) ≡ seen x → decoded bytes ≡ turned_back (sheet_fault (fault_of n))
       go (done s rest) q f = let z : ◌≡◌ {A = ℕ} 0 1 = cc in absurd (omega arith)
       go (refused r) q f = let w : fault_of n ≡ r = cc in not-read bytes r q ∙ ap (λ f. turned_back (sheet_fault f)) (sym w)
-
--- ---- keys
-
--- keys of names that were read are small
-pub low : (bytes : List ℕ) (d : Draft) (t : Catalogue) (l : Lists) → Listed bytes d t l → LowKeys d l.count
-unfolding types_in type_in name_of_key
-low bytes d t l h =
-    let w = read-is-within (bits_of bytes) (drop l.at (bits_of bytes)) h.s h.read in
-    record {
-      low = λ i b.
-          let T = type_in l.width (bits_of bytes) d i in
-          let m : In T h.s.types = subst (In T) h.types (tabulate-in (type_in l.width (bits_of bytes) d) l.count i b) in
-          let a : key_at d i / 256 < length h.s.words = (w.type T m).name.below (key_at d i / 256) (Memᴰ.head refl) in
-          omega (arith, a, w.words);
-    }
 
 -- ---- answers
 
@@ -117,19 +96,18 @@ module _ (bytes : List ℕ) (d : Draft) (t : Catalogue) (l : Lists) (h : Listed 
       pub twice-back : something_twice h.s ≡ true → decoded bytes ≡ turned_back 6
       twice-back c = was_read bytes h.s rest h.read ∙ six h.s rest f (sym h.bad ∙ g) c
 
-      pub passes : something_twice h.s ≡ false → length bytes ≤ 40960 → (entries : List ℕ) → Entered d entries l.count → Kept (bits_of bytes) d l → (r : Decoding)
-          → r.width ≡ l.width → r.count ≡ l.count → r.extensions ≡ l.extensions → r.resource ≡ l.resource → r.own ≡ l.own → Whole bytes d entries t r
-      passes c short entries en k r w n x a b = record {
+      pub passes : something_twice h.s ≡ false → length bytes ≤ 40960 → (entries : List Entry) → Entered d entries l.read.count → Kept (bits_of bytes) d l.read → Whole bytes d entries t l.read
+      passes c short entries en k = record {
         s = h.s;
         holds = record { rest = rest; short = short; read = h.read; fill = f; words = sym h.bad ∙ g; once = c };
         drafted = record {
-          few = omega (arith, n, k.count);
-          types = rw (n, ← h.width) h.types;
+          few = k.count;
+          types = rw (← h.width) h.types;
         };
-        notes = rw (n, ← h.width) k.notes;
-        entered = rw n en;
-        extensions = record { few = omega (arith, x, k.extensions); records = rw x h.extensions };
-        width = w ∙ h.width;
-        resource = a ∙ h.resource;
-        self = b ∙ h.own;
+        notes = rw (← h.width) k.notes;
+        entered = en;
+        extensions = record { few = k.extensions; records = h.extensions };
+        width = h.width;
+        resource = h.resource;
+        self = h.own;
       }

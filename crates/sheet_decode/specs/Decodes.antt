@@ -7,14 +7,15 @@ use Rattle.definitions.specs.Records.{Sheet}
 use Rattle.definitions.specs.Relisted.{Holds}
 use Rattle.decoding.specs.Decoding.{turned_back, decoded}
 use Rattle.catalogue.specs.declared.Catalogue.{Catalogue}
+use Rattle.sheet_draft.specs.declared.Decoding.{Decoding}
 use Rattle.sheet_draft.specs.declared.Draft.{Draft}
+use Rattle.sheet_draft.specs.declared.entry.Entry.{Entry}
 use Rattle.sheet_draft.specs.Drafted.{Drafted, Entered}
 use Rattle.sheet_types.specs.Rows.{NotesRead}
 use Rattle.sheet_extensions.specs.Records.{records_in}
 use Rattle.answers.specs.declared.Refusal.{Refusal}
 use Rattle.answers.specs.Answers as answers
 use Rattle.answers.specs.Answers.{alone, refusal_of}
-use Rattle.sheet_decode.specs.declared.Decoding.{Decoding}
 
 -- The extension records of the sheet stand in the catalogue, n of them.
 pub record Extensions (s : Sheet) (t : Catalogue) (n : ℕ) : Type 0 where
@@ -22,7 +23,7 @@ pub record Extensions (s : Sheet) (t : Catalogue) (n : ℕ) : Type 0 where
   pub records : records_in t n ≡ s.extensions
 
 -- The bytes hold a sheet, of which draft, entries and catalogue have the types and the extension records.
-pub record Whole (bytes : List ℕ) (d : Draft) (entries : List ℕ) (t : Catalogue) (r : Decoding) : Type 0 where
+pub record Whole (bytes : List ℕ) (d : Draft) (entries : List Entry) (t : Catalogue) (r : Decoding) : Type 0 where
   pub s : Sheet
   pub holds : Holds bytes s
   pub drafted : Drafted s (bits_of bytes) d r.count
@@ -39,5 +40,5 @@ pub record Back (bytes : List ℕ) (e : Refusal) : Type 0 where
   pub alone : refusal_of e ≡ alone (answers.number_of e)
 
 -- The whole sheet, or that refusal (FORMAT 7.3).
-abbrev pub Decodes : List ℕ → Draft → List ℕ → Catalogue → Result Decoding Refusal → Type 0
+abbrev pub Decodes : List ℕ → Draft → List Entry → Catalogue → Result Decoding Refusal → Type 0
 Decodes bytes d entries t r = MatchResult r (λ n. Whole bytes d entries t n) (λ e. Back bytes e)

@@ -9,7 +9,7 @@ use Prim.Native.Nat.{ℕ, zero, suc, ◌+◌, ◌*◌, ◌/◌, ◌%◌, ◌≤�
 use native.Mathlib.Omega.{arith}
 use borrow.Author.Tests.{eq-eqb, eqb-true}
 use Rattle.std.proofs.Math.Dec.{eqb}
-use Rattle.std.proofs.Math.ListN.{length, get_or}
+use Rattle.std.proofs.Math.ListN.{length}
 use Rattle.lists.specs.Lists.{In, filter, each}
 use Rattle.lists.specs.Tests.{same_test, and_left, and_right, and_both}
 use Rattle.lists.specs.Appending.{each_map, each_same}
@@ -26,7 +26,7 @@ use Rattle.law_classes.specs.Sets.{type_at}
 use Rattle.catalogue.specs.declared.Catalogue.{Catalogue}
 use Rattle.catalogue.specs.Layout.{key_at, extension_key_at, extension_count_at, extension_parent_at}
 use Rattle.catalogue.specs.Catalogue as catalogue
-use Rattle.sheet_keys.specs.Keys.{name_of_key, names_from}
+use Rattle.sheet_keys.specs.Keys.{name_of_key}
 use Rattle.sheet_extensions.specs.Records.{record_in, records_in}
 use Rattle.sheet_repeats.specs.TwiceLaws.{same_key}
 use Rattle.sheet_decode.specs.Decodes.{Extensions}
@@ -57,8 +57,8 @@ module _ (s : Sheet) (t : Catalogue) (n : ℕ) (w : Within s) (x : Extensions s 
   member e h = w.extension (record_in t e) (subst (In (record_in t e)) x.records (tabulate-in (record_in t) n e h))
 
   count_low : (e : ℕ) → e < n → extension_count_at t e ≤ 8
-  unfolding record_in names_from
-  count_low e h = omega (arith, (member e h).parents, length-tabulate (λ j. name_of_key (get_or t.extension_parents (8 * e + j) 0)) (extension_count_at t e))
+  unfolding record_in
+  count_low e h = omega (arith, (member e h).parents, length-tabulate (λ j. name_of_key (extension_parent_at t e j)) (extension_count_at t e))
 
   key-low : (e : ℕ) → e < n → extension_key_at t e < 16777216
   unfolding record_in name_of_key
@@ -66,20 +66,20 @@ module _ (s : Sheet) (t : Catalogue) (n : ℕ) (w : Within s) (x : Extensions s 
       let a : extension_key_at t e / 256 / 256 < length s.words = (member e h).name.below (extension_key_at t e / 256 / 256) (Memᴰ.head refl) in
       omega (arith, a, w.words)
 
-  parent-low : (e j : ℕ) → e < n → j < extension_count_at t e → extension_parent_at t (8 * e + j) < 65536
-  unfolding record_in names_from name_of_key
+  parent-low : (e j : ℕ) → e < n → j < extension_count_at t e → extension_parent_at t e j < 65536
+  unfolding record_in name_of_key
   parent-low e j h b =
-      let k = get_or t.extension_parents (8 * e + j) 0 in
-      let i : In (name_of_key k) (record_in t e).parents = tabulate-in (λ i. name_of_key (get_or t.extension_parents (8 * e + i) 0)) (extension_count_at t e) j b in
+      let k = extension_parent_at t e j in
+      let i : In (name_of_key k) (record_in t e).parents = tabulate-in (λ i. name_of_key (extension_parent_at t e i)) (extension_count_at t e) j b in
       let a : k / 256 < length s.words = ((member e h).parent (name_of_key k) i).below (k / 256) (Memᴰ.head refl) in
       omega (arith, a, w.words)
 
   -- the parents that a record adds
   parents-are : (e : ℕ) → catalogue.parents_in t e ≡ (record_in t e).parents
-  unfolding catalogue.parents_in record_in names_from
+  unfolding catalogue.parents_in record_in
   parents-are e =
-      tabulate-same (λ j. catalogue.name_of_key (extension_parent_at t (8 * e + j))) (λ j. name_of_key (get_or t.extension_parents (8 * e + j) 0)) (extension_count_at t e)
-      (λ j b. one_name (extension_parent_at t (8 * e + j)))
+      tabulate-same (λ j. catalogue.name_of_key (extension_parent_at t e j)) (λ j. name_of_key (extension_parent_at t e j)) (extension_count_at t e)
+      (λ j b. one_name (extension_parent_at t e j))
 
   -- the record is one for the type at a
   for-name : (e a : ℕ) → a < length (line_map s).types → same_name (record_in t e).name (type_at (line_map s) a).name ≡ eqb (extension_key_at t e / 256) (key_at t a)

@@ -6,6 +6,7 @@ use Rattle.definitions.specs.Records.{TypeInfo, Extension, Sheet}
 use Rattle.fields.specs.declared.Fault.{Fault}
 use Rattle.fields.specs.Fields.{fault_of}
 use Rattle.catalogue.specs.declared.Catalogue.{Catalogue}
+use Rattle.sheet_draft.specs.declared.Decoding.{Decoding}
 use Rattle.sheet_draft.specs.declared.Draft.{Draft}
 use Rattle.sheet_draft.specs.Draft.{types_in}
 use Rattle.sheet_types.specs.Rows.{NotesRead}
@@ -40,16 +41,16 @@ abbrev pub of_lists : List Bool → Draft → Catalogue → Result Lists Fault �
 of_lists bs d t (Ok l) =
     done
     (record {
-      telling = record { count = l.width; bad = l.bad; resource = l.resource; own = l.own };
-      types = types_in l.width bs d l.count;
-      extensions = records_in t l.extensions;
+      telling = record { count = l.read.width; bad = l.bad; resource = l.read.resource; own = l.read.own };
+      types = types_in l.read.width bs d l.read.count;
+      extensions = records_in t l.read.extensions;
     })
     (drop l.at bs)
 of_lists bs d t (Err r) = refused (fault_of r)
 
 -- The counts are those that a sheet can have, and annotations and marks can be read again.
-pub record Kept (bs : List Bool) (d : Draft) (l : Lists) : Type 0 where
-  pub width : l.width ≤ 200
-  pub count : l.count ≤ 64
-  pub extensions : l.extensions ≤ 32
-  pub notes : NotesRead l.width bs d l.count
+pub record Kept (bs : List Bool) (d : Draft) (n : Decoding) : Type 0 where
+  pub width : n.width ≤ 200
+  pub count : n.count ≤ 64
+  pub extensions : n.extensions ≤ 32
+  pub notes : NotesRead n.width bs d n.count

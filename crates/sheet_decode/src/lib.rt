@@ -12,37 +12,22 @@ use answers::Refusal;
 use bits::Cursor;
 use catalogue::Catalogue;
 use fields::{Fault, Sheet};
-use sheet_draft::Draft;
-use sheet_repeats::Sizes;
+use sheet_draft::{Decoding, Draft, Entry};
 use sheet_words::WordsRead;
 
-// How many words, types and extension records there are, the place behind the last field, and what the words tell. A flag and no
-// Err for words that are refused: 7 is told before 5 (FORMAT 7.3).
+// What was read, the place behind the last field, and whether words are refused: a flag and no Err, as 7 is told before 5
+// (FORMAT 7.3).
 #[derive(Clone, Copy)]
 pub struct Lists {
     pub at: usize,
-    pub width: usize,
-    pub count: usize,
-    pub extensions: usize,
     pub bad: bool,
-    pub resource: u8,
-    pub own: u8,
-}
-
-// How many words, types and extension records there are, and the numbers of `resource` and `self`.
-#[derive(Clone, Copy)]
-pub struct Decoding {
-    pub width: usize,
-    pub count: usize,
-    pub extensions: usize,
-    pub resource: u8,
-    pub own: u8,
+    pub read: Decoding,
 }
 
 // The types and the extension records behind the words.
 fn read_records(s: &[u8], w: WordsRead, d: &mut Draft, t: &mut Catalogue) -> Result<Lists, Fault>
     requires { Addressable s.now × (w.count ≤ 200) }
-    ensures { (of_lists (bits_of s.now) d.new t.new result ≡ records (telling_in w) (drop w.at (bits_of s.now))) × IfOk result (Kept (bits_of s.now) d.new) }
+    ensures { (of_lists (bits_of s.now) d.new t.new result ≡ records (telling_in w) (drop w.at (bits_of s.now))) × IfOk result (λ l. Kept (bits_of s.now) d.new l.read) }
 {
     let sheet = Sheet {
         bytes: s,
@@ -52,19 +37,21 @@ fn read_records(s: &[u8], w: WordsRead, d: &mut Draft, t: &mut Catalogue) -> Res
     let (records, end) = sheet_extensions::read_extensions(sheet, next, t)?;
     Ok(Lists {
         at: end.at,
-        width: w.count,
-        count: types,
-        extensions: records,
         bad: w.bad,
-        resource: w.resource,
-        own: w.own,
+        read: Decoding {
+            width: w.count,
+            count: types,
+            extensions: records,
+            resource: w.resource,
+            own: w.own,
+        },
     })
 }
 
 // All fields of the sheet: refusals 3 and 4 (FORMAT 2.1).
 fn read_lists(s: &[u8], d: &mut Draft, t: &mut Catalogue) -> Result<Lists, Fault>
     requires { Addressable s.now }
-    ensures { (of_lists (bits_of s.now) d.new t.new result ≡ seen (sheet (bits_of s.now))) × IfOk result (Kept (bits_of s.now) d.new) }
+    ensures { (of_lists (bits_of s.now) d.new t.new result ≡ seen (sheet (bits_of s.now))) × IfOk result (λ l. Kept (bits_of s.now) d.new l.read) }
 {
     let next = sheet::read_version(s, Cursor { at: 0 })?;
     let w = sheet_words::read_words(s, next)?;
@@ -75,7 +62,7 @@ fn read_lists(s: &[u8], d: &mut Draft, t: &mut Catalogue) -> Result<Lists, Fault
 pub fn decode(
     s: &[u8],
     d: &mut Draft,
-    entries: &mut [u64; 64],
+    entries: &mut [Entry; 64],
     t: &mut Catalogue,
 ) -> Result<Decoding, Refusal>
     requires { length s.now ≤ 40960 }
@@ -88,20 +75,10 @@ pub fn decode(
     if l.bad {
         return Err(Refusal::Words);
     }
-    sheet_order::order_by_key(d, l.count, entries);
-    let n = Sizes {
-        words: l.width,
-        types: l.count,
-        extensions: l.extensions,
-    };
+    let n = l.read;
+    sheet_order::order_by_key(d, n.count, entries);
     if sheet_repeats::is_something_twice(s, n, d, entries, t) {
         return Err(Refusal::Repeats);
     }
-    Ok(Decoding {
-        width: l.width,
-        count: l.count,
-        extensions: l.extensions,
-        resource: l.resource,
-        own: l.own,
-    })
+    Ok(n)
 }

@@ -1,20 +1,40 @@
 // The draft of a map: what was read of each type, a row for each in the order of the sheet. Annotations and marks stay in the
-// sheet; the draft has where they begin.
+// sheet; the draft has where they begin. Rows and no columns: each is filled at once, and no set is asked of them.
 #![tactic(auto)]
 
-ghost use Rattle.std.specs.Prelude.{◌≡◌, ◌+◌, ◌*◌, ◌%◌, ◌≤◌, ◌<◌};
+ghost use Rattle.std.specs.Prelude.{◌≡◌, ◌≤◌, ◌<◌};
 ghost use Rattle.sheet_draft.specs.Draft.{blank, parent_count_at, parent_at};
+
+mod entry;
+
+pub use entry::Entry;
+
+// How many words, types and extension records a sheet has, and the numbers of its words `resource` and `self`.
+#[derive(Clone, Copy)]
+pub struct Decoding {
+    pub width: usize,
+    pub count: usize,
+    pub extensions: usize,
+    pub resource: u8,
+    pub own: u8,
+}
+
+// What was read of a type.
+#[derive(Clone, Copy)]
+pub struct DraftRow {
+    // Its name, as a key.
+    pub key: u64,
+    // Variant, virtual, trait and number of parents, in the 8 bits that the sheet has them in (FORMAT 2.6).
+    pub head: u64,
+    // The bit of the sheet from which its annotations and marks stand.
+    pub place: usize,
+    // Its parents, as keys.
+    pub parents: [u64; 8],
+}
 
 #[derive(Drop)]
 pub struct Draft {
-    // The name of the type in a row, as a key.
-    pub keys: [u64; 64],
-    // Variant, virtual, trait and number of parents, in the 8 bits that the sheet has them in (FORMAT 2.6).
-    pub heads: [u64; 64],
-    // The bit of the sheet from which its annotations and marks stand.
-    pub places: [usize; 64],
-    // Its parents, as keys: those of row i from 8 * i on.
-    pub parents: [u64; 512],
+    pub rows: [DraftRow; 64],
 }
 
 impl Draft {
@@ -23,12 +43,13 @@ impl Draft {
     pub fn blank() -> Draft
         ensures { result ≡ blank }
     {
-        Draft {
-            keys: [0; 64],
-            heads: [0; 64],
-            places: [0; 64],
-            parents: [0; 512],
-        }
+        let none = DraftRow {
+            key: 0,
+            head: 0,
+            place: 0,
+            parents: [0; 8],
+        };
+        Draft { rows: [none; 64] }
     }
 
     // How many parents the type in row i has.
@@ -36,7 +57,7 @@ impl Draft {
         requires { i < 64 }
         ensures { (result ≡ parent_count_at self.now i) × (result ≤ 8) }
     {
-        (self.heads[i] % 16 % 9) as usize
+        (self.rows[i].head % 16 % 9) as usize
     }
 
     // Its k-th parent, as a key.
@@ -44,6 +65,6 @@ impl Draft {
         requires { (i < 64) × (k < 8) }
         ensures { result ≡ parent_at self.now i k }
     {
-        self.parents[8 * i + k]
+        self.rows[i].parents[k]
     }
 }

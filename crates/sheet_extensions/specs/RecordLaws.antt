@@ -1,20 +1,18 @@
 -- Laws of the extension records in a catalogue.
-use Rattle.std.specs.Prelude.{Bool, List, [], ◌∷◌, ◌++◌, ◌≡◌, refl, ℕ, ◌+◌, ◌*◌, ◌/◌, ◌%◌, ◌≤◌, ◌<◌, eqb, length, drop, get_or}
+use Rattle.std.specs.Prelude.{Bool, List, [], ◌∷◌, ◌++◌, ◌≡◌, refl, ℕ, ◌+◌, ◌*◌, ◌/◌, ◌%◌, ◌<◌, length, drop, get_or, set}
 use Rattle.std.proofs.Math.Path.{sym, ap}
-use Rattle.std.proofs.Common.{◌∙◌, eqb-true}
+use Rattle.std.proofs.Common.{◌∙◌, length-set}
 use native.Mathlib.Omega.{arith}
-use Rattle.std.proofs.lemmas.Bool.{eqb-false}
 use Rattle.std.proofs.Math.Seq
-use Rattle.lists.specs.Tests.{by}
 use Rattle.lists.specs.Tabulating.{tabulate, tabulate-set, tabulate-same}
 use Rattle.definitions.specs.Parse as parse
 use Rattle.definitions.specs.Parse.{Parsed, done, refused, next, pure, counted}
 use Rattle.definitions.specs.Reading.{word_field, word_if_flag, name, extension}
 use Rattle.fields.specs.FieldLaws.{word_lt}
-use Rattle.sheet_keys.specs.Keys.{name_of_key, names_from}
+use Rattle.sheet_keys.specs.Keys.{name_of_key, names_in}
 use Rattle.catalogue.specs.declared.Catalogue.{Catalogue}
-use Rattle.catalogue.specs.Layout.{extension_key_at, extension_count_at}
-use Rattle.sheet_extensions.specs.Records.{record_in, records_in, record_set, FewParents, KeptRecords, ParentsPut}
+use Rattle.catalogue.specs.Layout.{extension_key_at, extension_count_at, extension_parent_at}
+use Rattle.sheet_extensions.specs.Records.{parents_of, record_in, records_in, record_set, KeptRecords, ParentsPut}
 
 -- ---- keys
 
@@ -40,7 +38,7 @@ module _ (t : Catalogue) (e key count : ℕ) (few : e < 32) (keys : length t.ext
   set_key : extension_key_at (record_set t e key count) e ≡ key
   set_key = Seq.get_or-set_same t.extension_keys e key 0 (omega arith)
 
-  pub set-count : extension_count_at (record_set t e key count) e ≡ count
+  set-count : extension_count_at (record_set t e key count) e ≡ count
   set-count = Seq.get_or-set_same t.extension_counts e count 0 (omega arith)
 
 -- records before it
@@ -51,16 +49,27 @@ kept_record t e key count old k = record {
   parents = k.parents;
 }
 
+-- the parents of record e are put
+pub row_put : (e : ℕ) (t : Catalogue) (row : List ℕ) → ParentsPut e t (record t { extension_parents = set t.extension_parents e row })
+row_put e t row = record {
+  only = refl;
+  size = length-set t.extension_parents e row;
+  before = λ i j b. ap (λ (l : List ℕ). get_or l j 0) (Seq.get_or-set_other t.extension_parents e i row [] (λ z. omega arith));
+}
+
+pub none-put : (e : ℕ) (t : Catalogue) → ParentsPut e t t
+none-put e t = record { only = refl; size = refl; before = λ i j b. refl }
+
 -- nothing is put but parents of record e
 pub kept-below : (e : ℕ) (old new : Catalogue) → ParentsPut e old new → KeptRecords e old new
 kept-below e old new k = record {
   keys = λ j b. ap (λ (t : Catalogue). extension_key_at t j) k.only;
   counts = λ j b. ap (λ (t : Catalogue). extension_count_at t j) k.only;
-  parents = k.before.same;
+  parents = k.before;
 }
 
 pub kept_same : (e : ℕ) (t : Catalogue) → KeptRecords e t t
-kept_same e t = record { keys = λ j b. refl; counts = λ j b. refl; parents = λ j b. refl }
+kept_same e t = record { keys = λ j b. refl; counts = λ j b. refl; parents = λ i j b. refl }
 
 -- ---- what the code read
 
@@ -80,7 +89,7 @@ module _ (W : ℕ) (bs : List Bool) (p : ℕ) where
       no-added r g = sym (rw (← e, ← f, ← g))
 
       pub record-read : (t : Catalogue) (i count at : ℕ) → i < 32 → length t.extension_keys ≡ 32 → length t.extension_counts ≡ 32 → w < 256 →
-          done (names_from t.extension_parents (8 * i) count) (drop at bs) ≡ counted 4 1 8 (name W) (drop at₂ bs) →
+          done (names_in (parents_of t i) count) (drop at bs) ≡ counted 4 1 8 (name W) (drop at₂ bs) →
           done (record_in (record_set t i (key * 256 + w) count) i) (drop at bs) ≡ extension W (drop p bs)
       unfolding extension record_in
       record-read t i count at few x y b g =
@@ -95,28 +104,16 @@ pub records-none : (t : Catalogue) → records_in t 0 ≡ []
 unfolding records_in tabulate
 records-none t = refl
 
-parents-kept : (e j n : ℕ) (t u : Catalogue) → KeptRecords e t u → j < e → n ≤ 8 → names_from u.extension_parents (8 * j) n ≡ names_from t.extension_parents (8 * j) n
-unfolding names_from
-parents-kept e j n t u k l m =
-    tabulate-same (λ b. name_of_key (get_or u.extension_parents (8 * j + b) 0)) (λ b. name_of_key (get_or t.extension_parents (8 * j + b) 0)) n
-    (λ b h. ap name_of_key (k.parents (8 * j + b) (omega arith)))
-
-record-kept : (e : ℕ) (t u : Catalogue) → FewParents t e → KeptRecords e t u → (j : ℕ) → j < e → record_in u j ≡ record_in t j
+record-kept : (e : ℕ) (t u : Catalogue) → KeptRecords e t u → (j : ℕ) → j < e → record_in u j ≡ record_in t j
 unfolding record_in
-record-kept e t u f k j l = rw (k.keys j l, k.counts j l, parents-kept e j (extension_count_at t j) t u k l (f.few j l))
+record-kept e t u k j l = rw (k.keys j l, k.counts j l, parents-kept e j (extension_count_at t j) t u k l)
+  where
+    parents-kept : (e j n : ℕ) (t u : Catalogue) → KeptRecords e t u → j < e → names_in (parents_of u j) n ≡ names_in (parents_of t j) n
+    parents-kept e j n t u k l =
+        tabulate-same (λ b. name_of_key (extension_parent_at u j b)) (λ b. name_of_key (extension_parent_at t j b)) n
+        (λ b h. ap name_of_key (k.parents j b l))
 
 -- one record more
-pub records-more : (e : ℕ) (t u : Catalogue) → FewParents t e → KeptRecords e t u → records_in u (e + 1) ≡ records_in t e ++ (record_in u e ∷ [])
+pub records-more : (e : ℕ) (t u : Catalogue) → KeptRecords e t u → records_in u (e + 1) ≡ records_in t e ++ (record_in u e ∷ [])
 unfolding records_in
-records-more e t u f k = tabulate-set (record_in t) (record_in u) e (record_in u e) (record-kept e t u f k) refl
-
-pub few-none : (t : Catalogue) → FewParents t 0
-few-none t = record { few = λ e h. absurd (omega arith) }
-
-pub few-more : (e : ℕ) (t u : Catalogue) → KeptRecords e t u → extension_count_at u e ≤ 8 → FewParents t e → FewParents u (e + 1)
-few-more e t u k h f = record {
-  few = λ j b.
-      by (eqb j e)
-      (λ q. let z = eqb-true j e q in rw z h)
-      (λ q. let z = eqb-false j e q in let c = k.counts j (omega (arith, z)) in omega (arith, c, f.few j (omega (arith, z))));
-}
+records-more e t u k = tabulate-set (record_in t) (record_in u) e (record_in u e) (record-kept e t u k) refl

@@ -1,22 +1,26 @@
 -- The extension records that stand in a catalogue, and what the code's answers mean.
-use Rattle.std.specs.Prelude.{Bool, List, ◌≡◌, ℕ, ◌*◌, ◌/◌, ◌%◌, ◌≤◌, ◌<◌, get_or, set, Result, IfOk}
+use Rattle.std.specs.Prelude.{Bool, List, [], ◌≡◌, ℕ, ◌/◌, ◌%◌, ◌<◌, length, get_or, set, Result}
 use Rattle.lists.specs.Tabulating.{tabulate}
 use Rattle.definitions.specs.Parse.{Parsed, next, pure}
 use Rattle.definitions.specs.Records as records
 use Rattle.bits.specs.declared.Cursor.{Cursor}
 use Rattle.fields.specs.declared.Fault.{Fault}
 use Rattle.fields.specs.Fields.{of_parsed}
-use Rattle.sheet_keys.specs.Keys.{name_of_key, names_from, Kept}
+use Rattle.sheet_keys.specs.Keys.{name_of_key, names_in}
 use Rattle.sheet_notes.specs.Notes.{of_skip}
 use Rattle.catalogue.specs.declared.Catalogue.{Catalogue}
-use Rattle.catalogue.specs.Layout.{extension_key_at, extension_count_at}
+use Rattle.catalogue.specs.Layout.{extension_key_at, extension_count_at, extension_parent_at}
+
+-- The keys of the parents of record e, as they stand.
+abbrev pub parents_of : Catalogue → ℕ → List ℕ
+parents_of t e = get_or t.extension_parents e []
 
 -- Record e: its name and word out of its key, and the parents that it adds (FORMAT 2.10).
 unfoldable pub record_in : Catalogue → ℕ → records.Extension
 record_in t e = record {
   name = name_of_key (extension_key_at t e / 256);
   word = extension_key_at t e % 256;
-  parents = names_from t.extension_parents (8 * e) (extension_count_at t e);
+  parents = names_in (parents_of t e) (extension_count_at t e);
 }
 
 -- The first n records.
@@ -27,24 +31,17 @@ records_in t n = tabulate (record_in t) n
 abbrev pub record_set : Catalogue → ℕ → ℕ → ℕ → Catalogue
 record_set t e key count = record t { extension_keys = set t.extension_keys e key; extension_counts = set t.extension_counts e count }
 
--- The first n records have at most 8 parents each, so that none reaches into the next.
-pub record FewParents (t : Catalogue) (n : ℕ) : Type 0 where
-  pub few : (e : ℕ) → e < n → extension_count_at t e ≤ 8
-
 -- The records before e are left as they were.
 pub record KeptRecords (e : ℕ) (old new : Catalogue) : Type 0 where
   pub keys : (j : ℕ) → j < e → extension_key_at new j ≡ extension_key_at old j
   pub counts : (j : ℕ) → j < e → extension_count_at new j ≡ extension_count_at old j
-  pub parents : (j : ℕ) → j < 8 * e → get_or new.extension_parents j 0 ≡ get_or old.extension_parents j 0
+  pub parents : (i j : ℕ) → i < e → extension_parent_at new i j ≡ extension_parent_at old i j
 
 -- Only parents were put, and none of a record before e.
 pub record ParentsPut (e : ℕ) (old new : Catalogue) : Type 0 where
   pub only : new ≡ record old { extension_parents = new.extension_parents }
-  pub before : Kept (8 * e) old.extension_parents new.extension_parents
-
--- A record that was read has few parents.
-abbrev pub FewHere : Catalogue → ℕ → Result Cursor Fault → Type 0
-FewHere t e r = IfOk r (λ c. extension_count_at t e ≤ 8)
+  pub size : length new.extension_parents ≡ length old.extension_parents
+  pub before : (i j : ℕ) → i < e → extension_parent_at new i j ≡ extension_parent_at old i j
 
 -- An answer as a parser's: the record is that at e.
 abbrev pub of_record_read : List Bool → Catalogue → ℕ → Result Cursor Fault → Parsed records.Extension

@@ -5,8 +5,8 @@ ghost use Rattle.std.specs.Prelude.{◌≡◌, ◌+◌, ◌*◌, ◌≤◌, ◌<
 ghost use Rattle.definitions.specs.Parse.{repeat, counted};
 ghost use Rattle.definitions.specs.Reading.{name, extension};
 ghost use Rattle.fields.specs.Fields.{bits_in};
-ghost use Rattle.sheet_keys.specs.Keys.{of_span};
-ghost use Rattle.sheet_extensions.specs.Records.{of_record_read, of_extensions_read, FewHere, KeptRecords, ParentsPut};
+ghost use Rattle.sheet_keys.specs.Keys.{of_names};
+ghost use Rattle.sheet_extensions.specs.Records.{of_record_read, of_extensions_read, parents_of, KeptRecords, ParentsPut};
 
 use bits::Cursor;
 use catalogue::Catalogue;
@@ -15,10 +15,10 @@ use fields::{Fault, Parsed, Sheet};
 // The parents that a record adds, 1 to 8 (FORMAT 2.10): how many, and the cursor behind them.
 fn read_added(s: Sheet, c: Cursor, e: usize, t: &mut Catalogue) -> Parsed<usize>
     requires { e < 32 }
-    ensures { (of_span (bits_in s.entry) t.new.extension_parents (8 * e) result ≡ counted 4 1 8 (name s.entry.words) (drop c.at (bits_in s.entry))) × ParentsPut e t.old t.new × IfOk result (λ v. v.0 ≤ 8) }
+    ensures { (of_names (bits_in s.entry) (parents_of t.new e) result ≡ counted 4 1 8 (name s.entry.words) (drop c.at (bits_in s.entry))) × ParentsPut e t.old t.new }
 {
     let (n, next) = fields::read_between(s.bytes, c, 4, 1, 8)?;
-    sheet_keys::read_each_key(s, next, n, &mut t.extension_parents, 8 * e)
+    sheet_keys::read_each_key(s, next, n, &mut t.extension_parents[e])
 }
 
 // The key of a name, and a word.
@@ -32,7 +32,7 @@ fn key_with(key: u64, w: u8) -> u64
 // The record at the cursor, as record e of the catalogue.
 fn read_record(s: Sheet, c: Cursor, e: usize, t: &mut Catalogue) -> Result<Cursor, Fault>
     requires { e < 32 }
-    ensures { (of_record_read (bits_in s.entry) t.new e result ≡ extension s.entry.words (drop c.at (bits_in s.entry))) × KeptRecords e t.old t.new × FewHere t.new e result }
+    ensures { (of_record_read (bits_in s.entry) t.new e result ≡ extension s.entry.words (drop c.at (bits_in s.entry))) × KeptRecords e t.old t.new }
 {
     let (key, c1) = sheet_keys::read_key(s, c)?;
     let (w, c2) = fields::read_word_field(s.bytes, c1, s.words)?;

@@ -1,21 +1,23 @@
 -- Laws of keys and of tables of keys.
 use Rattle.std.specs.Prelude.{Bool, true, false, cond, List, [], ◌∷◌, ◌++◌, ◌≡◌, ℕ, ◌+◌, ◌*◌, ◌-◌, ◌/◌, ◌%◌, ◌≤◌, ◌<◌, eqb, length, drop, get_or, set}
 use Rattle.std.proofs.Math.Path.{refl, sym}
-use Rattle.std.proofs.Common.{ap, ◌∙◌, length-set}
+use Rattle.std.proofs.Common.{ap}
 use native.Mathlib.Omega.{arith}
 use borrow.Author.Tests.{ne_eqb, eqb-true, eqb-false, lt-ltb, le-ltb}
 use Rattle.std.proofs.Math.Seq
-use Rattle.lists.specs.Tabulating.{tabulate, tabulate-set, tabulate-same}
+use Rattle.lists.specs.Tabulating.{tabulate, tabulate-set}
 use Rattle.definitions.specs.Bits.{num}
 use Rattle.definitions.specs.Parse.{done, refused, allowed, not_allowed}
 use Rattle.definitions.specs.Reading.{word_field, word_if_flag, name}
 use Rattle.bits.specs.NumberLaws.{num-lt}
 use Rattle.sheet_window.specs.WindowLaws.{field_in, split}
-use Rattle.fields.specs.Fields.{two_words}
-use Rattle.sheet_keys.specs.Keys.{name_of_key, names_from, Kept}
+use Rattle.fields.specs.declared.Name.{Name}
+use Rattle.fields.specs.Fields.{two_words, name_of}
+use Rattle.fields.specs.Keys.{key_of}
+use Rattle.sheet_keys.specs.Keys.{name_of_key, names_in}
 
 -- the key of two words
-pub key-words : (a b : ℕ) → a < 256 → b < 256 → name_of_key (a * 256 + (b + 1) % 256) ≡ two_words a b
+key-words : (a b : ℕ) → a < 256 → b < 256 → name_of_key (a * 256 + (b + 1) % 256) ≡ two_words a b
 unfolding name_of_key
 key-words a b h k =
     let q : (a * 256 + (b + 1) % 256) / 256 ≡ a = omega arith in
@@ -29,6 +31,10 @@ key-words a b h k =
         let q : (b + 1) % 256 ≡ b + 1 = omega (arith, n) in
         let z : b + 1 - 1 ≡ b = omega arith in
         rw (q, ne_eqb (b + 1) 0 (λ w. omega arith), z)
+
+-- the key of a name
+pub named : (n : Name) → n.first < 256 → n.second < 256 → name_of_key (key_of n) ≡ name_of n
+named n h k = key-words n.first n.second h k
 
 -- ---- a name out of 17 bits
 
@@ -54,11 +60,11 @@ module _ (bs : List Bool) (p W w : ℕ) (l : p + 17 ≤ length bs) (few : W ≤ 
   unfolding name word_field allowed
   first-large h = sym (rw (field_in bs p 8 (p + 8) (omega arith) refl (omega arith), word, le-ltb (w / 512) W h))
 
-  pub one-word : w / 512 < W → w / 256 % 2 ≡ 0 → done (name_of_key (w / 512 * 256)) (drop (p + 9) bs) ≡ name W (drop p bs)
+  pub one-word : w / 512 < W → w / 256 % 2 ≡ 0 → done (name_of_key (key_of (record { first = w / 512; second = 255 }))) (drop (p + 9) bs) ≡ name W (drop p bs)
   unfolding name word_field word_if_flag allowed name_of_key
   one-word h z =
-      let a : w / 512 * 256 / 256 ≡ w / 512 = omega arith in
-      let b : w / 512 * 256 % 256 ≡ 0 = omega arith in
+      let a : (w / 512 * 256 + (255 + 1) % 256) / 256 ≡ w / 512 = omega arith in
+      let b : (w / 512 * 256 + (255 + 1) % 256) % 256 ≡ 0 = omega arith in
       sym (rw (
         field_in bs p 8 (p + 8) (omega arith) refl (omega arith),
         word,
@@ -86,11 +92,11 @@ module _ (bs : List Bool) (p W w : ℕ) (l : p + 17 ≤ length bs) (few : W ≤ 
           le-ltb (w % 256) W k,
         ))
 
-    pub two-words : w % 256 < W → done (name_of_key (w / 512 * 256 + w % 256 + 1)) (drop (p + 17) bs) ≡ name W (drop p bs)
+    pub two-words : w % 256 < W → done (name_of_key (key_of (record { first = w / 512; second = w % 256 }))) (drop (p + 17) bs) ≡ name W (drop p bs)
     unfolding name word_field word_if_flag allowed name_of_key
     two-words k =
-        let a : (w / 512 * 256 + w % 256 + 1) / 256 ≡ w / 512 = omega arith in
-        let b : (w / 512 * 256 + w % 256 + 1) % 256 ≡ w % 256 + 1 = omega arith in
+        let a : (w / 512 * 256 + (w % 256 + 1) % 256) / 256 ≡ w / 512 = omega (arith, few, k) in
+        let b : (w / 512 * 256 + (w % 256 + 1) % 256) % 256 ≡ w % 256 + 1 = omega (arith, few, k) in
         let c : w % 256 + 1 - 1 ≡ w % 256 = omega arith in
         sym (rw (
           field_in bs p 8 (p + 8) (omega arith) refl (omega arith),
@@ -110,30 +116,13 @@ module _ (bs : List Bool) (p W w : ℕ) (l : p + 17 ≤ length bs) (few : W ≤ 
 
 -- ---- tables
 
-pub names-none : (l : List ℕ) (base : ℕ) → names_from l base 0 ≡ []
-unfolding names_from tabulate
-names-none l base = refl
+pub names-none : (l : List ℕ) → names_in l 0 ≡ []
+unfolding tabulate
+names-none l = refl
 
 -- one name more
-pub names_more : (l : List ℕ) (base n k : ℕ) → base + n < length l →
-    names_from (set l (base + n) k) base (n + 1) ≡ names_from l base n ++ (name_of_key k ∷ [])
-unfolding names_from
-names_more l base n k h =
-    tabulate-set (λ j. name_of_key (get_or l (base + j) 0)) (λ j. name_of_key (get_or (set l (base + n) k) (base + j) 0)) n (name_of_key k)
-    (λ j s. ap name_of_key (Seq.get_or-set_other l (base + n) (base + j) k 0 (λ e. omega arith)))
-    (ap name_of_key (Seq.get_or-set_same l (base + n) k 0 h))
-
--- names below a kept base
-pub names-kept : (base at n : ℕ) (l k : List ℕ) → Kept base l k → at + n ≤ base → names_from k at n ≡ names_from l at n
-unfolding names_from
-names-kept base at n l k h s =
-    tabulate-same (λ j. name_of_key (get_or k (at + j) 0)) (λ j. name_of_key (get_or l (at + j) 0)) n (λ j i. ap name_of_key (h.same (at + j) (omega arith)))
-
-pub kept-all : (base : ℕ) (l : List ℕ) → Kept base l l
-kept-all base l = record { size = refl; same = λ i h. refl }
-
-pub kept_set : (base at v : ℕ) (l k : List ℕ) → Kept base l k → base ≤ at → Kept base l (set k at v)
-kept_set base at v l k h s = record {
-  size = length-set k at v ∙ h.size;
-  same = λ i j. Seq.get_or-set_other k at i v 0 (λ e. omega arith) ∙ h.same i j;
-}
+pub names_more : (l : List ℕ) (n k : ℕ) → n < length l → names_in (set l n k) (n + 1) ≡ names_in l n ++ (name_of_key k ∷ [])
+names_more l n k h =
+    tabulate-set (λ j. name_of_key (get_or l j 0)) (λ j. name_of_key (get_or (set l n k) j 0)) n (name_of_key k)
+    (λ j s. ap name_of_key (Seq.get_or-set_other l n j k 0 (λ e. omega arith)))
+    (ap name_of_key (Seq.get_or-set_same l n k 0 h))

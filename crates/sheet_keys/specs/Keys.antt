@@ -1,5 +1,5 @@
 -- What keys mean, and what a table of keys holds.
-use Rattle.std.specs.Prelude.{Bool, cond, List, [], ◌∷◌, ◌≡◌, ℕ, ◌+◌, ◌-◌, ◌/◌, ◌%◌, ◌<◌, eqb, length, get_or, Result}
+use Rattle.std.specs.Prelude.{Bool, cond, List, [], ◌∷◌, ℕ, ◌-◌, ◌/◌, ◌%◌, eqb, get_or, Result}
 use Rattle.lists.specs.Tabulating.{tabulate}
 use Rattle.definitions.specs.Parse.{Parsed}
 use Rattle.bits.specs.declared.Cursor.{Cursor}
@@ -13,15 +13,10 @@ name_of_key k = (k / 256) ∷ cond (eqb (k % 256) 0) [] ((k % 256 - 1) ∷ [])
 abbrev pub of_key_read : List Bool → Result (ℕ × Cursor) Fault → Parsed (List ℕ)
 of_key_read = of_parsed name_of_key
 
--- n names of a table, from `base` on
-unfoldable pub names_from : List ℕ → ℕ → ℕ → List (List ℕ)
-names_from l base n = tabulate (λ j. name_of_key (get_or l (base + j) 0)) n
+-- The names of the first n keys of a table.
+abbrev pub names_in : List ℕ → ℕ → List (List ℕ)
+names_in l n = tabulate (λ j. name_of_key (get_or l j 0)) n
 
--- so many names of a table
-abbrev pub of_span : List Bool → List ℕ → ℕ → Result (ℕ × Cursor) Fault → Parsed (List (List ℕ))
-of_span bs l base = of_parsed (names_from l base) bs
-
--- what stands below `base` is left as it was
-pub record Kept (base : ℕ) (old new : List ℕ) : Type 0 where
-  pub size : length new ≡ length old
-  pub same : (i : ℕ) → i < base → get_or new i 0 ≡ get_or old i 0
+-- An answer as a parser's: the names are the first ones of a table.
+abbrev pub of_names : List Bool → List ℕ → Result (ℕ × Cursor) Fault → Parsed (List (List ℕ))
+of_names bs l = of_parsed (names_in l) bs

@@ -1,7 +1,7 @@
 // Steps over what stands behind a type's parents: tested field by field, and nothing kept.
 #![tactic(auto)]
 
-ghost use Rattle.std.specs.Prelude.{◌≡◌, ◌≤◌, drop};
+ghost use Rattle.std.specs.Prelude.{◌≡◌, drop};
 ghost use Rattle.definitions.specs.Bits.{bits_of};
 ghost use Rattle.definitions.specs.Parse.{counted};
 ghost use Rattle.definitions.specs.Reading.{name, annotation, mark};

@@ -3,25 +3,26 @@ use Rattle.std.specs.Prelude.{Bool, not, ◌||◌, List, ℕ, ◌≤◌, eqb, ta
 use Rattle.lists.specs.Lists.{any, repeats, ascends}
 use Rattle.lists.specs.Tabulating.{tabulate}
 use Rattle.repeats.specs.Repeats.{type_repeats}
+use Rattle.sheet_draft.specs.declared.Decoding.{Decoding}
 use Rattle.sheet_draft.specs.declared.Draft.{Draft}
+use Rattle.sheet_draft.specs.declared.entry.Entry.{Entry}
 use Rattle.sheet_draft.specs.Draft.{types_in}
 use Rattle.sheet_draft.specs.Drafted.{entry_before}
 use Rattle.catalogue.specs.declared.Catalogue.{Catalogue}
 use Rattle.catalogue.specs.Layout.{extension_key_at}
-use Rattle.sheet_repeats.specs.declared.Sizes.{Sizes}
 
 -- The keys of the first n extension records (FORMAT 2.10).
 unfoldable pub keys_in : Catalogue → ℕ → List ℕ
 keys_in t n = tabulate (extension_key_at t) n
 
 -- Not more than a sheet can have (FORMAT 2.2).
-pub record Few (n : Sizes) : Type 0 where
-  pub words : n.words ≤ 255
-  pub types : n.types ≤ 64
+pub record Few (n : Decoding) : Type 0 where
+  pub width : n.width ≤ 255
+  pub count : n.count ≤ 64
   pub extensions : n.extensions ≤ 32
 
 -- Two neighbours in name order have one name, two extension records one key, or a type repeats something (FORMAT 2.12).
-abbrev pub twice_in : Sizes → List Bool → Draft → List ℕ → Catalogue → Bool
+abbrev pub twice_in : Decoding → List Bool → Draft → List Entry → Catalogue → Bool
 twice_in n bs d entries t =
-    not (ascends entry_before (take n.types entries))
-    || (repeats eqb (keys_in t n.extensions) || any type_repeats (types_in n.words bs d n.types))
+    not (ascends entry_before (take n.count entries))
+    || (repeats eqb (keys_in t n.extensions) || any type_repeats (types_in n.width bs d n.count))

@@ -1,5 +1,5 @@
 -- Laws of what stands twice.
-use Rattle.std.specs.Prelude.{Bool, true, false, ◌&&◌, ◌||◌, cond, ◌≡◌, refl, ℕ, ◌+◌, ◌-◌, ◌*◌, ◌/◌, ◌%◌, ◌≤◌, ◌<◌, length, take, drop}
+use Rattle.std.specs.Prelude.{Bool, true, false, ◌&&◌, ◌||◌, cond, ◌≡◌, refl, ℕ, ◌-◌, ◌/◌, ◌%◌, ◌≤◌, ◌<◌, length, take, drop}
 use Rattle.std.proofs.Math.Bool.{not}
 use mathlib.Core.List.Memᴰ
 use mathlib.Core.List.Permᴰ
@@ -14,7 +14,7 @@ use Rattle.lists.specs.Lists.{In, Sorted, any, repeats, ascends, sort, same_list
 use Rattle.lists.specs.Tests.{by, never, same_test, and_left, and_right, and_both, or-false-both, any_none, cons-elim}
 use Rattle.lists.specs.Sorting.{sorted-imp, sorted-ascends, repeats-not, perm-sorted, sort-perm}
 use Rattle.lists.specs.Appending.{repeats-map, repeats-alike}
-use Rattle.lists.specs.Tabulating.{tabulate, tabulate-same, map-tabulate, length-tabulate, get_d_tabulate, tabulate-of}
+use Rattle.lists.specs.Tabulating.{tabulate, map-tabulate, length-tabulate, get_d_tabulate, tabulate-of}
 use Rattle.definitions.specs.Comparisons.{same_name}
 use Rattle.definitions.specs.Checks.{something_twice}
 use Rattle.definitions.specs.Records as records
@@ -22,7 +22,9 @@ use Rattle.repeats.specs.Repeats.{repeats_in, type_repeats, same_type_name, same
 use Rattle.repeats.specs.RepeatLaws.{something-twice}
 use Rattle.sheet_keys.specs.Keys.{name_of_key}
 use Rattle.sheet_notes.specs.Notes.{notes}
+use Rattle.sheet_draft.specs.declared.Decoding.{Decoding}
 use Rattle.sheet_draft.specs.declared.Draft.{Draft}
+use Rattle.sheet_draft.specs.declared.entry.Entry.{Entry}
 use Rattle.sheet_draft.specs.Draft.{key_at, place_at, notes_of, notes_at, type_in, types_in}
 use Rattle.sheet_draft.specs.Drafted.{entry_at, entry_before, entries_of, Entered}
 use Rattle.sheet_order.specs.Entries.{UpTo}
@@ -31,7 +33,6 @@ use Rattle.catalogue.specs.declared.Catalogue.{Catalogue}
 use Rattle.catalogue.specs.Layout.{extension_key_at}
 use Rattle.sheet_extensions.specs.Records.{record_in, records_in}
 use Rattle.sheet_repeats.specs.Twice.{keys_in, twice_in}
-use Rattle.sheet_repeats.specs.declared.Sizes.{Sizes}
 
 -- ---- lists
 
@@ -77,70 +78,65 @@ same_key a b =
     itself true = rw (eq-eqb (b / 256) (b / 256) refl)
     itself false = rw (eq-eqb (b / 256) (b / 256) refl, eq-eqb (b % 256 - 1) (b % 256 - 1) refl)
 
-abbrev same_entry : ℕ → ℕ → Bool
-same_entry e f = eqb (e / 64) (f / 64)
+abbrev same_entry : Entry → Entry → Bool
+same_entry e f = eqb e.key f.key
 
-abbrev Apart : ℕ → ℕ → Type 0
+abbrev Apart : Entry → Entry → Type 0
 Apart x y = same_entry x y ≡ false
 
 -- a list that ascends from each entry to the next has no key twice
-ascends-apart : (l : List ℕ) → ascends entry_before l ≡ true → Sorted (λ x y. x / 64 < y / 64) l
+ascends-apart : (l : List Entry) → ascends entry_before l ≡ true → Sorted (λ x y. x.key < y.key) l
 ascends-apart [] e = tt
 ascends-apart (x ∷ []) e = (λ y i. absurd (Memᴰ.not-nil i), tt)
 ascends-apart (x ∷ y ∷ l) e =
-    let p : x / 64 < y / 64 = ltb-true (x / 64) (y / 64) (and_left (entry_before x y) (ascends entry_before (y ∷ l)) e) in
+    let p : x.key < y.key = ltb-true x.key y.key (and_left (entry_before x y) (ascends entry_before (y ∷ l)) e) in
     let s = ascends-apart (y ∷ l) (and_right (entry_before x y) (ascends entry_before (y ∷ l)) e) in
-    (λ z i. cons-elim i (λ q. subst (λ w. x / 64 < w / 64) (sym q) p) (λ j. let r : y / 64 < z / 64 = s.0 z j in omega (arith, p, r)), s)
+    (λ z i. cons-elim i (λ q. subst (λ (w : Entry). x.key < w.key) (sym q) p) (λ j. let r : y.key < z.key = s.0 z j in omega (arith, p, r)), s)
 
 -- neighbours of the sorted list decide
-neighbours : (l : List ℕ) → not (ascends entry_before (sort entry_before l)) ≡ repeats same_entry l
+neighbours : (l : List Entry) → not (ascends entry_before (sort entry_before l)) ≡ repeats same_entry l
 neighbours l =
     by (repeats same_entry l)
     (λ e.
     by (ascends entry_before (sort entry_before l))
     (λ a. never e (not-repeats same_entry l (perm-sorted Apart flip (Permᴰ.symm (sort-perm entry_before l))
-    (sorted-imp (sort entry_before l) (λ x y i j h. ne_eqb (x / 64) (y / 64) (λ q. omega (arith, q, h))) (ascends-apart (sort entry_before l) a)))))
+    (sorted-imp (sort entry_before l) (λ x y i j h. ne_eqb x.key y.key (λ q. omega (arith, q, h))) (ascends-apart (sort entry_before l) a)))))
     (λ a. rw (a, e)))
     (λ e.
     let s = perm-sorted Apart flip (sort-perm entry_before l) (repeats-not same_entry l e) in
     rw (e, sorted-ascends entry_before (sort entry_before l) (up (sort entry_before l) (up-sort l) s)))
   where
-    flip : (x y : ℕ) → Apart x y → Apart y x
-    flip x y h = ne_eqb (y / 64) (x / 64) (λ q. eqb-false (x / 64) (y / 64) h (sym q))
+    flip : (x y : Entry) → Apart x y → Apart y x
+    flip x y h = ne_eqb y.key x.key (λ q. eqb-false x.key y.key h (sym q))
 
-    up : (k : List ℕ) → Sorted UpTo k → Sorted Apart k → Sorted (λ x y. entry_before x y ≡ true) k
+    up : (k : List Entry) → Sorted UpTo k → Sorted Apart k → Sorted (λ x y. entry_before x y ≡ true) k
     up [] u v = tt
     up (x ∷ k) u v = (
-      λ y i. let a : x / 64 ≤ y / 64 = u.0 y i in lt-ltb (x / 64) (y / 64) (omega (arith, a, eqb-false (x / 64) (y / 64) (v.0 y i))),
+      λ y i. let a : x.key ≤ y.key = u.0 y i in lt-ltb x.key y.key (omega (arith, a, eqb-false x.key y.key (v.0 y i))),
       up k u.1 v.1,
     )
 
-module _ (W : ℕ) (bs : List Bool) (d : Draft) (n : ℕ) (few : n ≤ 64) where
-  as-entries : types_in W bs d n ≡ map (λ e. type_in W bs d (e % 64)) (entries_of d n)
+module _ (W : ℕ) (bs : List Bool) (d : Draft) (n : ℕ) where
+  as-entries : types_in W bs d n ≡ map (λ (e : Entry). type_in W bs d e.row) (entries_of d n)
   unfolding types_in entries_of
-  as-entries =
-      tabulate-same (type_in W bs d) (λ i. type_in W bs d (entry_at d i % 64)) n (λ i h. let q : i ≡ entry_at d i % 64 = omega arith in ap (type_in W bs d) q)
-      ∙ sym (map-tabulate (λ e. type_in W bs d (e % 64)) (entry_at d) n)
+  as-entries = sym (map-tabulate (λ (e : Entry). type_in W bs d e.row) (entry_at d) n)
 
-  key-of-entry : (e : ℕ) → In e (entries_of d n) → key_at d (e % 64) ≡ e / 64
+  key-of-entry : (e : Entry) → In e (entries_of d n) → key_at d e.row ≡ e.key
   unfolding entries_of
   key-of-entry e i =
       let r = tabulate-of (entry_at d) n i in
-      let q : e ≡ key_at d r.0 * 64 + r.0 = r.2 in
-      let a : e % 64 ≡ r.0 = omega (arith, q, r.1) in
-      let b : e / 64 ≡ key_at d r.0 = omega (arith, q, r.1) in
-      ap (key_at d) a ∙ sym b
+      subst (λ (x : Entry). key_at d x.row ≡ x.key) (sym r.2) refl
 
   -- two types have one name exactly if two neighbours do
-  pub names-twice : (entries : List ℕ) → Entered d entries n → not (ascends entry_before (take n entries)) ≡ repeats same_type_name (types_in W bs d n)
+  pub names-twice : (entries : List Entry) → Entered d entries n → not (ascends entry_before (take n entries)) ≡ repeats same_type_name (types_in W bs d n)
   unfolding type_in
   names-twice entries en =
-      ap (λ (l : List ℕ). not (ascends entry_before l)) en.sorted
+      ap (λ (l : List Entry). not (ascends entry_before l)) en.sorted
       ∙ neighbours (entries_of d n)
       ∙ sym (ap (repeats same_type_name) as-entries
-      ∙ repeats-map same_type_name (λ e. type_in W bs d (e % 64)) (entries_of d n)
+      ∙ repeats-map same_type_name (λ (e : Entry). type_in W bs d e.row) (entries_of d n)
       ∙ repeats-same _ same_entry (entries_of d n)
-      (λ x y i j. same_key (key_at d (x % 64)) (key_at d (y % 64)) ∙ ap₂ eqb (key-of-entry x i) (key-of-entry y j)))
+      (λ x y i j. same_key (key_at d x.row) (key_at d y.row) ∙ ap₂ eqb (key-of-entry x i) (key-of-entry y j)))
 
 -- ---- extension records
 
@@ -186,7 +182,7 @@ row-repeats W bs d n i T h = ap type_repeats (get_d_tabulate (type_in W bs d) n 
 
 -- ---- refusal 6
 
-pub twice-is : (s : records.Sheet) (bs : List Bool) (d : Draft) (entries : List ℕ) (t : Catalogue) (n : Sizes) → n.types ≤ 64 → Entered d entries n.types → n.words ≡ length s.words
-    → types_in n.words bs d n.types ≡ s.types → records_in t n.extensions ≡ s.extensions → twice_in n bs d entries t ≡ something_twice s
+pub twice-is : (s : records.Sheet) (bs : List Bool) (d : Draft) (entries : List Entry) (t : Catalogue) (n : Decoding) → n.count ≤ 64 → Entered d entries n.count → n.width ≡ length s.words
+    → types_in n.width bs d n.count ≡ s.types → records_in t n.extensions ≡ s.extensions → twice_in n bs d entries t ≡ something_twice s
 twice-is s bs d entries t n few en w ts es =
-    rw (names-twice n.words bs d n.types few entries en, keys-twice t n.extensions, ts, es) (sym (something-twice s))
+    rw (names-twice n.width bs d n.count entries en, keys-twice t n.extensions, ts, es) (sym (something-twice s))

@@ -14,23 +14,15 @@ ghost use Rattle.sheet_repeats.specs.Twice.{keys_in, Few, twice_in};
 
 use catalogue::Catalogue;
 use fields::Sheet;
-use sheet_draft::Draft;
-
-// How many words, types and extension records there are.
-#[derive(Clone, Copy)]
-pub struct Sizes {
-    pub words: usize,
-    pub types: usize,
-    pub extensions: usize,
-}
+use sheet_draft::{Decoding, Draft, Entry};
 
 // Whether two of the first n entries, which ascend, have one key: two neighbours have then.
-fn has_name_twice(entries: &[u64; 64], n: usize) -> bool
+fn has_name_twice(entries: &[Entry; 64], n: usize) -> bool
     requires { n ≤ 64 }
     ensures { result ≡ not (ascends entry_before (take n entries.now)) }
 {
     for i in 1..n {
-        if entries[i] / 64 <= entries[i - 1] / 64 {
+        if entries[i].key <= entries[i - 1].key {
             return true;
         }
     }
@@ -70,9 +62,8 @@ fn is_one_repeating(s: Sheet, d: &Draft, n: usize) -> bool
     ensures { result ≡ any type_repeats (types_in s.entry.words (bits_in s.entry) d.now n) }
 {
     for i in 0..n {
-        let at = d.places[i];
-        let single = d.keys[i] % 256 == 0;
-        if sheet_within::is_repeating_at(s, at, single) {
+        let row = &d.rows[i];
+        if sheet_within::is_repeating_at(s, row.place, row.key % 256 == 0) {
             return true;
         }
     }
@@ -80,18 +71,24 @@ fn is_one_repeating(s: Sheet, d: &Draft, n: usize) -> bool
 }
 
 // Any of these, in draft and catalogue.
-pub fn is_something_twice(s: &[u8], n: Sizes, d: &Draft, entries: &[u64; 64], t: &Catalogue) -> bool
-    requires { Addressable s.now × Few n × NotesRead n.words (bits_of s.now) d.now n.types }
+pub fn is_something_twice(
+    s: &[u8],
+    n: Decoding,
+    d: &Draft,
+    entries: &[Entry; 64],
+    t: &Catalogue,
+) -> bool
+    requires { Addressable s.now × Few n × NotesRead n.width (bits_of s.now) d.now n.count }
     ensures { result ≡ twice_in n (bits_of s.now) d.now entries.now t.now }
 {
-    has_name_twice(entries, n.types)
+    has_name_twice(entries, n.count)
         || has_key_twice(t, n.extensions)
         || is_one_repeating(
             Sheet {
                 bytes: s,
-                words: n.words,
+                words: n.width,
             },
             d,
-            n.types,
+            n.count,
         )
 }

@@ -1,5 +1,5 @@
 -- What the code reads of a type, and what stands in the draft afterwards.
-use Rattle.std.specs.Prelude.{Bool, true, false, List, ◌≡◌, ℕ, ◌*◌, ◌/◌, ◌%◌, ◌≤◌, ◌<◌, eqb, drop, get_or, set, Result, IfOk}
+use Rattle.std.specs.Prelude.{Bool, true, false, List, ◌≡◌, ℕ, ◌/◌, ◌%◌, ◌≤◌, ◌<◌, eqb, drop, Result, IfOk}
 use Rattle.definitions.specs.Parse.{Parsed, done, refused, Parser, next, ◌>>=◌, pure, flag, between}
 use Rattle.definitions.specs.Reading.{variant}
 use Rattle.definitions.specs.Records.{Variant}
@@ -7,9 +7,11 @@ use Rattle.definitions.specs.Records as records
 use Rattle.bits.specs.declared.Cursor.{Cursor}
 use Rattle.fields.specs.declared.Fault.{Fault}
 use Rattle.fields.specs.Fields.{of_parsed}
+use Rattle.sheet_keys.specs.Keys.{name_of_key, names_in}
 use Rattle.sheet_notes.specs.Notes.{Notes, notes, of_skip}
 use Rattle.sheet_draft.specs.declared.Draft.{Draft}
-use Rattle.sheet_draft.specs.Draft.{key_at, head_at, place_at, variant_of, type_in, types_in}
+use Rattle.sheet_draft.specs.declared.DraftRow.{DraftRow}
+use Rattle.sheet_draft.specs.Draft.{row_at, variant_of, notes_of, types_in}
 
 -- What stands between the name and the parents of a type: 8 bits (FORMAT 2.6).
 pub record Top : Type 0 where
@@ -43,37 +45,33 @@ Small r = IfOk r (λ v. (v.0 < 192) × (v.0 % 16 ≤ 8))
 abbrev pub type_of : List ℕ → Top → List (List ℕ) → Notes → records.TypeInfo
 type_of n h ps x = record { name = n; variant = h.variant; virtual = h.virtual; trait = h.trait; parents = ps; annotations = x.annotations; marks = x.marks }
 
--- The key, the head and the place of row i are put.
-abbrev pub row_set : Draft → ℕ → ℕ → ℕ → ℕ → Draft
-row_set d i key head at = record d { keys = set d.keys i key; heads = set d.heads i head; places = set d.places i at }
+-- The annotations and marks of a row, out of the bits of a sheet with W words, and its type.
+abbrev pub notes_in : ℕ → List Bool → DraftRow → Parsed Notes
+notes_in W bs r = notes W (eqb (r.key % 256) 0) (drop r.place bs)
 
--- The rows before i are left as they were.
-pub record KeptRows (i : ℕ) (old new : Draft) : Type 0 where
-  pub keys : (j : ℕ) → j < i → key_at new j ≡ key_at old j
-  pub heads : (j : ℕ) → j < i → head_at new j ≡ head_at old j
-  pub places : (j : ℕ) → j < i → place_at new j ≡ place_at old j
-  pub parents : (j : ℕ) → j < 8 * i → get_or new.parents j 0 ≡ get_or old.parents j 0
+abbrev pub row_type : ℕ → List Bool → DraftRow → records.TypeInfo
+row_type W bs r = type_of (name_of_key r.key) (top_of r.head) (names_in r.parents (r.head % 16 % 9)) (notes_of (notes_in W bs r))
 
 -- Whether a parser gave a value.
 abbrev pub is_done : {A : Type 0} → Parsed A → Bool
 is_done (done a rest) = true
 is_done (refused r) = false
 
--- Annotations and marks can be read at the place that row i has for them.
-abbrev pub NotesDone : ℕ → List Bool → Draft → ℕ → Type 0
-NotesDone W bs d i = is_done (notes W (eqb (key_at d i % 256) 0) (drop (place_at d i) bs)) ≡ true
+-- Annotations and marks can be read at the place that a row has for them.
+abbrev pub NotesDone : ℕ → List Bool → DraftRow → Type 0
+NotesDone W bs r = is_done (notes_in W bs r) ≡ true
 
 -- So they can of a row that was read.
-abbrev pub DoneHere : ℕ → List Bool → Draft → ℕ → Result Cursor Fault → Type 0
-DoneHere W bs d i r = IfOk r (λ c. NotesDone W bs d i)
+abbrev pub DoneHere : ℕ → List Bool → DraftRow → Result Cursor Fault → Type 0
+DoneHere W bs row r = IfOk r (λ c. NotesDone W bs row)
 
 -- So they can of the first n rows.
 pub record NotesRead (W : ℕ) (bs : List Bool) (d : Draft) (n : ℕ) : Type 0 where
-  pub read : (i : ℕ) → i < n → NotesDone W bs d i
+  pub read : (i : ℕ) → i < n → NotesDone W bs (row_at d i)
 
--- An answer as a parser's: the type is that of row i.
-abbrev pub of_type_read : ℕ → List Bool → Draft → ℕ → Result Cursor Fault → Parsed records.TypeInfo
-of_type_read W bs d i r = next (of_skip bs r) (λ x. pure (type_in W bs d i))
+-- An answer as a parser's: the type is that of the row.
+abbrev pub of_type_read : ℕ → List Bool → DraftRow → Result Cursor Fault → Parsed records.TypeInfo
+of_type_read W bs row r = next (of_skip bs r) (λ x. pure (row_type W bs row))
 
 -- An answer as a parser's: the types are those of the first rows.
 abbrev pub of_types_read : ℕ → List Bool → Draft → Result (ℕ × Cursor) Fault → Parsed (List records.TypeInfo)

@@ -1,17 +1,17 @@
 // The types of a sheet, read straight into the draft.
 #![tactic(auto)]
 
-ghost use Rattle.std.specs.Prelude.{List, Bool, Some, ℕ, ◌≡◌, ◌+◌, ◌/◌, ◌≤◌, ◌<◌, length, drop, IfOk};
+ghost use Rattle.std.specs.Prelude.{List, Bool, Some, ℕ, ◌≡◌, ◌+◌, ◌/◌, ◌≤◌, length, drop, IfOk};
 ghost use Rattle.definitions.specs.Bits.{bits_of};
 ghost use Rattle.definitions.specs.Parse.{repeat, counted};
 ghost use Rattle.definitions.specs.Reading.{type_info};
 ghost use Rattle.bits.specs.Reading.{read_at, Addressable};
 ghost use Rattle.fields.specs.Fields.{bits_in};
-ghost use Rattle.sheet_types.specs.Rows.{top, of_top, Small, of_type_read, of_types_read, KeptRows, DoneHere, NotesRead};
+ghost use Rattle.sheet_types.specs.Rows.{top, of_top, Small, of_type_read, of_types_read, DoneHere, NotesRead};
 
 use bits::Cursor;
 use fields::{Fault, Parsed, Sheet};
-use sheet_draft::Draft;
+use sheet_draft::{Draft, DraftRow};
 
 // The head that was read as the 8 bits h, with the cursor behind it: its variant is at most 2, and it has at most 8 parents.
 fn allowed_top(h: usize, next: Cursor) -> Parsed<usize>
@@ -63,17 +63,16 @@ fn read_top(s: &[u8], c: Cursor) -> Parsed<usize>
     top_near_end(s, c)
 }
 
-// The type at the cursor, as row i of the draft.
-fn read_type(s: Sheet, c: Cursor, i: usize, d: &mut Draft) -> Result<Cursor, Fault>
-    requires { i < 64 }
-    ensures { (of_type_read s.entry.words (bits_in s.entry) d.new i result ≡ type_info s.entry.words (drop c.at (bits_in s.entry))) × KeptRows i d.old d.new × DoneHere s.entry.words (bits_in s.entry) d.new i result }
+// The type at the cursor, as a row of the draft.
+fn read_type(s: Sheet, c: Cursor, row: &mut DraftRow) -> Result<Cursor, Fault>
+    ensures { (of_type_read s.entry.words (bits_in s.entry) row.new result ≡ type_info s.entry.words (drop c.at (bits_in s.entry))) × DoneHere s.entry.words (bits_in s.entry) row.new result }
 {
     let (key, c1) = sheet_keys::read_key(s, c)?;
     let (h, c2) = read_top(s.bytes, c1)?;
-    let (_, next) = sheet_keys::read_each_key(s, c2, h % 16, &mut d.parents, 8 * i)?;
-    d.keys[i] = key;
-    d.heads[i] = h as u64;
-    d.places[i] = next.at;
+    let (_, next) = sheet_keys::read_each_key(s, c2, h % 16, &mut row.parents)?;
+    row.key = key;
+    row.head = h as u64;
+    row.place = next.at;
     sheet_notes::skip_notes(s, next, key % 256 == 0)
 }
 
@@ -85,7 +84,7 @@ fn read_each_type(s: Sheet, c: Cursor, n: usize, d: &mut Draft) -> Parsed<usize>
 {
     let mut next = c;
     for i in 0..n {
-        next = read_type(s, next, i, d)?;
+        next = read_type(s, next, &mut d.rows[i])?;
     }
     Ok((n, next))
 }

@@ -7,7 +7,7 @@ use borrow.Author.Tests.{le-leb}
 use Rattle.std.proofs.Math.Dec.{leb}
 use Rattle.lists.specs.Lists.{repeats}
 use Rattle.lists.specs.Tests.{never}
-use Rattle.lists.specs.Tabulating.{tabulate, tabulate-same, length-tabulate, get_d_tabulate, map-tabulate}
+use Rattle.lists.specs.Tabulating.{tabulate, length-tabulate, get_d_tabulate, map-tabulate}
 use Rattle.lists.specs.Appending.{repeats-map}
 use Rattle.definitions.specs.Bits.{num}
 use Rattle.definitions.specs.Parse.{Parsed, done, refused, next, ◌>>=◌, pure, refuse, choose, allowed, repeat_onto, repeat, counted, not_allowed}
@@ -19,7 +19,7 @@ use Rattle.records.specs.Annotations.{resource_of, annotation_as, rows_for}
 use Rattle.records.specs.AnnotationLaws.{annotation-rows}
 use Rattle.repeats.specs.Repeats.{same_word, repeats_word, repeats_in}
 use Rattle.sheet_window.specs.WindowLaws.{field_in, split}
-use Rattle.sheet_keys.specs.Keys.{name_of_key, names_from}
+use Rattle.sheet_keys.specs.Keys.{name_of_key, names_in}
 use Rattle.sheet_within.specs.Within.{words_in, PlainNames, PlainNotes, PlainEach}
 use Rattle.sheet_within.specs.WithinLaws.{annotations-read, none-repeated}
 
@@ -34,14 +34,12 @@ unfolding words_in
 word_in k n i h = get_d_tabulate (λ i. get_or k i 0 / 256) n i 0 h
 
 -- the words of names that are held as keys
-key-words : (k : List ℕ) (n : ℕ) → repeats same_word (map resource_of (names_from k 0 n)) ≡ repeats eqb (words_in k n)
-unfolding names_from words_in name_of_key
+key-words : (k : List ℕ) (n : ℕ) → repeats same_word (map resource_of (names_in k n)) ≡ repeats eqb (words_in k n)
+unfolding words_in name_of_key
 key-words k n =
-    ap (repeats same_word) (map-tabulate resource_of (λ j. name_of_key (get_or k (0 + j) 0)) n)
-    ∙ sym (repeats-map eqb (λ (u : Resource). u.word) (tabulate (λ j. resource_of (name_of_key (get_or k (0 + j) 0))) n))
-    ∙ ap (repeats eqb) (map-tabulate (λ (u : Resource). u.word) (λ j. resource_of (name_of_key (get_or k (0 + j) 0))) n
-    ∙ tabulate-same (λ j. get_or k (0 + j) 0 / 256) (λ i. get_or k i 0 / 256) n
-    (λ i h. let q : 0 + i ≡ i = omega arith in ap (λ (m : ℕ). get_or k m 0 / 256) q))
+    ap (repeats same_word) (map-tabulate resource_of (λ j. name_of_key (get_or k j 0)) n)
+    ∙ sym (repeats-map eqb (λ (u : Resource). u.word) (tabulate (λ j. resource_of (name_of_key (get_or k j 0))) n))
+    ∙ ap (repeats eqb) (map-tabulate (λ (u : Resource). u.word) (λ j. resource_of (name_of_key (get_or k j 0))) n)
 
 done-of : {A : Type 0} {x y : A} {u v : List Bool} → done x u ≡ done y v → x ≡ y
 done-of e = cc
@@ -56,10 +54,10 @@ few-names W bs p n h = record { plain = λ t rows rest e. short rows (omega (ari
     short (x ∷ y ∷ rows) l = absurd (omega arith)
 
 -- names that were read
-pub read_names : (W : ℕ) (bs : List Bool) (p n : ℕ) (k : List ℕ) (count at : ℕ) (b : Bool) → done (names_from k 0 count) (drop at bs) ≡ repeat (name W) n (drop p bs)
+pub read_names : (W : ℕ) (bs : List Bool) (p n : ℕ) (k : List ℕ) (count at : ℕ) (b : Bool) → done (names_in k count) (drop at bs) ≡ repeat (name W) n (drop p bs)
     → b ≡ repeats eqb (words_in k count) → PlainNames W bs p n (not b)
 read_names W bs p n k count at b e f = record {
-  plain = λ t rows rest g. let q : rows ≡ names_from k 0 count = done-of (sym g ∙ sym e) in rw q (key-words k count ∙ sym f ∙ turned b t);
+  plain = λ t rows rest g. let q : rows ≡ names_in k count = done-of (sym g ∙ sym e) in rw q (key-words k count ∙ sym f ∙ turned b t);
 }
   where
     turned : (b : Bool) → not b ≡ true → b ≡ false

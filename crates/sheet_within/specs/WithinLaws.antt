@@ -10,8 +10,7 @@ use Rattle.definitions.specs.Records.{Annotation, Mark}
 use Rattle.bits.specs.declared.Cursor.{Cursor}
 use Rattle.fields.specs.declared.Fault.{Fault}
 use Rattle.fields.specs.Fields.{of_parsed}
-use Rattle.records.specs.declared.Annotations.{Annotations}
-use Rattle.records.specs.Annotations.{of_annotations}
+use Rattle.records.specs.Annotations.{Annotations, of_annotations}
 use Rattle.repeats.specs.Repeats.{repeats_in}
 use Rattle.sheet_window.specs.WindowLaws.{field_in}
 use Rattle.sheet_notes.specs.Notes.{Notes, notes}

@@ -60,7 +60,7 @@ fn is_plain_list(s: Sheet, at: usize, n: usize) -> bool
         return true;
     }
     let mut k = [0u64; 15];
-    match sheet_keys::read_each_key(s, Cursor { at }, n, &mut k, 0) {
+    match sheet_keys::read_each_key(s, Cursor { at }, n, &mut k) {
         Ok((count, _)) => !has_word_twice(&k, count),
         Err(_) => false,
     }

@@ -9,7 +9,7 @@ use Rattle.lists.specs.Tests.{by, and_left, and_right}
 use Rattle.definitions.specs.Bits.{num, pack_to}
 use Rattle.definitions.specs.Reading.{is_word_byte}
 use Rattle.bits.specs.NumberLaws.{num-split}
-use Rattle.sheet_words.specs.Words.{head_of}
+use Rattle.sheet_words.specs.Bytes.{head_of}
 use Rattle.sheet_words.specs.ByteLaws.{letter-small}
 
 -- ---- two digits

@@ -16,7 +16,7 @@ use Rattle.lists.specs.Tests.{by, and_left, and_right}
 use Rattle.definitions.specs.Bits.{num, to_bits, pack_to}
 use Rattle.definitions.specs.Reading.{is_word_byte}
 use Rattle.bits.specs.NumberLaws.{num-lt, num-split, num-to_bits, length-pack_to}
-use Rattle.sheet_words.specs.Words.{spelt, six, marks}
+use Rattle.sheet_words.specs.Bytes.{spelt, six, marks}
 use Rattle.sheet_words.specs.ByteLaws.{letter-small}
 
 -- ---- a test of each number below n

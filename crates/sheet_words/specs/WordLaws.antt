@@ -1,5 +1,5 @@
 -- Laws of one word: its bytes tested, its head, two words compared.
-use Rattle.std.specs.Prelude.{Bool, true, false, ◌&&◌, ◌||◌, cond, List, [], ◌∷◌, ◌≡◌, ℕ, ◌+◌, ◌*◌, ◌-◌, ◌/◌, ◌%◌, ◌^◌, ◌≤◌, ◌<◌, eqb, ltb, length, drop, Result, Ok, Err}
+use Rattle.std.specs.Prelude.{Bool, true, false, ◌&&◌, ◌||◌, cond, List, [], ◌∷◌, ◌≡◌, ℕ, ◌+◌, ◌*◌, ◌-◌, ◌/◌, ◌%◌, ◌^◌, ◌≤◌, ◌<◌, eqb, ltb, length, drop, Ok}
 use Rattle.std.proofs.Math.Bool.{and-false}
 use Rattle.std.proofs.Math.Path.{refl}
 use Rattle.std.proofs.Common.{sym, ap, ap₂, ◌∙◌, arith, eq-eqb, ne_eqb, length-drop}
@@ -11,17 +11,16 @@ use Rattle.lists.specs.Places.{drop-end, before-step, before-right, before-left}
 use Rattle.definitions.specs.Bits.{num, pack_to}
 use Rattle.definitions.specs.Checks.{resource_bytes, self_bytes}
 use Rattle.definitions.specs.Comparisons.{bytes_before}
-use Rattle.definitions.specs.Parse.{refused, allowed, repeat, past, not_allowed}
+use Rattle.definitions.specs.Parse.{done, refused, allowed, repeat, past, not_allowed}
 use Rattle.definitions.specs.Reading.{is_word_byte, word}
-use Rattle.fields.specs.declared.Fault.{Fault}
-use Rattle.fields.specs.Fields.{fault_of}
 use Rattle.bits.specs.NumberLaws.{num-lt, num-split, length-pack_to}
 use Rattle.sheet_window.specs.WindowLaws.{split}
 use Rattle.fields.specs.FieldLaws.{counted-in}
-use Rattle.sheet_words.specs.Words.{spelt, head_of, bytes_of, Held, Tells, Spelled, Begun, Named}
+use Rattle.sheet_words.specs.Bytes.{spelt, head_of}
+use Rattle.sheet_words.specs.Words.{bits_in, bytes_of, Spelled, Begun, Named}
 use Rattle.sheet_words.specs.ByteLaws.{bytes-split, bytes_drop, byte-is, bytes-num, bytes-in, bytes_past, word_some}
 use Rattle.sheet_words.specs.HeadLaws.{good-drop, head-less, head_more, head-same, same-split, same-short, head_few}
-use Rattle.sheet_words.specs.declared.Spelt.{Spelt}
+use Rattle.sheet_words.specs.declared.spelt.Spelt.{Spelt}
 use Rattle.sheet_words.specs.declared.Found.{Found}
 
 -- ---- bytes tested six at a time
@@ -73,9 +72,6 @@ short-value n x bs h e =
 
 -- ---- the parser's answer
 
-pub refused-tells : (bs : List Bool) (r : Fault) (x : _) → refused (fault_of r) ≡ x → Tells bs (Err r) x
-refused-tells bs r x e = record { reads = e; held = tt }
-
 module _ (bs : List Bool) (q n : ℕ) where
   pub text-past : length bs - q < 8 * n → q ≤ length bs →
       refused (cond (all is_word_byte (pack_to ((length bs - q) / 8) (drop q bs))) past not_allowed) ≡ repeat (allowed 8 is_word_byte) n (drop q bs)
@@ -87,34 +83,26 @@ module _ (bs : List Bool) (q n : ℕ) where
     pub text-bad : all is_word_byte (pack_to n (drop q bs)) ≡ false → refused not_allowed ≡ repeat (allowed 8 is_word_byte) n (drop q bs)
     text-bad t = sym (bytes-in is_word_byte n [] (drop q bs) (omega (arith, length-drop q bs)) ∙ rw t refl)
 
-    pub text-good : (head : ℕ) → n ≤ 31 → head ≡ head_of 6 (pack_to n (drop q bs)) → all is_word_byte (pack_to n (drop q bs)) ≡ true →
-        Tells bs (Ok (record { at = q; count = n; head = head })) (repeat (allowed 8 is_word_byte) n (drop q bs))
-    text-good head few f t = record {
-      reads = sym (bytes-in is_word_byte n [] (drop q bs) (omega (arith, length-drop q bs)) ∙ rw (t, Seq.drop-drop (8 * n) q bs) refl);
-      held = record { first = f; good = t; inside = inside; few = few };
-    }
+    pub text-good : all is_word_byte (pack_to n (drop q bs)) ≡ true → done (pack_to n (drop q bs)) (drop (q + 8 * n) bs) ≡ repeat (allowed 8 is_word_byte) n (drop q bs)
+    text-good t = sym (bytes-in is_word_byte n [] (drop q bs) (omega (arith, length-drop q bs)) ∙ rw (t, Seq.drop-drop (8 * n) q bs) refl)
 
 -- the bytes that are there of those that pass the end
 module _ (bs : List Bool) (q n k : ℕ) (some : k ≡ (length bs - q) / 8) (less : k < n) (from : q ≤ length bs) where
-  pub past-good : all is_word_byte (pack_to k (drop q bs)) ≡ true → Tells bs (Err Fault.Past) (repeat (allowed 8 is_word_byte) n (drop q bs))
+  pub past-good : all is_word_byte (pack_to k (drop q bs)) ≡ true → refused past ≡ repeat (allowed 8 is_word_byte) n (drop q bs)
   past-good t =
-      refused-tells bs Fault.Past _
-      (ap (λ (b : Bool). refused (cond b past not_allowed)) (sym (sym (ap (λ (j : ℕ). all is_word_byte (pack_to j (drop q bs))) some) ∙ t)) ∙ text-past bs q n (omega (arith, some, less)) from)
+      ap (λ (b : Bool). refused (cond b past not_allowed)) (sym (sym (ap (λ (j : ℕ). all is_word_byte (pack_to j (drop q bs))) some) ∙ t))
+      ∙ text-past bs q n (omega (arith, some, less)) from
 
-  pub past-bad : all is_word_byte (pack_to k (drop q bs)) ≡ false → Tells bs (Err Fault.NotAllowed) (repeat (allowed 8 is_word_byte) n (drop q bs))
+  pub past-bad : all is_word_byte (pack_to k (drop q bs)) ≡ false → refused not_allowed ≡ repeat (allowed 8 is_word_byte) n (drop q bs)
   past-bad t =
-      refused-tells bs Fault.NotAllowed _
-      (ap (λ (b : Bool). refused (cond b past not_allowed)) (sym (sym (ap (λ (j : ℕ). all is_word_byte (pack_to j (drop q bs))) some) ∙ t)) ∙ text-past bs q n (omega (arith, some, less)) from)
-
--- an answer for another name of what the parser gives
-pub tells_as : (bs : List Bool) (w : Result Spelt Fault) (x y : _) → x ≡ y → Tells bs w x → Tells bs w y
-tells_as bs w x y e t = record { reads = t.reads ∙ e; held = t.held }
+      ap (λ (b : Bool). refused (cond b past not_allowed)) (sym (sym (ap (λ (j : ℕ). all is_word_byte (pack_to j (drop q bs))) some) ∙ t))
+      ∙ text-past bs q n (omega (arith, some, less)) from
 
 -- a word that was read is not empty
 pub word-long : (bs : List Bool) (p : ℕ) (w : Spelt) → Spelled bs p (Ok w) → 0 < w.count
 unfolding word
 word-long bs p w t =
-    omega (arith, (counted-in 5 1 31 (allowed 8 is_word_byte) (drop p bs) (bytes_of bs w) _ (sym t.reads)).0, length-pack_to w.count (drop w.at bs))
+    omega (arith, (counted-in 5 1 31 (allowed 8 is_word_byte) (drop p bs) (bytes_of w) _ (sym t)).0, length-pack_to w.count (drop w.at (bits_in w.source)))
 
 -- a length and the 48 bits behind it, out of 53 bits that are there
 pub begun-is : (bs : List Bool) (p w : ℕ) → p + 53 ≤ length bs → w ≡ num 53 (drop p bs) → 0 < w / 281474976710656 →
@@ -137,45 +125,45 @@ begun-few bs p n x h = omega (arith, h.length-is, num-lt 5 (drop p bs))
 
 -- ---- two words
 
-module _ (bs : List Bool) (v w : Spelt) (hv : Held bs v) (hw : Held bs w) where
-  pub less-is : v.head < w.head → true ≡ bytes_before (bytes_of bs v) (bytes_of bs w)
+module _ (v w : Spelt) where
+  pub less-is : v.head < w.head → true ≡ bytes_before (bytes_of v) (bytes_of w)
   unfolding bytes_before
-  less-is l = head-less 6 (bytes_of bs v) (bytes_of bs w) hv.good hw.good (omega (arith, hv.first, hw.first, l))
+  less-is l = head-less 6 (bytes_of v) (bytes_of w) v.held.good w.held.good (omega (arith, v.held.first, w.held.first, l))
 
-  pub more-is : w.head < v.head → false ≡ bytes_before (bytes_of bs v) (bytes_of bs w)
+  pub more-is : w.head < v.head → false ≡ bytes_before (bytes_of v) (bytes_of w)
   unfolding bytes_before
-  more-is l = head_more 6 (bytes_of bs v) (bytes_of bs w) hv.good hw.good (omega (arith, hv.first, hw.first, l))
+  more-is l = head_more 6 (bytes_of v) (bytes_of w) v.held.good w.held.good (omega (arith, v.held.first, w.held.first, l))
 
-  pub same-is : (w.head ≤ v.head) → (v.head ≤ w.head) → list_before (drop 6 (bytes_of bs v)) (drop 6 (bytes_of bs w)) ≡ bytes_before (bytes_of bs v) (bytes_of bs w)
+  pub same-is : (w.head ≤ v.head) → (v.head ≤ w.head) → list_before (drop 6 (bytes_of v)) (drop 6 (bytes_of w)) ≡ bytes_before (bytes_of v) (bytes_of w)
   unfolding bytes_before
-  same-is a b = head-same 6 (bytes_of bs v) (bytes_of bs w) hv.good hw.good (omega (arith, hv.first, hw.first, a, b))
+  same-is a b = head-same 6 (bytes_of v) (bytes_of w) v.held.good w.held.good (omega (arith, v.held.first, w.held.first, a, b))
 
-module _ (bs : List Bool) (p q n m i : ℕ) where
+module _ (bs cs : List Bool) (p q n m i : ℕ) where
   abbrev A : List ℕ
   A = pack_to n (drop p bs)
 
   abbrev B : List ℕ
-  B = pack_to m (drop q bs)
+  B = pack_to m (drop q cs)
 
-  pub rest-step : i < n → i < m → (x y : ℕ) → x ≡ num 8 (drop (p + 8 * i) bs) → y ≡ num 8 (drop (q + 8 * i) bs) →
+  pub rest-step : i < n → i < m → (x y : ℕ) → x ≡ num 8 (drop (p + 8 * i) bs) → y ≡ num 8 (drop (q + 8 * i) cs) →
       list_before (drop i A) (drop i B) ≡ (ltb x y || (eqb x y && list_before (drop (i + 1) A) (drop (i + 1) B)))
   rest-step h k x y e f =
       let a : length A ≡ n = length-pack_to n (drop p bs) in
-      let b : length B ≡ m = length-pack_to m (drop q bs) in
+      let b : length B ≡ m = length-pack_to m (drop q cs) in
       before-step A B i (omega arith) (omega arith)
       ∙ ap₂ (λ (x y : ℕ). ltb x y || (eqb x y && list_before (drop (i + 1) A) (drop (i + 1) B)))
       (byte-is n i (drop p bs) h ∙ ap (num 8) (Seq.drop-drop (8 * i) p bs) ∙ sym e)
-      (byte-is m i (drop q bs) k ∙ ap (num 8) (Seq.drop-drop (8 * i) q bs) ∙ sym f)
+      (byte-is m i (drop q cs) k ∙ ap (num 8) (Seq.drop-drop (8 * i) q cs) ∙ sym f)
 
   pub rest-right : i < n → m ≤ i → list_before (drop i A) (drop i B) ≡ false
-  rest-right h k = before-right A B i (omega (arith, length-pack_to n (drop p bs))) (omega (arith, length-pack_to m (drop q bs)))
+  rest-right h k = before-right A B i (omega (arith, length-pack_to n (drop p bs))) (omega (arith, length-pack_to m (drop q cs)))
 
   pub rest-left : n ≤ i → list_before (drop i A) (drop i B) ≡ ltb i m
-  rest-left h = before-left A B i (omega (arith, length-pack_to n (drop p bs))) ∙ ap (ltb i) (length-pack_to m (drop q bs))
+  rest-left h = before-left A B i (omega (arith, length-pack_to n (drop p bs))) ∙ ap (ltb i) (length-pack_to m (drop q cs))
 
 -- ---- `resource` and `self`
 
-module _ (bs : List Bool) (w : Spelt) (h : Held bs w) where
+module _ (w : Spelt) where
   class-good : all is_word_byte resource_bytes ≡ true
   unfolding is_word_byte
   class-good = refl
@@ -184,17 +172,17 @@ module _ (bs : List Bool) (w : Spelt) (h : Held bs w) where
   unfolding head_of
   class-head = refl
 
-  split-class : same_list eqb resource_bytes (bytes_of bs w) ≡ (eqb 125780053947762 w.head && same_list eqb (99 ∷ 101 ∷ []) (drop 6 (bytes_of bs w)))
+  split-class : same_list eqb resource_bytes (bytes_of w) ≡ (eqb 125780053947762 w.head && same_list eqb (99 ∷ 101 ∷ []) (drop 6 (bytes_of w)))
   split-class =
-      same-split 6 resource_bytes (bytes_of bs w) class-good h.good
-      ∙ ap₂ (λ (a b : ℕ). eqb a b && same_list eqb (99 ∷ 101 ∷ []) (drop 6 (bytes_of bs w))) class-head (sym h.first)
+      same-split 6 resource_bytes (bytes_of w) class-good w.held.good
+      ∙ ap₂ (λ (a b : ℕ). eqb a b && same_list eqb (99 ∷ 101 ∷ []) (drop 6 (bytes_of w))) class-head (sym w.held.first)
 
-  pub class-no : (w.head ≡ 125780053947762 → ⊥) → false ≡ same_list eqb resource_bytes (bytes_of bs w)
+  pub class-no : (w.head ≡ 125780053947762 → ⊥) → false ≡ same_list eqb resource_bytes (bytes_of w)
   class-no n = sym (split-class ∙ rw (ne_eqb 125780053947762 w.head (λ q. n (sym q))) refl)
 
-  pub class-short : w.count < 6 → false ≡ same_list eqb resource_bytes (bytes_of bs w)
+  pub class-short : w.count < 6 → false ≡ same_list eqb resource_bytes (bytes_of w)
   class-short l =
-      let d : drop 6 (bytes_of bs w) ≡ [] = drop-end (bytes_of bs w) 6 (omega (arith, length-pack_to w.count (drop w.at bs))) in
+      let d : drop 6 (bytes_of w) ≡ [] = drop-end (bytes_of w) 6 (omega (arith, length-pack_to w.count (drop w.at (bits_in w.source)))) in
       sym (split-class ∙ rw d (and-false (eqb 125780053947762 w.head)))
 
   rest-good : all is_word_byte (99 ∷ 101 ∷ []) ≡ true
@@ -205,13 +193,13 @@ module _ (bs : List Bool) (w : Spelt) (h : Held bs w) where
   unfolding head_of
   rest-head = refl
 
-  pub class-rest : w.head ≡ 125780053947762 → (x : ℕ) → x ≡ head_of 6 (pack_to (w.count - 6) (drop (w.at + 48) bs)) →
-      eqb x 109285442846720 ≡ same_list eqb resource_bytes (bytes_of bs w)
+  pub class-rest : w.head ≡ 125780053947762 → (x : ℕ) → x ≡ head_of 6 (pack_to (w.count - 6) (drop (w.at + 48) (bits_in w.source))) →
+      eqb x 109285442846720 ≡ same_list eqb resource_bytes (bytes_of w)
   class-rest e x f =
-      let d : pack_to (w.count - 6) (drop (w.at + 48) bs) ≡ drop 6 (bytes_of bs w) =
-      sym (bytes_drop 6 w.count (drop w.at bs) ∙ ap (pack_to (w.count - 6)) (Seq.drop-drop 48 w.at bs)) in
+      let d : pack_to (w.count - 6) (drop (w.at + 48) (bits_in w.source)) ≡ drop 6 (bytes_of w) =
+      sym (bytes_drop 6 w.count (drop w.at (bits_in w.source)) ∙ ap (pack_to (w.count - 6)) (Seq.drop-drop 48 w.at (bits_in w.source))) in
       ap₂ eqb (f ∙ ap (head_of 6) d) (sym rest-head)
-      ∙ same-short 6 (99 ∷ 101 ∷ []) (drop 6 (bytes_of bs w)) (omega arith) rest-good (good-drop 6 (bytes_of bs w) h.good)
+      ∙ same-short 6 (99 ∷ 101 ∷ []) (drop 6 (bytes_of w)) (omega arith) rest-good (good-drop 6 (bytes_of w) w.held.good)
       ∙ sym (split-class ∙ rw (eq-eqb 125780053947762 w.head (sym e)) refl)
 
   self-good : all is_word_byte self_bytes ≡ true
@@ -222,12 +210,12 @@ module _ (bs : List Bool) (w : Spelt) (h : Held bs w) where
   unfolding head_of
   self-head = refl
 
-  pub self-test : eqb w.head 126879447515136 ≡ same_list eqb self_bytes (bytes_of bs w)
-  self-test = ap₂ eqb h.first (sym self-head) ∙ same-short 6 self_bytes (bytes_of bs w) (omega arith) self-good h.good
+  pub self-test : eqb w.head 126879447515136 ≡ same_list eqb self_bytes (bytes_of w)
+  self-test = ap₂ eqb w.held.first (sym self-head) ∙ same-short 6 self_bytes (bytes_of w) (omega arith) self-good w.held.good
 
   -- a word that begins with another letter is neither
-  pub neither-is : (w.head / 2199023255552 ≡ 57 → ⊥) → (t : Found) (u : Bool) (i n : ℕ) → Named bs t u w i n (record { up = u; resource = t.resource; own = t.own })
+  pub neither-is : (w.head / 2199023255552 ≡ 57 → ⊥) → (t : Found) (u : Bool) (i n : ℕ) → Named t u w i n (record { up = u; resource = t.resource; own = t.own })
   neither-is m t u i n =
-      let a : same_list eqb resource_bytes (bytes_of bs w) ≡ false = sym (class-no (λ e. m (omega (arith, e)))) in
-      let b : same_list eqb self_bytes (bytes_of bs w) ≡ false = sym self-test ∙ ne_eqb w.head 126879447515136 (λ e. m (omega (arith, e))) in
+      let a : same_list eqb resource_bytes (bytes_of w) ≡ false = sym (class-no (λ e. m (omega (arith, e)))) in
+      let b : same_list eqb self_bytes (bytes_of w) ≡ false = sym self-test ∙ ne_eqb w.head 126879447515136 (λ e. m (omega (arith, e))) in
       record { rising = refl; class = rw a refl; self = rw b refl }

@@ -15,8 +15,8 @@ use Rattle.definitions.specs.Comparisons.{bytes_before}
 use Rattle.definitions.specs.Map.{number_of}
 use Rattle.definitions.specs.Parse as parse
 use Rattle.definitions.specs.Parse.{Parsed, done, refused, next, pure, allowed, repeat_onto}
-use Rattle.sheet_words.specs.Words.{bytes_of, of_spelt, Held, With, Telling, telling_of, told}
-use Rattle.sheet_words.specs.declared.Spelt.{Spelt}
+use Rattle.sheet_words.specs.Words.{bits_in, bytes_of, With, Telling, telling_of, told}
+use Rattle.sheet_words.specs.declared.spelt.Spelt.{Spelt}
 use Rattle.sheet_words.specs.declared.Found.{Found}
 
 -- ---- one word more
@@ -69,10 +69,9 @@ placed-all f n l e =
 
 -- ---- what was found of the words so far
 
-pub record Seen (bs : List Bool) (n : ℕ) (ws : List (List ℕ)) (v : Spelt) (t : Found) : Type 0 where
+pub record Seen (n : ℕ) (ws : List (List ℕ)) (v : Spelt) (t : Found) : Type 0 where
   pub rising : t.up ≡ ascends bytes_before ws
-  pub before : bytes_of bs v ≡ last_or [] ws
-  pub held : Held bs v
+  pub before : bytes_of v ≡ last_or [] ws
   pub class : t.resource ≡ placed (same_list eqb resource_bytes) n ws
   pub self : t.own ≡ placed (same_list eqb self_bytes) n ws
 
@@ -82,38 +81,35 @@ unfolding bytes_before pack_to
 some_bytes zero bs h = absurd (omega arith)
 some_bytes (suc k) bs h = refl
 
-pub seen_none : (bs : List Bool) (n : ℕ) → Seen bs n [] (record { at = 0; count = 0; head = 0 }) (record { up = true; resource = n; own = n })
-unfolding pack_to Rattle.sheet_words.specs.Words.head_of
-seen_none bs n = record {
+pub seen_none : (n : ℕ) (v : Spelt) → bytes_of v ≡ [] → Seen n [] v (record { up = true; resource = n; own = n })
+seen_none n v e = record {
   rising = refl;
-  before = refl;
-  held = record { first = refl; good = refl; inside = omega arith; few = omega arith };
+  before = e;
   class = refl;
   self = refl;
 }
 
-pub seen_more : (bs : List Bool) (n i : ℕ) (ws : List (List ℕ)) (v w : Spelt) (t r : Found) → Seen bs n ws v t → Held bs w → 0 < w.count → length ws ≡ i → i < n →
-    With bs t v w i n r → Seen bs n (ws ++ (bytes_of bs w ∷ [])) w r
-seen_more bs n i ws v w t r s h some e l g = record {
+pub seen_more : (n i : ℕ) (ws : List (List ℕ)) (v w : Spelt) (t r : Found) → Seen n ws v t → 0 < w.count → length ws ≡ i → i < n →
+    With t v w i n r → Seen n (ws ++ (bytes_of w ∷ [])) w r
+seen_more n i ws v w t r s some e l g = record {
   rising =
       g.rising
-      ∙ ap₂ (λ (a : Bool) (b : List ℕ). a && bytes_before b (bytes_of bs w)) s.rising s.before
-      ∙ sym (ascends-more bytes_before [] ws (bytes_of bs w) (some_bytes w.count (drop w.at bs) some));
-  before = sym (last_more [] ws (bytes_of bs w));
-  held = h;
+      ∙ ap₂ (λ (a : Bool) (b : List ℕ). a && bytes_before b (bytes_of w)) s.rising s.before
+      ∙ sym (ascends-more bytes_before [] ws (bytes_of w) (some_bytes w.count (drop w.at (bits_in w.source)) some));
+  before = sym (last_more [] ws (bytes_of w));
   class =
       g.class
-      ∙ ap₂ (λ (a b : ℕ). cond (same_list eqb resource_bytes (bytes_of bs w) && eqb a n) b a) s.class (sym e)
-      ∙ sym (placed-more (same_list eqb resource_bytes) n ws (bytes_of bs w) (omega arith));
+      ∙ ap₂ (λ (a b : ℕ). cond (same_list eqb resource_bytes (bytes_of w) && eqb a n) b a) s.class (sym e)
+      ∙ sym (placed-more (same_list eqb resource_bytes) n ws (bytes_of w) (omega arith));
   self =
       g.self
-      ∙ ap₂ (λ (a b : ℕ). cond (same_list eqb self_bytes (bytes_of bs w) && eqb a n) b a) s.self (sym e)
-      ∙ sym (placed-more (same_list eqb self_bytes) n ws (bytes_of bs w) (omega arith));
+      ∙ ap₂ (λ (a b : ℕ). cond (same_list eqb self_bytes (bytes_of w) && eqb a n) b a) s.self (sym e)
+      ∙ sym (placed-more (same_list eqb self_bytes) n ws (bytes_of w) (omega arith));
 }
 
 -- ---- at the end
 
-module _ (bs : List Bool) (n : ℕ) (ws : List (List ℕ)) (v : Spelt) (t : Found) (s : Seen bs n ws v t) (e : length ws ≡ n) where
+module _ (n : ℕ) (ws : List (List ℕ)) (v : Spelt) (t : Found) (s : Seen n ws v t) (e : length ws ≡ n) where
   pub class-is : t.resource ≡ number_of resource_bytes ws
   unfolding number_of
   class-is = s.class ∙ placed-all (same_list eqb resource_bytes) n ws e

@@ -1,26 +1,22 @@
 // The words of a sheet, tested where they stand: no table of them is kept.
 #![tactic(auto)]
 
-ghost use Rattle.std.specs.Prelude.{not, ◌&&◌, ◌||◌, cond, ◌≡◌, ◌+◌, ◌*◌, ◌-◌, ◌^◌, ◌≤◌, ◌<◌, eqb, leb, length, drop, IfOk};
+ghost use Rattle.std.specs.Prelude.{[], not, ◌&&◌, ◌||◌, cond, ◌≡◌, ◌+◌, ◌*◌, ◌^◌, ◌≤◌, ◌<◌, eqb, leb, length, drop, IfOk};
 ghost use Rattle.lists.specs.Lists.{all, same_list, list_before};
-ghost use Rattle.definitions.specs.Bits.{bits_of, num, pack_to};
-ghost use Rattle.definitions.specs.Checks.{resource_bytes, self_bytes};
+ghost use Rattle.definitions.specs.Bits.{bits_of, pack_to};
+ghost use Rattle.definitions.specs.Checks.{resource_bytes};
 ghost use Rattle.definitions.specs.Comparisons.{bytes_before};
 ghost use Rattle.definitions.specs.Parse.{allowed, repeat, counted};
 ghost use Rattle.definitions.specs.Reading.{is_word_byte, word};
 ghost use Rattle.bits.specs.Reading.{Addressable};
-ghost use Rattle.sheet_words.specs.Words.{bytes_of, head_of, spelt, marks, Held, Tells, Spelled, Begun, Named, With, told, of_words_read};
+ghost use Rattle.sheet_words.specs.Bytes.{head_of, spelt, marks};
+ghost use Rattle.sheet_words.specs.Words.{bits_in, bytes_of, of_spelt, Spelled, Begun, Named, With, told, of_words_read};
+
+mod spelt;
 
 use bits::Cursor;
 use fields::Fault;
-
-// A word of count bytes that stand from bit `at` on; `head` is the first six of them as one number.
-#[derive(Clone, Copy)]
-pub struct Spelt {
-    pub at: usize,
-    pub count: usize,
-    pub head: u64,
-}
+use spelt::{Source, Spelt};
 
 // Whether the words so far ascend, and the numbers of `resource` and `self`. No Option: for a word that is missing the law's own
 // number is the count of all words (`number_of` of the definitions), and that stands here for one that is not found yet.
@@ -69,15 +65,15 @@ fn is_spelt(v: u64, n: usize) -> bool
 }
 
 // The same of n bytes from a place on.
-fn is_text(s: &[u8], at: usize, n: usize) -> bool
-    requires { Addressable s.now × (at + 8 * n ≤ 8 * length s.now) }
-    ensures { result ≡ all is_word_byte (pack_to n (drop at (bits_of s.now))) }
+fn is_text(s: Source, at: usize, n: usize) -> bool
+    requires { at + 8 * n ≤ 8 * length s.bytes.now }
+    ensures { result ≡ all is_word_byte (pack_to n (drop at (bits_in s.entry))) }
 {
     // A `while`, since what is left is asked again behind the loop.
     let mut p = at;
     let mut left = n;
     while 6 < left {
-        let v = sheet_window::wide(s, p, 48);
+        let v = sheet_window::wide(s.bytes, p, 48);
         if is_spelt(v, 6) {
             p += 48;
             left -= 6;
@@ -88,28 +84,28 @@ fn is_text(s: &[u8], at: usize, n: usize) -> bool
     if left == 0 {
         return true;
     }
-    is_spelt(sheet_window::wide(s, p, 8 * left), left)
+    is_spelt(sheet_window::wide(s.bytes, p, 8 * left), left)
 }
 
 // The first six of n bytes from a place on, as one number.
-fn head_at(s: &[u8], at: usize, n: usize) -> u64
-    ensures { result ≡ head_of 6 (pack_to n (drop at (bits_of s.now))) }
+fn head_at(s: Source, at: usize, n: usize) -> u64
+    ensures { result ≡ head_of 6 (pack_to n (drop at (bits_in s.entry))) }
 {
     if n == 0 {
         return 0;
     }
     if 6 <= n {
-        return sheet_window::wide(s, at, 48);
+        return sheet_window::wide(s.bytes, at, 48);
     }
-    sheet_window::wide(s, at, 8 * n) << (48 - 8 * n)
+    sheet_window::wide(s.bytes, at, 8 * n) << (48 - 8 * n)
 }
 
 // A word of n bytes from a place on. Where they pass the end, one that is there and not allowed is refused before.
-fn bytes_from(s: &[u8], at: usize, n: usize) -> Result<Spelt, Fault>
-    requires { Addressable s.now × (at ≤ 8 * length s.now) × (n ≤ 31) }
-    ensures { Tells (bits_of s.now) result (repeat (allowed 8 is_word_byte) n (drop at (bits_of s.now))) }
+fn bytes_from(s: Source, at: usize, n: usize) -> Result<Spelt, Fault>
+    requires { (at ≤ 8 * length s.bytes.now) × (n ≤ 31) }
+    ensures { of_spelt (bits_in s.entry) result ≡ repeat (allowed 8 is_word_byte) n (drop at (bits_in s.entry)) }
 {
-    let there = (s.len() * 8 - at) / 8;
+    let there = (s.bytes.len() * 8 - at) / 8;
     if there < n {
         if is_text(s, at, there) {
             return Err(Fault::Past);
@@ -118,6 +114,7 @@ fn bytes_from(s: &[u8], at: usize, n: usize) -> Result<Spelt, Fault>
     }
     if is_text(s, at, n) {
         return Ok(Spelt {
+            source: s,
             at,
             count: n,
             head: head_at(s, at, n),
@@ -127,18 +124,17 @@ fn bytes_from(s: &[u8], at: usize, n: usize) -> Result<Spelt, Fault>
 }
 
 // A word of any length, anywhere.
-fn plain_word(s: &[u8], at: usize) -> Result<Spelt, Fault>
-    requires { Addressable s.now }
-    ensures { Spelled (bits_of s.now) at result }
+fn plain_word(s: Source, at: usize) -> Result<Spelt, Fault>
+    ensures { Spelled (bits_in s.entry) at result }
 {
-    let total = s.len() * 8;
+    let total = s.bytes.len() * 8;
     if total < at {
         return Err(Fault::Past);
     }
     if total - at < 5 {
         return Err(Fault::Past);
     }
-    let n = sheet_window::wide(s, at, 5) as usize;
+    let n = sheet_window::wide(s.bytes, at, 5) as usize;
     if n == 0 {
         return Err(Fault::NotAllowed);
     }
@@ -146,14 +142,15 @@ fn plain_word(s: &[u8], at: usize) -> Result<Spelt, Fault>
 }
 
 // A word of up to six bytes, which are the first bits of x.
-fn short_word(s: &[u8], at: usize, n: usize, x: u64) -> Result<Spelt, Fault>
-    requires { Addressable s.now × Begun (bits_of s.now) at n x × (n ≤ 6) }
-    ensures { Spelled (bits_of s.now) at result }
+fn short_word(s: Source, at: usize, n: usize, x: u64) -> Result<Spelt, Fault>
+    requires { Begun (bits_in s) at n x × (n ≤ 6) }
+    ensures { Spelled (bits_in s.entry) at result }
 {
     let k = 48 - 8 * n;
     let v = x >> k;
     if is_spelt(v, n) {
         return Ok(Spelt {
+            source: s,
             at: at + 5,
             count: n,
             head: v << k,
@@ -163,17 +160,18 @@ fn short_word(s: &[u8], at: usize, n: usize, x: u64) -> Result<Spelt, Fault>
 }
 
 // A word of more than six bytes, of which x has the first six.
-fn long_word(s: &[u8], at: usize, n: usize, x: u64) -> Result<Spelt, Fault>
-    requires { Addressable s.now × Begun (bits_of s.now) at n x × (6 < n) }
-    ensures { Spelled (bits_of s.now) at result }
+fn long_word(s: Source, at: usize, n: usize, x: u64) -> Result<Spelt, Fault>
+    requires { Begun (bits_in s) at n x × (6 < n) }
+    ensures { Spelled (bits_in s.entry) at result }
 {
     let q = at + 5;
-    if s.len() * 8 - q < 8 * n {
+    if s.bytes.len() * 8 - q < 8 * n {
         return bytes_from(s, q, n);
     }
     if is_spelt(x, 6) {
         if is_text(s, q + 48, n - 6) {
             return Ok(Spelt {
+                source: s,
                 at: q,
                 count: n,
                 head: x,
@@ -185,12 +183,11 @@ fn long_word(s: &[u8], at: usize, n: usize, x: u64) -> Result<Spelt, Fault>
 }
 
 // An entry of the word list: its length, 1 to 31, and so many bytes (FORMAT 2.4).
-fn read_word(s: &[u8], at: usize) -> Result<Spelt, Fault>
-    requires { Addressable s.now }
-    ensures { Spelled (bits_of s.now) at result }
+fn read_word(s: Source, at: usize) -> Result<Spelt, Fault>
+    ensures { Spelled (bits_in s.entry) at result }
 {
-    if at / 8 + 8 <= s.len() {
-        let w = sheet_window::wide_in(s, at, 53);
+    if at / 8 + 8 <= s.bytes.len() {
+        let w = sheet_window::wide_in(s.bytes, at, 53);
         let n = (w >> 48) as usize;
         if 0 < n {
             let x = w % 281474976710656;
@@ -204,9 +201,8 @@ fn read_word(s: &[u8], at: usize) -> Result<Spelt, Fault>
 }
 
 // Whether a word comes before another, of which the first six bytes are the same.
-fn rest_before(s: &[u8], a: Spelt, b: Spelt) -> bool
-    requires { Addressable s.now × Held (bits_of s.now) a × Held (bits_of s.now) b }
-    ensures { result ≡ list_before (drop 6 (bytes_of (bits_of s.now) a)) (drop 6 (bytes_of (bits_of s.now) b)) }
+fn rest_before(a: Spelt, b: Spelt) -> bool
+    ensures { result ≡ list_before (drop 6 (bytes_of a.entry)) (drop 6 (bytes_of b.entry)) }
 {
     let p = a.at;
     let q = b.at;
@@ -214,8 +210,8 @@ fn rest_before(s: &[u8], a: Spelt, b: Spelt) -> bool
     let m = b.count;
     let both = n.min(m);
     for i in 6..both {
-        let x = sheet_window::wide(s, p + 8 * i, 8);
-        let y = sheet_window::wide(s, q + 8 * i, 8);
+        let x = sheet_window::wide(a.source.bytes, p + 8 * i, 8);
+        let y = sheet_window::wide(b.source.bytes, q + 8 * i, 8);
         if x != y {
             return x < y;
         }
@@ -224,9 +220,8 @@ fn rest_before(s: &[u8], a: Spelt, b: Spelt) -> bool
 }
 
 // Whether a word comes before another (FORMAT 1.2).
-fn is_before(s: &[u8], a: Spelt, b: Spelt) -> bool
-    requires { Addressable s.now × Held (bits_of s.now) a × Held (bits_of s.now) b }
-    ensures { result ≡ bytes_before (bytes_of (bits_of s.now) a) (bytes_of (bits_of s.now) b) }
+fn is_before(a: Spelt, b: Spelt) -> bool
+    ensures { result ≡ bytes_before (bytes_of a.entry) (bytes_of b.entry) }
 {
     if a.head < b.head {
         return true;
@@ -234,27 +229,25 @@ fn is_before(s: &[u8], a: Spelt, b: Spelt) -> bool
     if b.head < a.head {
         return false;
     }
-    rest_before(s, a, b)
+    rest_before(a, b)
 }
 
 // Whether words still ascend with one more.
-fn still_up(s: &[u8], up: bool, a: Spelt, b: Spelt) -> bool
-    requires { Addressable s.now × Held (bits_of s.now) a × Held (bits_of s.now) b }
-    ensures { result ≡ (up && bytes_before (bytes_of (bits_of s.now) a) (bytes_of (bits_of s.now) b)) }
+fn still_up(up: bool, a: Spelt, b: Spelt) -> bool
+    ensures { result ≡ (up && bytes_before (bytes_of a.entry) (bytes_of b.entry)) }
 {
-    up && is_before(s, a, b)
+    up && is_before(a, b)
 }
 
 // Whether a word is `resource`: its first six bytes, and the two behind them.
-fn is_resource(s: &[u8], w: Spelt) -> bool
-    requires { Addressable s.now × Held (bits_of s.now) w }
-    ensures { result ≡ same_list eqb resource_bytes (bytes_of (bits_of s.now) w) }
+fn is_resource(w: Spelt) -> bool
+    ensures { result ≡ same_list eqb resource_bytes (bytes_of w.entry) }
 {
     if w.head == 125780053947762 {
         if w.count < 6 {
             return false;
         }
-        return head_at(s, w.at + 48, w.count - 6) == 109285442846720;
+        return head_at(w.source, w.at + 48, w.count - 6) == 109285442846720;
     }
     false
 }
@@ -268,25 +261,23 @@ fn first_place(hit: bool, old: usize, i: usize, n: usize) -> usize
 }
 
 // The places with one word more, the i-th of n.
-fn with_name(s: &[u8], t: Found, up: bool, w: Spelt, i: usize, n: usize) -> Found
-    requires { Addressable s.now × Held (bits_of s.now) w }
-    ensures { Named (bits_of s.now) t up w i n result }
+fn with_name(t: Found, up: bool, w: Spelt, i: usize, n: usize) -> Found
+    ensures { Named t up w.entry i n result }
 {
     Found {
         up,
-        resource: first_place(is_resource(s, w), t.resource, i, n),
+        resource: first_place(is_resource(w), t.resource, i, n),
         own: first_place(w.head == 126879447515136, t.own, i, n),
     }
 }
 
 // What is found with one word more, the i-th of n. Only words that begin with r or s are looked at for their names.
-fn with_word(s: &[u8], t: Found, last: Spelt, w: Spelt, i: usize, n: usize) -> Found
-    requires { Addressable s.now × Held (bits_of s.now) last × Held (bits_of s.now) w }
-    ensures { With (bits_of s.now) t last w i n result }
+fn with_word(t: Found, last: Spelt, w: Spelt, i: usize, n: usize) -> Found
+    ensures { With t last.entry w.entry i n result }
 {
-    let up = still_up(s, t.up, last, w);
+    let up = still_up(t.up, last, w);
     if w.head / 2199023255552 == 57 {
-        return with_name(s, t, up, w, i, n);
+        return with_name(t, up, w, i, n);
     }
     Found {
         up,
@@ -302,17 +293,26 @@ fn is_bad(t: Found, count: usize) -> bool
     !t.up || count <= t.resource || count <= t.own
 }
 
-// n words.
-fn read_each_word(s: &[u8], c: Cursor, n: usize) -> Result<WordsRead, Fault>
-    requires { Addressable s.now × (n ≤ 200) }
-    ensures { (of_words_read (bits_of s.now) result ≡ told (repeat word n (drop c.at (bits_of s.now)))) × IfOk result (λ w. w.count ≤ 200) }
+// What stands before the first word: it has no bytes, so no word comes before it.
+#[tactic(auto, unfolding(definitions::specs::Bits::pack_to, crate::specs::Bytes::head_of))]
+fn no_word(s: Source) -> Spelt
+    ensures { bytes_of result ≡ [] }
 {
-    let mut at = c.at;
-    let mut last = Spelt {
+    Spelt {
+        source: s,
         at: 0,
         count: 0,
         head: 0,
-    };
+    }
+}
+
+// n words.
+fn read_each_word(s: Source, c: Cursor, n: usize) -> Result<WordsRead, Fault>
+    requires { n ≤ 200 }
+    ensures { (of_words_read (bits_in s.entry) result ≡ told (repeat word n (drop c.at (bits_in s.entry)))) × IfOk result (λ w. w.count ≤ 200) }
+{
+    let mut at = c.at;
+    let mut last = no_word(s);
     let mut t = Found {
         up: true,
         resource: n,
@@ -320,7 +320,7 @@ fn read_each_word(s: &[u8], c: Cursor, n: usize) -> Result<WordsRead, Fault>
     };
     for i in 0..n {
         let w = read_word(s, at)?;
-        t = with_word(s, t, last, w, i, n);
+        t = with_word(t, last, w, i, n);
         at = w.at + 8 * w.count;
         last = w;
     }
@@ -339,5 +339,5 @@ pub fn read_words(s: &[u8], c: Cursor) -> Result<WordsRead, Fault>
     ensures { (of_words_read (bits_of s.now) result ≡ told (counted 8 2 200 word (drop c.at (bits_of s.now)))) × IfOk result (λ w. w.count ≤ 200) }
 {
     let (n, next) = fields::read_between(s, c, 8, 2, 200)?;
-    read_each_word(s, next, n)
+    read_each_word(Source { bytes: s }, next, n)
 }

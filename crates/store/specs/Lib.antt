@@ -1,2 +1,3 @@
+pub mod Saving
 pub mod Store
 pub mod StoreLaws

@@ -1,72 +1,57 @@
--- Where the lists of all types stand in a slice of numbers.
-use Rattle.std.specs.Prelude.{List, ◌≡◌, ℕ, ◌+◌, ◌*◌, ◌<◌, ◌≤◌, get_or, set, length}
+-- What stands in the store, an element for each type.
+use Rattle.std.specs.Prelude.{List, [], ◌≡◌, ℕ, ◌<◌, get_or, length}
+use Rattle.std.proofs.Common.{arith, refl}
 use Rattle.rows.specs.declared.Row.{Row}
 use Rattle.rows.specs.Rows.{empty}
+use Rattle.records.specs.declared.Kind.TheVariants.{MakeList, Associate}
+use Rattle.dedup.specs.Entries.{Entries}
 use Rattle.dedup.specs.declared.Entry.{Entry}
-use Rattle.dedup.specs.declared.Entries.{Entries}
-use Rattle.dedup.specs.declared.Inherited.{Inherited}
-use Rattle.dedup.specs.Reading.{table_of}
+use Rattle.dedup.specs.declared.inherited.Inherited.{Inherited}
+use Rattle.dedup.specs.Entries.{nil}
+use Rattle.dedup.specs.Keeping.{table_of}
+use Rattle.store.specs.Saving.{entry_of, Fit}
+use Rattle.store.specs.declared.Saved.{Saved}
 
-unfoldable pub row_at : List ℕ → ℕ → Row
-row_at s at = record { a = get_or s at 0; b = get_or s (at + 1) 0; c = get_or s (at + 2) 0; d = get_or s (at + 3) 0 }
-
-unfoldable pub entry_at : List ℕ → ℕ → Entry
-entry_at s at = record { kind = 1; words = row_at s at; parents = 0 }
-
-unfoldable pub put_row : List ℕ → ℕ → Row → List ℕ
-put_row s at r = set (set (set (set s at r.a) (at + 1) r.b) (at + 2) r.c) (at + 3) r.d
+pub none-fit : Fit 0 [] []
+none-fit = record { few = omega arith; apart = nil; full = refl; clean = λ w l c. refl }
 
 -- what a read past the end gives
+abbrev pub nothing : Saved
+nothing = record { count = 0; words = []; doms = []; fit = none-fit }
+
 abbrev pub zeros : Entry
-zeros = record { kind = 0; words = empty; parents = 0 }
+zeros = record { kind = MakeList; words = empty; parents = 0 }
 
 -- each of the entries is an Associate
 abbrev pub Associates : Entries → Type 0
-Associates l = (i : ℕ) → i < l.count → (get_or l.items i zeros).kind ≡ 1
+Associates l = (i : ℕ) → i < l.count → (get_or l.items i zeros).kind ≡ Associate
 
--- the words of the entries stand there, four numbers each
-abbrev pub WordsAt : List ℕ → ℕ → Entries → Type 0
-WordsAt s at l = (i : ℕ) → i < l.count → row_at s (at + 4 * i) ≡ (get_or l.items i zeros).words
+-- these are the words of the entries
+abbrev pub WordsAt : List Row → Entries → Type 0
+WordsAt rs l = (i : ℕ) → i < l.count → table_of rs i ≡ (get_or l.items i zeros).words
 
 -- and these are the entries with such words
-abbrev pub EntriesAt : List ℕ → ℕ → Entries → Type 0
-EntriesAt s at l = (i : ℕ) → i < l.count → entry_at s (at + 4 * i) ≡ get_or l.items i zeros
+abbrev pub EntriesAt : List Row → Entries → Type 0
+EntriesAt rs l = (i : ℕ) → i < l.count → entry_of (table_of rs i) ≡ get_or l.items i zeros
 
--- the dom sets stand there, four numbers each
-abbrev pub DomsAt : List ℕ → ℕ → List Row → Type 0
-DomsAt s at ds = (w : ℕ) → w < 200 → row_at s (at + 4 * w) ≡ table_of ds w
+-- these are the dom sets
+abbrev pub DomsAt : List Row → List Row → Type 0
+DomsAt rs ds = (w : ℕ) → w < 200 → table_of rs w ≡ table_of ds w
 
--- q is none of the n places from `at` on
-abbrev pub Away : ℕ → ℕ → ℕ → Type 0
-Away at n q = (j : ℕ) → j < n → q ≡ at + j → ⊥
+-- the list h is kept there
+pub record Holds (s : Saved) (h : Inherited) : Type 0 where
+  pub count : s.count ≡ h.list.count
+  pub entries : WordsAt s.words h.list
+  pub doms : DomsAt s.doms h.doms
 
--- all other places keep their numbers
-abbrev pub Keeps : List ℕ → ℕ → ℕ → List ℕ → Type 0
-Keeps s at n t = (q : ℕ) → Away at n q → get_or t q 0 ≡ get_or s q 0
-
-pub record PutEntries (s : List ℕ) (at : ℕ) (l : Entries) (t : List ℕ) : Type 0 where
-  pub there : WordsAt t at l
-  pub keeps : Keeps s at 800 t
-  pub long : length t ≡ length s
-
-pub record PutDoms (s : List ℕ) (at : ℕ) (ds : List Row) (t : List ℕ) : Type 0 where
-  pub there : DomsAt t at ds
-  pub keeps : Keeps s at 800 t
-  pub long : length t ≡ length s
-
--- the list h stands at the place of the type t
-pub record Holds (s : List ℕ) (t : ℕ) (h : Inherited) : Type 0 where
-  pub count : get_or s (1601 * t) 0 ≡ h.list.count
-  pub entries : WordsAt s (1601 * t + 1) h.list
-  pub doms : DomsAt s (1601 * t + 801) h.doms
-
--- r is what stands there, without parents
-pub record Fetched (s : List ℕ) (t : ℕ) (r : Inherited) : Type 0 where
-  pub count : get_or s (1601 * t) 0 ≡ r.list.count
-  pub entries : EntriesAt s (1601 * t + 1) r.list
-  pub doms : DomsAt s (1601 * t + 801) r.doms
-
-pub record Stores (s : List ℕ) (t : ℕ) (h : Inherited) (r : List ℕ) : Type 0 where
-  pub holds : Holds r t h
-  pub others : (u : ℕ) (g : Inherited) → (u ≡ t → ⊥) → g.list.count ≤ 200 → Holds s u g → Holds r u g
+-- in r the list h is kept at the place of the type t, and all else is as in s
+pub record Stores (s : List Saved) (t : ℕ) (h : Inherited) (r : List Saved) : Type 0 where
+  pub holds : Holds (get_or r t nothing) h
+  pub others : (u : ℕ) → (u ≡ t → ⊥) → get_or r u nothing ≡ get_or s u nothing
   pub long : length r ≡ length s
+
+-- r is what is kept there, without parents
+pub record Fetched (s : Saved) (r : Inherited) : Type 0 where
+  pub count : s.count ≡ r.list.count
+  pub entries : EntriesAt s.words r.list
+  pub doms : DomsAt s.doms r.doms

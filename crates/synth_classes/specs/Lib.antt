@@ -1,5 +1,5 @@
 pub mod Classes
-pub mod Doms
+pub mod Numbers
 pub mod ClassLaws
 pub mod Made
 pub mod Walks

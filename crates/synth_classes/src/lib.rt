@@ -2,68 +2,27 @@
 #![tactic(auto)]
 
 ghost use Rattle.std.specs.Prelude.{◌≡◌, ◌+◌, ◌*◌, ◌%◌, ◌<◌};
-ghost use Rattle.std.specs.Iterator.{YieldsFirst, item_count};
-ghost use Rattle.rows.specs.Rows.{has};
-ghost use Rattle.rows.specs.Lists.{below};
 ghost use Rattle.definitions.specs.Comparisons.{dotted};
 ghost use Rattle.fields.specs.Fields.{name_of};
 ghost use Rattle.annotations.specs.Reading.{dom_at};
 ghost use Rattle.catalogue.specs.Layout.{key_at};
 ghost use Rattle.sheet_keys.specs.Keys.{name_of_key};
 ghost use Rattle.synth_classes.specs.Classes.{place_if, place_of, place_in};
-ghost use Rattle.synth_classes.specs.Doms.{doms_left};
+
+mod numbers;
+mod site;
 
 use catalogue::Catalogue;
 use fields::Name;
+pub use numbers::{Doms, Numbers};
 use rows::Row;
-
-// What a resource is made for: the place of a type, and a word.
-#[derive(Clone, Copy)]
-pub struct Site {
-    pub place: usize,
-    pub word: u8,
-}
+pub use site::Site;
 
 // What it comes from: the doms of its classes, and the direct parents that pass it on, of which an own one has none.
 #[derive(Clone, Copy)]
 pub struct Origin {
     pub doms: Row,
     pub parents: u64,
-}
-
-// The doms of a row, ascending: none and the words, below 201 (FORMAT 1.2).
-#[derive(Drop)]
-pub struct Doms {
-    row: Row,
-    from: u8,
-}
-
-impl Doms {
-    // Those of a whole row.
-    pub fn of(row: Row) -> Doms
-        ensures { doms_left result ≡ below (has row) 201 }
-    {
-        Doms { row, from: 0 }
-    }
-}
-
-impl Iterator for Doms {
-    type Item = u8;
-
-    ghost next_gives = { YieldsFirst doms_left };
-
-    ghost remaining = { item_count doms_left };
-
-    #[tactic(auto, using(crate::specs::Doms::next_dom, crate::specs::Doms::last_dom))]
-    fn next(&mut self) -> Option<u8> {
-        let k = rows::next(self.row, self.from as usize);
-        if k < 201 {
-            let dom = k as u8;
-            self.from = dom + 1;
-            return Some(dom);
-        }
-        None
-    }
 }
 
 // The place of the type of that name, if one is declared (FORMAT 1.5): its first word, and one more than its second, or 0 where
@@ -82,6 +41,7 @@ pub fn place_of(t: &Catalogue, first: usize, second: usize) -> Option<usize>
 }
 
 // The place of the class of a dom and a word, if it is declared (FORMAT 4.2): the dom 0 is none, d + 1 the word d.
+// A word that is asked for without a place is a number with a clause: as a type each look-up, name and row would open it.
 #[tactic(auto, using(crate::specs::ClassLaws::dom_none, crate::specs::ClassLaws::dom_word))]
 pub fn class_place(t: &Catalogue, dom: usize, word: u8) -> Option<usize>
     requires { (dom < 257) × (word < 255) }
@@ -119,8 +79,5 @@ pub fn name_at(t: &Catalogue, place: usize) -> Name
     requires { place < 64 }
     ensures { name_of result ≡ name_of_key (key_at t.now place % 65536) }
 {
-    let key = t.keys[place];
-    let first = (key / 256 % 256) as u8;
-    let second = ((key % 256 + 255) % 256) as u8;
-    Name { first, second }
+    Name::from(t.keys[place])
 }

@@ -1,5 +1,5 @@
 -- Marks as bits, walked class by class.
-use Rattle.std.specs.Prelude.{Bool, List, ◌∷◌, ◌++◌, Some, None, ◌≡◌, ℕ, zero, suc, ◌+◌, ◌*◌, ◌-◌, ◌/◌, ◌%◌, ◌≤◌, ◌<◌, eqb, length}
+use Rattle.std.specs.Prelude.{Bool, List, ◌∷◌, ◌++◌, Some, None, ◌≡◌, ℕ, zero, suc, ◌+◌, ◌*◌, ◌-◌, ◌≤◌, ◌<◌, eqb, length}
 use Rattle.std.proofs.Math.Bool.{false}
 use Rattle.std.proofs.Math.Path.{sym, ap}
 use Rattle.std.proofs.Common.{◌∙◌, arith, lt-ltb, le-ltb, length-append, get_or-append-add}
@@ -12,7 +12,7 @@ use Rattle.rows.specs.RowLaws.{bit_is}
 use Rattle.rows.specs.Lists.{between, below}
 use Rattle.definitions.specs.Bits.{odd, to_bits}
 use Rattle.bits.specs.NumberLaws.{length-to_bits}
-use Rattle.catalogue.specs.Layout.{marks_at, tally_at}
+use Rattle.catalogue.specs.Layout.{marks_at, mark_width}
 use Rattle.catalogue.specs.declared.Catalogue.{Catalogue}
 use Rattle.synth_classes.specs.Classes.{place_if, place_in}
 use Rattle.synth_classes.specs.ClassLaws.{place-some, place-none}
@@ -26,7 +26,7 @@ few-between f i (suc n) = let e = few-between f (suc i) n in by (f i) (λ q. rw 
 
 -- ---- one class
 
-pub width-there : (t : Catalogue) (p : ℕ) → p < 64 → tally_at t p / 8 % 64 ≡ width_at t p
+pub width-there : (t : Catalogue) (p : ℕ) → p < 64 → mark_width t p ≡ width_at t p
 unfolding width_at
 width-there t p h = rw (lt-ltb p 64 h)
 
@@ -35,8 +35,8 @@ unfolding width_at
 width-none t p h = rw (le-ltb p 64 h)
 
 -- what a place tells of the width
-pub width-some : (t : Catalogue) (word k p w : ℕ) → place_if (place_in t word k) ≡ Some p → w ≡ width_at t p → w ≡ width_at t (place_in t word k)
-width-some t word k p w e h = h ∙ ap (width_at t) (sym (place-some _ p e).0)
+pub width-some : (t : Catalogue) (word k p w : ℕ) → place_if (place_in t word k) ≡ Some p → w ≡ mark_width t p → w ≡ width_at t (place_in t word k)
+width-some t word k p w e h = let z = place-some _ p e in h ∙ width-there t p z.1 ∙ ap (width_at t) (sym z.0)
 
 pub width-no : (t : Catalogue) (word k : ℕ) → place_if (place_in t word k) ≡ None → 0 ≡ width_at t (place_in t word k)
 width-no t word k e = width-none t (place_in t word k) (place-none _ e)

@@ -1,5 +1,5 @@
 -- What decides whether two makings of one type and one word are identical, out of a catalogue.
-use Rattle.std.specs.Prelude.{Bool, true, false, ◌&&◌, not, cond, List, ◌≡◌, ℕ, ◌*◌, ◌-◌, ◌/◌, ◌%◌, ◌<◌, eqb, ltb, length}
+use Rattle.std.specs.Prelude.{Bool, true, false, ◌&&◌, not, cond, List, ◌≡◌, ℕ, ◌*◌, ◌-◌, ◌<◌, eqb, ltb, length}
 use Rattle.std.specs.Bool.{beq}
 use Rattle.std.specs.Int.Bits.{bit_and}
 use Rattle.lists.specs.Lists.{each, null, same_list}
@@ -11,10 +11,10 @@ use Rattle.definitions.specs.Bits.{to_bits}
 use Rattle.definitions.specs.Records.{Sheet}
 use Rattle.definitions.specs.Making.{same_item}
 use Rattle.line_laws.specs.Statements.{line_map}
-use Rattle.catalogue.specs.Layout.{key_at, head_at, marks_at, tally_at}
+use Rattle.catalogue.specs.Layout.{key_at, head_at, marks_at, mark_width}
 use Rattle.catalogue.specs.Catalogue.{virtual_head}
 use Rattle.catalogue.specs.declared.Catalogue.{Catalogue}
-use Rattle.synth_classes.specs.declared.Site.{Site}
+use Rattle.synth_classes.specs.declared.site.Site.{Site}
 use Rattle.synth_classes.specs.declared.Origin.{Origin}
 use Rattle.synth_classes.specs.Classes.{place_in}
 use Rattle.synth_classes.specs.Made.{created}
@@ -58,8 +58,9 @@ SameVirtual t place word d e r =
 
 -- ---- marks
 
+-- how many bits the marks of the type at a place have; none where there is no type
 unfoldable pub width_at : Catalogue → ℕ → ℕ
-width_at t p = cond (ltb p 64) (tally_at t p / 8 % 64) 0
+width_at t p = cond (ltb p 64) (mark_width t p) 0
 
 -- the bits of the marks of the type at a place
 unfoldable pub bits_at : Catalogue → ℕ → List Bool

@@ -4,7 +4,7 @@ use mathlib.Core.List.{List, [], ◌∷◌, ◌++◌, append-nil, append_cancel_
 use Rattle.std.specs.Prelude.{Some, None, ◌≡◌, refl, ltb, length, get_or}
 use Rattle.std.proofs.Math.Path.{sym, ap, subst}
 use Rattle.std.proofs.Common.{ap₂, ◌∙◌, arith, ext_get_or}
-use Prim.Native.Nat.{ℕ, zero, suc, ◌/◌, ◌%◌, ◌≤◌, ◌<◌}
+use Prim.Native.Nat.{ℕ, zero, suc, ◌≤◌, ◌<◌}
 use borrow.Author.Tests.{ltb-true, ltb-false}
 use Rattle.std.specs.List.{list_any}
 use Rattle.lists.specs.Lists.{all, filter, null, each}
@@ -23,18 +23,18 @@ use Rattle.line_laws.specs.Statements.{line_map}
 use Rattle.line_laws.specs.Declarations.{type-of}
 use Rattle.line_laws.specs.SameItem.{same_item_lem, item-same}
 use Rattle.law_classes.specs.Sets.{type_at}
-use Rattle.catalogue.specs.Layout.{head_at, marks_at, tally_at}
-use Rattle.catalogue.specs.Catalogue.{virtual_head}
+use Rattle.catalogue.specs.Layout.{head_at, marks_at}
+use Rattle.catalogue.specs.Catalogue.{virtual_head, marks-wide}
 use Rattle.catalogue.specs.declared.Catalogue.{Catalogue}
 use Rattle.item_refusal.specs.MarkLaws.{AllWithin, one_code}
-use Rattle.synth_classes.specs.declared.Site.{Site}
+use Rattle.synth_classes.specs.declared.site.Site.{Site}
 use Rattle.synth_classes.specs.declared.Origin.{Origin}
 use Rattle.synth_classes.specs.Classes.{place_if, place_in}
 use Rattle.synth_classes.specs.ClassLaws.{asked-some, asked-none}
 use Rattle.synth_classes.specs.Made.{class_name, classes_of, firsts_of, created}
 use Rattle.synth_classes.specs.Walks.{class-names}
 use Rattle.synth_classes.specs.Known.{Known, class-known, class_low}
-use Rattle.synth_same.specs.Same.{same_firsts, real_at, virtual_in, SameVirtual, width_at, bits_at, bits_in, SameMarks, SameMaking}
+use Rattle.synth_same.specs.Same.{same_firsts, real_at, virtual_in, SameVirtual, bits_at, bits_in, SameMarks, SameMaking}
 use Rattle.synth_same.specs.FirstLaws.{firsts-yes, firsts-same}
 use Rattle.synth_same.specs.MarkLaws.{width-there, width-none}
 
@@ -130,8 +130,7 @@ module _ (s : Sheet) (t : Catalogue) (known : Known s t) where
       let p = place_in t word k in
       let l = ltb-true p 64 e in
       let x = known.listed.entry p (class_low s t known word k l) in
-      let w : tally_at t p / 8 ≡ width_at t p = let q : tally_at t p / 8 ≡ tally_at t p / 8 % 64 = omega (arith, x.tally) in q ∙ width-there t p l in
-      rw e (ap (each mark_bits) (append-nil (type_at M p).marks) ∙ sym x.mark_bits ∙ ap (λ (y : ℕ). to_bits y (marks_at t p)) w))
+      rw e (ap (each mark_bits) (append-nil (type_at M p).marks) ∙ sym (marks-wide s t p x) ∙ ap (λ (y : ℕ). to_bits y (marks_at t p)) (width-there t p l)))
       (λ e. rw e (ap (λ (y : ℕ). to_bits y (marks_at t (place_in t word k))) (width-none t (place_in t word k) (ltb-false _ _ e)))))
 
   bits-known : (doms : Row) (word : ℕ) → word < 255 → each mark_bits (marks_of M (classes_of doms word)) ≡ bits_in t doms word
@@ -190,19 +189,19 @@ module _ (s : Sheet) (t : Catalogue) (known : Known s t) where
 
 -- ---- the answer
 
-module _ (t : Catalogue) (site : Site) (a b : Origin) (hw : site.word < 255) where
+module _ (t : Catalogue) (site : Site) (a b : Origin) where
   pub firsts_unlike : (r : Bool) → r ≡ same_firsts t a.doms a.parents b.doms b.parents → r ≡ false → SameMaking t site a b false
   firsts_unlike r e f =
       record {
         right = λ s k h. sym (not_so (λ z.
-            never (e ∙ firsts_agree s t k site.place site.word h hw a.doms a.parents b.doms b.parents (same_item_lem _ _ z)) f));
+            never (e ∙ firsts_agree s t k site.place site.word h site.numbered a.doms a.parents b.doms b.parents (same_item_lem _ _ z)) f));
       }
 
   pub flags_unlike : (r : Bool) → SameVirtual t site.place site.word a.doms b.doms r → r ≡ false → SameMaking t site a b false
   flags_unlike r e f =
       record {
         right = λ s k h. sym (not_so (λ z.
-            never (e ∙ beq_same _ _ (flags_of s t k site.place site.word h hw a.doms a.parents b.doms b.parents (same_item_lem _ _ z))) f));
+            never (e ∙ beq_same _ _ (flags_of s t k site.place site.word h site.numbered a.doms a.parents b.doms b.parents (same_item_lem _ _ z))) f));
       }
 
   pub marks_decide : (p q r : Bool) → p ≡ same_firsts t a.doms a.parents b.doms b.parents → p ≡ true → SameVirtual t site.place site.word a.doms b.doms q → q ≡ true
@@ -212,8 +211,8 @@ module _ (t : Catalogue) (site : Site) (a b : Origin) (hw : site.word < 255) whe
         right = λ s k h.
             by r
             (λ z.
-            z ∙ sym (item-same (made-of s t k site.place site.word h hw a.doms a.parents b.doms b.parents
+            z ∙ sym (item-same (made-of s t k site.place site.word h site.numbered a.doms a.parents b.doms b.parents
             (sym e ∙ f) (beq-true _ _ (sym g ∙ i)) (w.yes z))))
             (λ z.
-            z ∙ sym (not_so (λ u. w.no z (bits_of s t k site.place site.word h hw a.doms a.parents b.doms b.parents (same_item_lem _ _ u)))));
+            z ∙ sym (not_so (λ u. w.no z (bits_of s t k site.place site.word h site.numbered a.doms a.parents b.doms b.parents (same_item_lem _ _ u)))));
       }

@@ -9,7 +9,7 @@ ghost use Rattle.rows.specs.Lists.{below};
 ghost use Rattle.bitsets.specs.Bitsets.{members};
 ghost use Rattle.catalogue.specs.Layout.{head_at};
 ghost use Rattle.catalogue.specs.Catalogue.{virtual_head};
-ghost use Rattle.synth_same.specs.Same.{class_of, same_firsts, real_at, virtual_in, width_at, bits_in, SameMarks, SameVirtual, SameMaking};
+ghost use Rattle.synth_same.specs.Same.{class_of, same_firsts, real_at, virtual_in, bits_in, SameMarks, SameVirtual, SameMaking};
 
 use catalogue::Catalogue;
 use rows::Row;
@@ -63,55 +63,42 @@ fn same_firsts(t: &Catalogue, a: Origin, b: Origin) -> bool
     }
 }
 
-// Whether the class of a word and a dom is declared and not virtual.
+// Whether the class of a site's word and a dom is declared and not virtual.
 #[tactic(auto, using(crate::specs::SameLaws::real_some, crate::specs::SameLaws::real_none))]
-fn is_real(t: &Catalogue, word: u8, dom: u8) -> bool
-    requires { word < 255 }
-    ensures { result ≡ real_at t.now word dom }
+fn is_real(t: &Catalogue, site: Site, dom: u8) -> bool
+    ensures { result ≡ real_at t.now site.word dom }
 {
-    synth_classes::class_place(t, dom as usize, word).is_some_and(|place| !t.is_virtual(place))
+    synth_classes::class_place(t, dom as usize, site.word).is_some_and(|place| !t.is_virtual(place))
 }
 
 // Whether all classes are virtual (FORMAT 4.6).
-fn all_virtual(t: &Catalogue, doms: Row, word: u8) -> bool
-    requires { word < 255 }
-    ensures { result ≡ virtual_in t.now doms word }
+fn all_virtual(t: &Catalogue, site: Site, doms: Row) -> bool
+    ensures { result ≡ virtual_in t.now doms site.word }
 {
-    !Doms::of(doms).any(|dom| is_real(t, word, dom))
-}
-
-// How many bits the marks of a class have.
-#[tactic(auto, unfolding(crate::specs::Same::width_at))]
-fn width_at(t: &Catalogue, place: usize) -> usize
-    requires { place < 64 }
-    ensures { (result ≡ width_at t.now place) × (result < 64) }
-{
-    (t.tallies[place] / 8 % 64) as usize
+    !Doms::of(doms).any(|dom| is_real(t, site, dom))
 }
 
 // How many bits the marks of all classes have (FORMAT 4.7).
-fn marks_width(t: &Catalogue, doms: Row, word: u8) -> usize
-    requires { word < 255 }
-    ensures { result ≡ length (bits_in t.now doms word) }
+fn marks_width(t: &Catalogue, site: Site, doms: Row) -> usize
+    ensures { result ≡ length (bits_in t.now doms site.word) }
 {
     let mut n = 0;
     for dom in Doms::of(doms) {
-        if let Some(place) = synth_classes::class_place(t, dom as usize, word) {
-            n += width_at(t, place);
+        if let Some(place) = synth_classes::class_place(t, dom as usize, site.word) {
+            n += t.mark_width(place);
         }
     }
     n
 }
 
 // A bit of the marks of all classes, which stand in turn.
-fn mark_bit(t: &Catalogue, doms: Row, word: u8, i: usize) -> bool
-    requires { word < 255 }
-    ensures { result ≡ get_or (bits_in t.now doms word) i false }
+fn mark_bit(t: &Catalogue, site: Site, doms: Row, i: usize) -> bool
+    ensures { result ≡ get_or (bits_in t.now doms site.word) i false }
 {
     let mut left = i;
     for dom in Doms::of(doms) {
-        if let Some(place) = synth_classes::class_place(t, dom as usize, word) {
-            let width = width_at(t, place);
+        if let Some(place) = synth_classes::class_place(t, dom as usize, site.word) {
+            let width = t.mark_width(place);
             if left < width {
                 return bitsets::has(t.marks[place], width - 1 - left);
             }
@@ -123,16 +110,15 @@ fn mark_bit(t: &Catalogue, doms: Row, word: u8, i: usize) -> bool
 
 // Whether the marks of two lists of classes are the same (FORMAT 4.7): no mark's bits begin with another's. They are compared as
 // bits, and not as derived equality would, since two columns have them: how many a class has, and which.
-fn same_marks(t: &Catalogue, word: u8, d: Row, e: Row) -> bool
-    requires { word < 255 }
-    ensures { SameMarks t.now word d e result }
+fn same_marks(t: &Catalogue, site: Site, d: Row, e: Row) -> bool
+    ensures { SameMarks t.now site.word d e result }
 {
-    let n = marks_width(t, d, word);
-    if n != marks_width(t, e, word) {
+    let n = marks_width(t, site, d);
+    if n != marks_width(t, site, e) {
         return false;
     }
     for i in 0..n {
-        if mark_bit(t, d, word, i) != mark_bit(t, e, word, i) {
+        if mark_bit(t, site, d, i) != mark_bit(t, site, e, i) {
             return false;
         }
     }
@@ -140,20 +126,18 @@ fn same_marks(t: &Catalogue, word: u8, d: Row, e: Row) -> bool
 }
 
 // Whether both are virtual or neither is (FORMAT 4.6).
-fn same_virtual(t: &Catalogue, place: usize, word: u8, d: Row, e: Row) -> bool
-    requires { (place < 64) × (word < 255) }
-    ensures { SameVirtual t.now place word d e result }
+fn same_virtual(t: &Catalogue, site: Site, d: Row, e: Row) -> bool
+    ensures { SameVirtual t.now site.place site.word d e result }
 {
-    !t.is_virtual(place) || all_virtual(t, d, word) == all_virtual(t, e, word)
+    !t.is_virtual(site.place) || all_virtual(t, site, d) == all_virtual(t, site, e)
 }
 
 // Most makings differ in their first parents, and then nothing else is looked up.
 #[tactic(auto, using(crate::specs::SameLaws::firsts_unlike, crate::specs::SameLaws::flags_unlike, crate::specs::SameLaws::marks_decide))]
 pub fn is_same(t: &Catalogue, site: Site, a: Origin, b: Origin) -> bool
-    requires { (site.place < 64) × (site.word < 255) }
     ensures { SameMaking t.now site a b result }
 {
     same_firsts(t, a, b)
-        && same_virtual(t, site.place, site.word, a.doms, b.doms)
-        && same_marks(t, site.word, a.doms, b.doms)
+        && same_virtual(t, site, a.doms, b.doms)
+        && same_marks(t, site, a.doms, b.doms)
 }

@@ -3,7 +3,7 @@ use Rattle.std.proofs.Math.Bool.{Bool, or-false}
 use Rattle.std.specs.Prelude.{false, ◌&&◌, ◌||◌, not, ◌≡◌, refl, ℕ, zero, suc, ◌<◌, eqb, length}
 use mathlib.Core.List.{List, [], ◌∷◌, ◌++◌, map}
 use Rattle.std.proofs.Math.Path.{sym, ap}
-use Rattle.std.proofs.Common.{◌∙◌, arith, eqb-true}
+use Rattle.std.proofs.Common.{ap₂, ◌∙◌, arith, eqb-true}
 use Rattle.lists.specs.Lists.{null}
 use Rattle.lists.specs.Tests.{by, or-false-left, or-false-right, eqb-flip}
 use Rattle.lists.specs.Lexicographic.{numbers-same}
@@ -13,10 +13,10 @@ use Rattle.definitions.specs.Map.{TypeMap}
 use Rattle.definitions.specs.Inherited.{InheritedAnnotation}
 use Rattle.definitions.specs.Synthesis.{listed_parents, interpret_type}
 use Rattle.definitions.specs.Packing.{row_bytes}
-use Rattle.definitions.specs.Answer.{most_rows}
 use Rattle.rows.specs.Rows.{has_bit}
 use Rattle.ordering.specs.Lists.{tab, tab-length, map-tab, tab-same}
-use Rattle.ordering.specs.Reading.{Parent, how_many, listed, type_at, place_in, Reads}
+use Rattle.ordering.specs.Reading.{how_many, listed, type_at, place_in, Reads}
+use Rattle.ordering.specs.declared.Parent.{Parent}
 use Rattle.ordering.specs.Names.{place_same}
 use Rattle.ordering.specs.declared.Parents.{Parents}
 use Rattle.parent_laws.specs.Placed.{ParentsBelow}
@@ -25,7 +25,9 @@ use Rattle.interpretation.specs.Emit.{emit}
 use Rattle.visit_laws.specs.Trail.{Reached, seen_in, Told, Played, succeeded, passes, flags_of, got_from, all_of, play, play_all, nothing_played}
 use Rattle.hearing.specs.Hearing.{hands_at, FlagsOf, WithOk}
 use Rattle.hearing.specs.declared.Flags.{Flags}
-use Rattle.emitting.specs.Emitting.{emit-append}
+use Rattle.emitting.specs.Emitting.{State, emit-append}
+use Rattle.emitting.specs.declared.Writer.{Writer}
+use Rattle.emitting.specs.Writing.{state}
 use Rattle.synthesis.specs.Going.{reached_at, Going}
 
 -- ---- the two steps, type by type
@@ -81,7 +83,7 @@ module _ (m : TypeMap) (p : Parents) (r : Reads p m) (t : ℕ) (k : t < p.count)
       (λ i l. ap (λ (c : Bool). not (has_bit fresh i) || c) (sym (w (parent p t i).place (parent-below p t b i l))))
 
   -- one type more, that was not played before
-  module _ (before : List Reached) (old : List ℕ) (fresh : ℕ) (new : List ℕ) (ok rows : ℕ) (g : Going m p before old new ok rows)
+  module _ (before : List Reached) (w₀ : Writer) (fresh : ℕ) (w : Writer) (ok : ℕ) (g : Going m p before w₀ w ok)
       (z : seen_in before (type_at m t).name ≡ false) (f : Flags) (fl : FlagsOf p t fresh ok f) where
     abbrev told₀ : List Told
     told₀ = (play_all m nothing_played before).told
@@ -118,22 +120,22 @@ module _ (m : TypeMap) (p : Parents) (r : Reads p m) (t : ℕ) (k : t < p.count)
         })
         (ap all_of fl.bits ∙ sym fl.whole)
 
-    pub goes_on : (new' : List ℕ) (ok' rows' : ℕ) (clean : Bool)
-        → (new', rows') ≡ emit most_rows (new, rows) (interpret_type m (type_at m t) got).rows
+    pub goes_on : (w' : Writer) (ok' : ℕ) (clean : Bool) → w.limit ≡ w₀.limit
+        → state w' ≡ emit w.limit (state w) (interpret_type m (type_at m t) got).rows
         → clean ≡ null (interpret_type m (type_at m t) got).rows
         → WithOk ok t (f.all && clean) ok'
-        → Going m p (before ++ (x ∷ [])) old new' ok' rows'
-    goes_on new' ok' rows' clean e c w =
+        → Going m p (before ++ (x ∷ [])) w₀ w' ok'
+    goes_on w' ok' clean j e c y =
         let q : play_all m nothing_played (before ++ (x ∷ [])) ≡ record { told = record { name = (type_at m t).name; ok = f.all && null (interpret_type m (type_at m t) got).rows } ∷ told₀; rows = (play_all m nothing_played before).rows ++ (interpret_type m (type_at m t) got).rows } =
         play-last m nothing_played before x ∙ played in
         record {
           emits =
               e
-              ∙ ap (λ (st : List ℕ × ℕ). emit most_rows st (interpret_type m (type_at m t) got).rows) g.emits
-              ∙ sym (emit-append row_bytes most_rows (old, 0) (play_all m nothing_played before).rows (interpret_type m (type_at m t) got).rows)
-              ∙ ap (λ (d : Played). emit most_rows (old, 0) d.rows) (sym q);
+              ∙ ap₂ (λ (n : ℕ) (st : State). emit n st (interpret_type m (type_at m t) got).rows) j g.emits
+              ∙ sym (emit-append row_bytes w₀.limit (state w₀) (play_all m nothing_played before).rows (interpret_type m (type_at m t) got).rows)
+              ∙ ap (λ (d : Played). emit w₀.limit (state w₀) d.rows) (sym q);
           well = λ a l.
-              w.bits a
+              y.bits a
               ∙ by (eqb t a)
               (λ u.
               let v : has_bit ok a ≡ false = g.well a l ∙ ap (λ (n : ℕ). succeeded told₀ (type_at m n).name) (sym (eqb-true t a u)) ∙ never-told m nothing_played before (type_at m t).name refl z in

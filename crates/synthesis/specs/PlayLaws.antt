@@ -1,5 +1,5 @@
 -- Type by type.
-use Rattle.std.specs.Prelude.{Bool, true, ◌&&◌, List, [], ◌++◌, map, ◌≡◌, ℕ, ◌≤◌, ◌<◌, length, get_or}
+use Rattle.std.specs.Prelude.{Bool, true, ◌&&◌, List, [], ◌++◌, map, ◌≡◌, ℕ, ◌≤◌, ◌<◌, length, get_or, Option, None}
 use Rattle.std.proofs.Common.{sym, ap, ap₂, ◌∙◌, arith}
 use Rattle.std.proofs.lemmas.List.{length-map}
 use Rattle.lists.specs.Lists.{null}
@@ -9,25 +9,26 @@ use Rattle.definitions.specs.Map.{TypeMap, LineType, line_type_of, line_map_of, 
 use Rattle.definitions.specs.Inherited.{InheritedAnnotation, dedup, own_associates}
 use Rattle.definitions.specs.Synthesis as definitions
 use Rattle.definitions.specs.Synthesis.{listed_parents, interpret_type, interpret_all}
-use Rattle.definitions.specs.Answer.{most_rows}
 use Rattle.line_laws.specs.Statements.{line_map}
 use Rattle.rows.specs.Rows.{has_bit}
 use Rattle.ordering.specs.Lists.{tab, tab-length}
-use Rattle.ordering.specs.Reading.{Parent, how_many, listed, type_at, listed-length}
+use Rattle.ordering.specs.Reading.{how_many, listed, type_at, listed-length}
+use Rattle.ordering.specs.declared.Parent.{Parent}
 use Rattle.ordering.specs.declared.Parents.{Parents}
+use Rattle.own_associates.specs.declared.Location.{Location}
 use Rattle.catalogue.specs.declared.Catalogue.{Catalogue}
-use Rattle.annotations.specs.Reading.{info_of}
-use Rattle.dedup.specs.declared.Inherited.{Inherited}
+use Rattle.dedup.specs.declared.inherited.Inherited.{Inherited}
 use Rattle.dedup.specs.Reading.{inherited_of}
 use Rattle.own_associates.specs.Owning as owning
-use Rattle.own_associates.specs.Owning.{OwnFit, OwnOf}
-use Rattle.own_associates.specs.declared.OwnAssociates.{OwnAssociates}
+use Rattle.own_associates.specs.Owning.{OwnAssociates, OwnFit, OwnOf}
 use Rattle.order_parents.specs.SheetLaws.{line-count, line_at}
+use Rattle.emitting.specs.declared.Writer.{Writer}
+use Rattle.emitting.specs.Writing.{state}
 use Rattle.interpretation.specs.Emit.{emit}
 use Rattle.synth_classes.specs.Made.{type_names}
 use Rattle.interpreting.specs.Annotations.{own_entries_in, interpreted_at, TypeDone}
-use Rattle.interpreting.specs.declared.Interpreted.{Interpreted}
 use Rattle.interpreting.specs.OwnLaws.{own-entries}
+use Rattle.store.specs.declared.Saved.{Saved}
 use Rattle.handing.specs.Handing.{names_of, handed_to, StoredParents, Ready, Gathered, KeepsIt}
 use Rattle.handing.specs.Keeping.{eight, got-all}
 use Rattle.held_laws.specs.HeldLaws.{parents-below, parents-are}
@@ -41,26 +42,23 @@ use Rattle.synthesis.specs.GoingLaws.{goes_on}
 -- ---- what is received
 
 -- with every parent stored, those with a flag are
-pub flagged-stored : (p : Parents) (m : TypeMap) (st : List ℕ) (t flags : ℕ) → how_many p t ≤ 8 → StoredParents p m st t 255 → StoredParents p m st t flags
+pub flagged-stored : (p : Parents) (m : TypeMap) (st : List Saved) (t flags : ℕ) → how_many p t ≤ 8 → StoredParents p m st t 255 → StoredParents p m st t flags
 flagged-stored p m st t flags h s = record { at = λ i l e. s.at i l (eight i (omega arith)) }
 
-pub ready-flags : (p : Parents) (bs : List Bool) (ns st : List ℕ) (t flags : ℕ) → Ready p bs ns st t 255 → Ready p bs ns st t flags
+pub ready-flags : (p : Parents) (bs : List Bool) (ns : List (Option Location)) (st : List Saved) (t flags : ℕ) → Ready p bs ns st t 255 → Ready p bs ns st t flags
 ready-flags p bs ns st t flags r =
     record {
       sheet = r.sheet;
       held = r.held;
       low = r.low;
-      room = r.room;
-      most = r.most;
       stored = flagged-stored p (type_map_of r.sheet) st t flags (r.held.reads.types t r.low).most r.stored;
     }
 
-module _ (p : Parents) (bs : List Bool) (ns st : List ℕ) (t : ℕ) (f : Flags) (after : List ℕ) (l : t < p.count) where
+module _ (p : Parents) (bs : List Bool) (ns : List (Option Location)) (st : List Saved) (t : ℕ) (f : Flags) (after : List Saved) (l : t < p.count) where
   -- no call failed
   pub receives-all : (r : Inherited) → Flagged p t f → f.all ≡ true → KeepsIt p bs ns st t after r → Receives p bs ns st t f after r
   receives-all r g e k =
       record {
-        good = k.good;
         reads = λ s h sp.
             let m = type_map_of s in
             k.reads s h sp
@@ -77,7 +75,6 @@ module _ (p : Parents) (bs : List Bool) (ns st : List ℕ) (t : ℕ) (f : Flags)
   pub receives-some : (r whole : Inherited) → Gathered p bs ns st t f.row r → KeepsIt p bs ns st t after whole → Receives p bs ns st t f after r
   receives-some r whole g k =
       record {
-        good = g.good;
         reads = λ s h sp. g.reads s h (flagged-stored p (type_map_of s) st t f.row (h.reads.types t l).most sp);
         stored = k.stored;
         others = k.others;
@@ -91,7 +88,7 @@ unfolding type_names line_map_of line_type_of
 names-are s = map-map (λ (D : LineType). D.name) line_type_of (type_map_of s).types
 
 pub interpreted-type : (s : Sheet) (T : ℕ) → T < length (type_map_of s).types → (o : OwnAssociates) (h : Inherited) (got : List InheritedAnnotation)
-    → map info_of (owning.listed o) ≡ own_associates (type_at (type_map_of s) T) → inherited_of (names_of (type_map_of s)) h ≡ dedup got
+    → map owning.read_own (owning.listed o) ≡ own_associates (type_at (type_map_of s) T) → inherited_of (names_of (type_map_of s)) h ≡ dedup got
     → interpreted_at (line_map s) T o h ≡ interpret_type (type_map_of s) (type_at (type_map_of s) T) got
 unfolding interpreted_at interpret_type
 interpreted-type s T l o h got w r =
@@ -103,28 +100,29 @@ interpreted-type s T l o h got w r =
 
 -- ---- one type
 
-module _ (tb : Catalogue) (bs : List Bool) (ns : List ℕ) (p : Parents) (st b : List ℕ) (t : ℕ) (u : Turn tb bs ns p st b t) where
+module _ (tb : Catalogue) (bs : List Bool) (ns : List (Option Location)) (p : Parents) (st : List Saved) (t : ℕ) (u : Turn tb bs ns p st t) where
   pub turn_below : ParentsBelow p t
   turn_below = parents-below u.sheet bs ns p u.so.held t u.low
 
-  pub turn-fits : OwnFit bs (get_or ns t 0)
+  pub turn-fits : OwnFit bs (get_or ns t None)
   turn-fits = own-fits u.sheet bs ns p u.so.held t u.low
 
-  module _ (f : Flags) (after : List ℕ) (got : Inherited) (v : Receives p bs ns st t f after got) (own : OwnAssociates) (w : OwnOf bs (get_or ns t 0) own) where
-    pub plays : (fresh ok rows : ℕ) (told : Interpreted) (b' : List ℕ) (ok' : ℕ) → FlagsOf p t fresh ok f → TypeDone tb t own got most_rows rows b told b'
-        → WithOk ok t (f.all && told.clean) ok' → Plays tb bs ns p st b (record { place = t; fresh = fresh; ok = ok; rows = rows }) after b' (record { ok = ok'; rows = told.rows })
-    plays fresh ok rows told b' ok' fl e k =
+  module _ (f : Flags) (after : List Saved) (got : Inherited) (v : Receives p bs ns st t f after got) (own : OwnAssociates) (y : OwnOf bs (get_or ns t None) own) where
+    pub plays : (fresh ok : ℕ) (clean : Bool) (w w' : Writer) (ok' : ℕ) → FlagsOf p t fresh ok f → TypeDone tb t own got w clean w'
+        → WithOk ok t (f.all && clean) ok' → Plays tb bs ns p st w (record { place = t; fresh = fresh; ok = ok }) after w' ok'
+    plays fresh ok clean w w' ok' fl e k =
         record {
-          going = λ s z sp before old g x.
+          same = e.same;
+          going = λ s z sp before w₀ q g x.
               let m = type_map_of s in
               let h = z.held in
               let l : t < length m.types = omega (arith, u.low, h.reads.count) in
               let c : t < length (line_map s).types = omega (arith, l, line-count s) in
               let d = e.right s z.known c in
               let i : interpreted_at (line_map s) t own got ≡ interpret_type m (type_at m t) (handed_to m p t f.row) =
-              interpreted-type s t l own got (handed_to m p t f.row) (w.reads (type_at m t) (h.noted t u.low)) (v.reads s h sp) in
-              goes_on m p h.reads t u.low (parents-below s bs ns p h t u.low) (parents-are s bs ns p h t u.low) before old fresh b ok rows g x f fl b' ok' told.rows told.clean
-              (d.rows ∙ ap (λ (x : definitions.Interpreted). emit most_rows (b, rows) x.rows) i)
+              interpreted-type s t l own got (handed_to m p t f.row) (y.reads (type_at m t) (h.noted t u.low)) (v.reads s h sp) in
+              goes_on m p h.reads t u.low (parents-below s bs ns p h t u.low) (parents-are s bs ns p h t u.low) before w₀ fresh w ok g x f fl w' ok' clean q
+              (d.rows ∙ ap (λ (x : definitions.Interpreted). emit w.limit (state w) x.rows) i)
               (d.clean ∙ ap (λ (x : definitions.Interpreted). null x.rows) i)
               k;
           stored = v.stored;

@@ -1,28 +1,30 @@
 -- What the functions of the synthesis require and ensure.
-use Rattle.std.specs.Prelude.{Bool, false, List, [], ◌∷◌, ◌++◌, ◌≡◌, ℕ, ◌*◌, ◌≤◌, ◌<◌, length}
+use Rattle.std.specs.Prelude.{Bool, false, List, [], ◌∷◌, ◌++◌, ◌≡◌, ℕ, ◌+◌, ◌≤◌, ◌<◌, length, Option}
 use Rattle.lists.specs.Lists.{all}
 use Rattle.definitions.specs.Records.{Sheet}
 use Rattle.definitions.specs.Map.{TypeMap, type_map_of}
 use Rattle.definitions.specs.Inherited.{dedup}
-use Rattle.definitions.specs.Answer.{most_rows, most_row_bytes}
 use Rattle.rows.specs.Rows.{has_bit}
 use Rattle.ordering.specs.Lists.{tab}
 use Rattle.ordering.specs.Reading.{how_many, type_at}
 use Rattle.ordering.specs.declared.Parents.{Parents}
+use Rattle.own_associates.specs.declared.Location.{Location}
 use Rattle.catalogue.specs.declared.Catalogue.{Catalogue}
-use Rattle.dedup.specs.declared.Inherited.{Inherited}
-use Rattle.dedup.specs.Reading.{inherited_of, Good}
+use Rattle.dedup.specs.declared.inherited.Inherited.{Inherited}
+use Rattle.dedup.specs.Reading.{inherited_of}
 use Rattle.held_map.specs.HeldMap.{HeldMap}
 use Rattle.visit_laws.specs.Trail.{Reached, seen_in, play_all, nothing_played}
 use Rattle.visiting.specs.Trails.{TrailOf}
 use Rattle.visiting.specs.Trails as trails
 use Rattle.visiting.specs.declared.Trail.{Trail}
 use Rattle.hearing.specs.declared.Flags.{Flags}
+use Rattle.emitting.specs.declared.Writer.{Writer}
+use Rattle.emitting.specs.Writing.{state, SameSlice}
 use Rattle.interpretation.specs.Emit.{emit}
+use Rattle.store.specs.declared.Saved.{Saved}
 use Rattle.handing.specs.Handing.{names_of, Stored, StoredParents, handed_to}
 use Rattle.synthesis.specs.Going.{reached_at, Going}
 use Rattle.synthesis.specs.Synthesized.{Synthesizes}
-use Rattle.synthesis.specs.declared.Played.{Played}
 use Rattle.synthesis.specs.declared.Visit.{Visit}
 
 -- `all` says what the bits say
@@ -30,54 +32,45 @@ pub record Flagged (p : Parents) (t : ℕ) (f : Flags) : Type 0 where
   pub whole : f.all ≡ all (λ (b : Bool). b) (tab (has_bit f.row) (how_many p t))
 
 -- r is what type t gets from the listings with a flag; and what it inherits where all hand on stands in the store afterwards
-pub record Receives (p : Parents) (bs : List Bool) (ns st : List ℕ) (t : ℕ) (f : Flags) (after : List ℕ) (r : Inherited) : Type 0 where
-  pub good : Good r
+pub record Receives (p : Parents) (bs : List Bool) (ns : List (Option Location)) (st : List Saved) (t : ℕ) (f : Flags) (after : List Saved) (r : Inherited) : Type 0 where
   pub reads : (s : Sheet) → HeldMap s bs ns p → StoredParents p (type_map_of s) st t 255
       → inherited_of (names_of (type_map_of s)) r ≡ dedup (handed_to (type_map_of s) p t f.row)
   pub stored : (s : Sheet) → HeldMap s bs ns p → StoredParents p (type_map_of s) st t 255 → Stored (type_map_of s) after t
   pub others : (m : TypeMap) (u : ℕ) → (u ≡ t → ⊥) → Stored m st u → Stored m after u
   pub long : length after ≡ length st
 
--- the lent slices have room
-pub record Room (p : Parents) (st b : List ℕ) : Type 0 where
-  pub store : 1601 * p.count ≤ length st
-  pub most : length st < 1000000
-  pub slice : most_row_bytes ≤ length b
-
 -- type t can be played: its parents were
-pub record Turn (tb : Catalogue) (bs : List Bool) (ns : List ℕ) (p : Parents) (st b : List ℕ) (t : ℕ) : Type 0 where
+pub record Turn (tb : Catalogue) (bs : List Bool) (ns : List (Option Location)) (p : Parents) (st : List Saved) (t : ℕ) : Type 0 where
   pub sheet : Sheet
   pub so : Synthesizes sheet tb bs ns p
   pub low : t < p.count
-  pub room : Room p st b
   pub stored : StoredParents p (type_map_of sheet) st t 255
 
--- r is what was known, and the type was played
-pub record Plays (tb : Catalogue) (bs : List Bool) (ns : List ℕ) (p : Parents) (st b : List ℕ) (v : Visit) (st' b' : List ℕ) (r : Played) : Type 0 where
+-- ok' is what succeeded, and the type was played
+pub record Plays (tb : Catalogue) (bs : List Bool) (ns : List (Option Location)) (p : Parents) (st : List Saved) (w : Writer) (v : Visit) (st' : List Saved) (w' : Writer) (ok' : ℕ) : Type 0 where
+  pub same : SameSlice w w'
   pub going : (s : Sheet) → Synthesizes s tb bs ns p → StoredParents p (type_map_of s) st v.place 255
-      → (before : List Reached) (old : List ℕ) → Going (type_map_of s) p before old b v.ok v.rows → seen_in before (type_at (type_map_of s) v.place).name ≡ false
-      → Going (type_map_of s) p (before ++ (reached_at (type_map_of s) p v.place v.fresh ∷ [])) old b' r.ok r.rows
+      → (before : List Reached) (w₀ : Writer) → w.limit ≡ w₀.limit → Going (type_map_of s) p before w₀ w v.ok → seen_in before (type_at (type_map_of s) v.place).name ≡ false
+      → Going (type_map_of s) p (before ++ (reached_at (type_map_of s) p v.place v.fresh ∷ [])) w₀ w' ok'
   pub stored : (s : Sheet) → HeldMap s bs ns p → StoredParents p (type_map_of s) st v.place 255 → Stored (type_map_of s) st' v.place
   pub others : (m : TypeMap) (u : ℕ) → (u ≡ v.place → ⊥) → Stored m st u → Stored m st' u
   pub long : length st' ≡ length st
 
 -- all types can be played, in the order of the trail
-pub record AllReady (tb : Catalogue) (bs : List Bool) (ns : List ℕ) (p : Parents) (st b : List ℕ) (r : Trail) : Type 0 where
+pub record AllReady (tb : Catalogue) (bs : List Bool) (ns : List (Option Location)) (p : Parents) (w : Writer) (r : Trail) : Type 0 where
   pub sheet : Sheet
   pub so : Synthesizes sheet tb bs ns p
   pub trail : TrailOf p r
-  pub room : Room p st b
-
--- likewise in any store for 64 types
-pub record ReadyIn (tb : Catalogue) (bs : List Bool) (ns : List ℕ) (p : Parents) (b : List ℕ) (r : Trail) : Type 0 where
-  pub ready : (st : List ℕ) → length st ≡ 102464 → AllReady tb bs ns p st b r
+  pub count : w.count ≤ w.limit + 1
 
 -- the first i types of the trail were played
-pub record PlayedTo (tb : Catalogue) (bs : List Bool) (ns : List ℕ) (p : Parents) (old : List ℕ) (r : Trail) (i : ℕ) (st b : List ℕ) (d : Played) : Type 0 where
-  pub going : (s : Sheet) → Synthesizes s tb bs ns p → Going (type_map_of s) p (tab (trails.reached_at p (type_map_of s) r) i) old b d.ok d.rows
+pub record PlayedTo (tb : Catalogue) (bs : List Bool) (ns : List (Option Location)) (p : Parents) (w : Writer) (r : Trail) (i : ℕ) (st : List Saved) (w' : Writer) (ok : ℕ) : Type 0 where
+  pub same : SameSlice w w'
+  pub going : (s : Sheet) → Synthesizes s tb bs ns p → Going (type_map_of s) p (tab (trails.reached_at p (type_map_of s) r) i) w w' ok
   pub stored : (s : Sheet) → HeldMap s bs ns p → (j : ℕ) → j < i → Stored (type_map_of s) st (trails.item_at r j)
 
 -- the rows of all types are written
-pub record AllPlayed (tb : Catalogue) (bs : List Bool) (ns : List ℕ) (p : Parents) (old : List ℕ) (r : Trail) (new : List ℕ) (n : ℕ) : Type 0 where
+pub record AllPlayed (tb : Catalogue) (bs : List Bool) (ns : List (Option Location)) (p : Parents) (w : Writer) (r : Trail) (w' : Writer) : Type 0 where
+  pub same : SameSlice w w'
   pub emits : (s : Sheet) → Synthesizes s tb bs ns p
-      → (new, n) ≡ emit most_rows (old, 0) (play_all (type_map_of s) nothing_played (tab (trails.reached_at p (type_map_of s) r) r.count)).rows
+      → state w' ≡ emit w.limit (state w) (play_all (type_map_of s) nothing_played (tab (trails.reached_at p (type_map_of s) r) r.arrivals.count)).rows

@@ -1,27 +1,38 @@
 -- The whole synthesis.
-use Rattle.std.specs.Prelude.{Bool, true, false, List, ◌≡◌, ℕ, ◌≤◌, ◌<◌, length}
+use Rattle.std.specs.Prelude.{Bool, List, ◌≡◌, ℕ, ◌≤◌, length, Option}
+use Rattle.std.specs.Borrow.{MutBor}
 use Rattle.std.proofs.Common.{sym, ap, ◌∙◌}
-use Rattle.definitions.specs.Records.{Sheet}
 use Rattle.definitions.specs.Map.{type_map_of}
 use Rattle.definitions.specs.Synthesis.{synthesis}
+use Rattle.definitions.specs.Packing.{row_bytes}
 use Rattle.definitions.specs.Answer.{most_rows, most_row_bytes}
+use Rattle.ordering.specs.Lists.{tab}
 use Rattle.ordering.specs.declared.Parents.{Parents}
+use Rattle.own_associates.specs.declared.Location.{Location}
 use Rattle.catalogue.specs.declared.Catalogue.{Catalogue}
+use Rattle.emitting.specs.declared.Report.{Report}
+use Rattle.emitting.specs.declared.Writer.{Writer}
+use Rattle.emitting.specs.Writing.{Begins, Tells, emits_begun}
 use Rattle.interpretation.specs.Emit.{emit}
-use Rattle.visiting.specs.Trails.{TrailOf}
+use Rattle.visit_laws.specs.Trail.{nothing_played, play_all}
+use Rattle.visiting.specs.Trails.{reached_at, TrailOf}
 use Rattle.visiting.specs.Along.{rows-along}
 use Rattle.visiting.specs.declared.Trail.{Trail}
-use Rattle.emitting.specs.Emitting.{State}
 use Rattle.synthesis.specs.Playing.{AllPlayed}
-use Rattle.synthesis.specs.Synthesized.{Synthesizes, Synthesized, few, many}
+use Rattle.synthesis.specs.Synthesized.{Synthesized, as_written}
 
-module _ (tb : Catalogue) (bs : List Bool) (ns : List ℕ) (p : Parents) (r : Trail) (w : TrailOf p r) where
-  module _ (old new : List ℕ) (n : ℕ) (h : most_row_bytes ≤ length old) (g : AllPlayed tb bs ns p old r new n) where
-    emits : (s : Sheet) → Synthesizes s tb bs ns p → ◌≡◌ {A = State} (new, n) (emit most_rows (old, 0) (synthesis (type_map_of s)).rows)
-    emits s z = g.emits s z ∙ ap (emit most_rows (old, 0)) (sym (rows-along p r w (type_map_of s) z.held.reads))
-
-    pub synthesized-few : n ≤ most_rows → Synthesized tb bs ns p old new n false
-    synthesized-few l = record { written = λ s z. few (synthesis (type_map_of s)).rows old new n h (emits s z) l }
-
-    pub synthesized-many : most_rows < n → Synthesized tb bs ns p old new most_rows true
-    synthesized-many l = record { written = λ s z. many (synthesis (type_map_of s)).rows old new n h (emits s z) l }
+-- a writer that began in a slice, is behind the trail and is asked
+module _ (tb : Catalogue) (bs : List Bool) (ns : List (Option Location)) (p : Parents) (r : Trail) (y : TrailOf p r) where
+  pub synthesized-by : (slice : MutBor (List ℕ)) (w w' : Writer) (a : Report) (new : List ℕ) → most_row_bytes ≤ length slice.now
+      → Begins slice most_rows w → AllPlayed tb bs ns p w r w' → Tells w' a → new ≡ w'.buf.now → Synthesized tb bs ns p slice.now new a.rows a.more
+  synthesized-by slice w w' a new h b g t q =
+      let k : w'.limit ≡ most_rows = g.same.limit ∙ b.limit in
+      rw (t.rows, t.more, k, q)
+      (record {
+        written = λ s z.
+            let m = type_map_of s in
+            let rs = (play_all m nothing_played (tab (reached_at p m r) r.arrivals.count)).rows in
+            as_written (synthesis m).rows slice.now w'.buf.now w'.count h
+            (emits_begun row_bytes slice most_rows w w' rs b (record { same = g.same; state = g.emits s z })
+            ∙ ap (emit most_rows (slice.now, 0)) (sym (rows-along p r y m z.held.reads)));
+      })

@@ -1,14 +1,16 @@
 -- What the synthesis leaves in the lent slice, and what it answers.
-use Rattle.std.specs.Prelude.{Bool, true, false, List, [], ◌∷◌, ◌++◌, ◌≡◌, refl, ℕ, ◌+◌, ◌≤◌, ◌<◌, min, ltb}
-use Rattle.std.proofs.Common.{sym, ap, ◌∙◌, arith, lt-ltb, le-ltb}
+use Rattle.std.specs.Prelude.{Bool, List, [], ◌∷◌, ◌++◌, ◌≡◌, refl, ℕ, ◌+◌, ◌≤◌, min, ltb, Option}
+use Rattle.std.proofs.Common.{sym, ap, ◌∙◌, arith, lt-ltb, le-ltb, ltb-true, ltb-false}
 use lib.ListN.{length, take}
 use Rattle.lists.specs.Lists.{each}
+use Rattle.lists.specs.Tests.{by}
 use Rattle.definitions.specs.Records.{Name, Sheet, Row}
 use Rattle.definitions.specs.Map.{type_map_of}
 use Rattle.definitions.specs.Packing.{name_bytes, row_bytes}
 use Rattle.definitions.specs.Synthesis.{synthesis}
 use Rattle.definitions.specs.Answer.{most_rows, most_row_bytes, overwrite}
 use Rattle.ordering.specs.declared.Parents.{Parents}
+use Rattle.own_associates.specs.declared.Location.{Location}
 use Rattle.catalogue.specs.declared.Catalogue.{Catalogue}
 use Rattle.held_map.specs.HeldMap.{HeldMap}
 use Rattle.synth_classes.specs.Known.{Known}
@@ -16,7 +18,7 @@ use Rattle.emitting.specs.Emitting as emitting
 use Rattle.emitting.specs.Emitting.{State}
 
 -- the map of a sheet, with its catalogue
-pub record Synthesizes (s : Sheet) (tb : Catalogue) (bs : List Bool) (ns : List ℕ) (p : Parents) : Type 0 where
+pub record Synthesizes (s : Sheet) (tb : Catalogue) (bs : List Bool) (ns : List (Option Location)) (p : Parents) : Type 0 where
   pub held : HeldMap s bs ns p
   pub known : Known s tb
 
@@ -26,7 +28,7 @@ pub record Written (rs : List Row) (old new : List ℕ) (count : ℕ) (more : Bo
   pub counted : count ≡ min most_rows (length rs)
   pub rest : more ≡ ltb most_rows (length rs)
 
-pub record Synthesized (tb : Catalogue) (bs : List Bool) (ns : List ℕ) (p : Parents) (old new : List ℕ) (count : ℕ) (more : Bool) : Type 0 where
+pub record Synthesized (tb : Catalogue) (bs : List Bool) (ns : List (Option Location)) (p : Parents) (old new : List ℕ) (count : ℕ) (more : Bool) : Type 0 where
   pub written : (s : Sheet) → Synthesizes s tb bs ns p → Written (synthesis (type_map_of s)).rows old new count more
 
 -- ---- the rows, all at once
@@ -50,16 +52,12 @@ module _ (rs : List Row) (old new : List ℕ) (n : ℕ) (h : most_row_bytes ≤ 
   total : n ≡ min (most_rows + 1) (length rs)
   total = ap (λ (w : State). w.1) done
 
-  pub few : n ≤ most_rows → Written rs old new n false
-  few l = record {
+  pub as_written : Written rs old new (min n most_rows) (ltb most_rows n)
+  as_written = record {
     bytes = ap (λ (w : State). w.0) done;
     counted = omega (arith, total);
-    rest = sym (le-ltb most_rows (length rs) (omega (arith, total)));
-  }
-
-  pub many : most_rows < n → Written rs old new most_rows true
-  many l = record {
-    bytes = ap (λ (w : State). w.0) done;
-    counted = omega (arith, total);
-    rest = sym (lt-ltb most_rows (length rs) (omega (arith, total)));
+    rest =
+        by (ltb most_rows n)
+        (λ t. t ∙ sym (lt-ltb most_rows (length rs) (omega (arith, total, ltb-true most_rows n t))))
+        (λ t. t ∙ sym (le-ltb most_rows (length rs) (omega (arith, total, ltb-false most_rows n t))));
   }

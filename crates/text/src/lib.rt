@@ -1,5 +1,5 @@
-// What the programs print, each as a Display: the lines of a schedule's records, and those of a refusal. The words of a sheet have
-// contracts; what a writer does with them no contract can say, so that the printing is proved safe and ending.
+// What the programs print, each as a Display: the lines of a schedule's records, and those of a refusal. The words of a sheet
+// have contracts; what a writer does with them no contract can say, so that the printing is proved safe and ending.
 #![tactic(auto)]
 
 mod lines;

@@ -12,6 +12,6 @@ use Rattle.visiting.specs.Trails.{reached_at, TrailOf}
 use Rattle.visiting.specs.declared.Trail.{Trail}
 
 pub rows-along : (p : Parents) (r : Trail) → TrailOf p r → (m : TypeMap) → Reads p m
-    → (synthesis m).rows ≡ (play_all m nothing_played (tab (reached_at p m r) r.count)).rows
+    → (synthesis m).rows ≡ (play_all m nothing_played (tab (reached_at p m r) r.arrivals.count)).rows
 unfolding played_rows
 rows-along p r d m h = rows-in-two-steps m ∙ ap (λ (l : List Reached). (play_all m nothing_played l).rows) (d.reached m h)

@@ -18,7 +18,8 @@ use Rattle.definitions.specs.Synthesis.{listed_parents}
 use Rattle.visit_laws.specs.Trail.{Reached, seen_in, reach_all, reach, reach_each, trail}
 use Rattle.visit_laws.specs.TwoSteps.{reach-seen, reach-new}
 use Rattle.ordering.specs.Lists.{map_below, tab, elem, elem-cases}
-use Rattle.ordering.specs.Reading.{Parent, listed, type_at, place_in, parent_in, Reads}
+use Rattle.ordering.specs.Reading.{listed, type_at, place_in, parent_in, Reads}
+use Rattle.ordering.specs.declared.Parent.{Parent}
 use Rattle.ordering.specs.Names.{place_same, types_are, named-yes}
 use Rattle.ordering.specs.declared.Parents.{Parents}
 use Rattle.parent_laws.specs.Placed.{ParentsBelow}

@@ -1,28 +1,31 @@
 -- What is held while the parents of a type are tried, when it is pushed, and when all types were tried.
-use Rattle.std.specs.Prelude.{Bool, false, ◌&&◌, ◌||◌, ◌≡◌, ℕ, zero, suc, ◌+◌, ◌*◌, ◌≤◌, ◌<◌, eqb}
+use Rattle.std.specs.Prelude.{Bool, false, ◌&&◌, ◌||◌, ◌≡◌, ℕ, zero, suc, ◌+◌, ◌≤◌, ◌<◌, eqb}
 use Rattle.std.proofs.Math.Bool.{true, not, or-false, and-true}
 use mathlib.Core.List.Memᴰ
 use mathlib.Core.List.{List, [], ◌∷◌, ◌++◌, map}
-use Rattle.std.proofs.Common.{⊎_elim, ◌∙◌, add-one, length-set, length-append, get_or-take, take-take}
+use Rattle.std.proofs.Common.{⊎_elim, ◌∙◌, add-one, length-append}
 use Rattle.std.proofs.Math.Path.{refl, sym, ap, ap₂, subst}
 use native.Mathlib.Omega.{arith}
 use borrow.Author.Tests.{eqb-true, eqb-false, eq-eqb, ne_eqb}
-use Rattle.std.proofs.Math.ListN.{length, get_or, take}
-use Rattle.std.proofs.Math.Seq.{get_or-set_same, get_or-set_other}
+use Rattle.std.proofs.Math.ListN.{get_or, take}
+use Rattle.std.proofs.Math.Seq.{take-append_seam}
+use Rattle.bounded.specs.Items.{item-old, item-new}
 use Rattle.lists.specs.Lists.{In}
 use Rattle.lists.specs.Tests.{by, never, not_so}
 use Rattle.rows.specs.Rows.{has_bit}
 use Rattle.rows.specs.RowLaws.{bit-none}
-use Rattle.ordering.specs.Lists.{tab, tab-step, tab-split, elem, tab-same, map-tab}
-use Rattle.ordering.specs.Reading.{Parent, parent_at, how_many, listed}
+use Rattle.ordering.specs.Lists.{tab, tab-length, tab-step, tab-at, tab-split, elem, tab-same, map-tab}
+use Rattle.ordering.specs.Reading.{parent_at, how_many, listed}
+use Rattle.ordering.specs.declared.Parent.{Parent}
 use Rattle.ordering.specs.declared.Parents.{Parents}
 use Rattle.parent_laws.specs.Earlier.{all-below}
 use Rattle.visiting.specs.Walk.{Stop, spots, walk_all, walk, walk_each}
-use Rattle.visiting.specs.Trails.{Orderly, item_at, TrailOf}
+use Rattle.visiting.specs.Trails.{Orderly, zero_arrival, item_at, TrailOf}
 use Rattle.visiting.specs.Ranks.{rank_of, rank_below, rank-parent}
 use Rattle.visiting.specs.Good.{Standing, Good, good-most, good-all, good_more, elem-more, walk-seen, walk-new, spots-more, WalksAll, walks-all, walks}
 use Rattle.visiting.specs.Follows.{as_reached, trail_is}
-use Rattle.visiting.specs.Holding.{Marked, Pushed, NothingHeld, stop_at, stops_in, Held, ReachedFrom, spots-count, spots-taken, held-most, held_none}
+use Rattle.visiting.specs.Holding.{Marked, Pushed, NothingHeld, stop_at, stops_in, Held, ReachedFrom, spots-are, spots-count, held_none}
+use Rattle.visiting.specs.declared.Arrival.{Arrival}
 use Rattle.visiting.specs.declared.Trail.{Trail}
 
 -- one parent more
@@ -37,7 +40,7 @@ walk_more call (y ∷ qs) q l fs =
 pub record Going (p : Parents) (t : ℕ) (s : Trail) (i : ℕ) (now : Trail) (flags : ℕ) : Type 0 where
   pub held : Held p now
   pub clean : (j : ℕ) → i ≤ j → has_bit flags j ≡ false
-  pub same : (k : ℕ) → rank_of p t ≤ k → walk_all (walk k p) (tab (λ j. parent_at p (8 * t + j)) i) (stops_in p s) [] ≡ (stops_in p now, tab (has_bit flags) i)
+  pub same : (k : ℕ) → rank_of p t ≤ k → walk_all (walk k p) (tab (λ j. parent_at p t j) i) (stops_in p s) [] ≡ (stops_in p now, tab (has_bit flags) i)
 
 -- the first n types were tried
 pub record Trying (p : Parents) (n : ℕ) (s : Trail) : Type 0 where
@@ -48,38 +51,30 @@ pub record Trying (p : Parents) (n : ℕ) (s : Trail) : Type 0 where
 module _ (p : Parents) (o : Orderly p) where
   -- ---- one place more
 
-  stop-from : ℕ → ℕ → Stop
-  stop-from x f = record { place = x; fresh = tab (has_bit f) (how_many p x) }
+  stop-of : Arrival → Stop
+  stop-of x = record { place = x.place; fresh = tab (has_bit x.fresh) (how_many p x.place) }
 
-  stops-more : (s r : Trail) (t flags : ℕ) → s.count < 64 → Held p s → Pushed s t flags r
+  stops-more : (s r : Trail) (t flags : ℕ) → Pushed s t flags r
       → stops_in p r ≡ stops_in p s ++ (record { place = t; fresh = tab (has_bit flags) (how_many p t) } ∷ [])
-  unfolding stops_in stop-from
-  stops-more s r t flags h g u =
+  unfolding stops_in stop-of
+  stops-more s r t flags u =
+      let x : Arrival = record { place = t; fresh = flags } in
       ap (tab (stop_at p r)) u.count
-      ∙ tab-step (stop_at p r) s.count
-      ∙ ap₂ (λ (a : List Stop) (x : Stop). a ++ (x ∷ []))
-      (tab-same (stop_at p r) (stop_at p s) s.count
-      (λ i l.
-      let n : i ≡ s.count → ⊥ = λ e. omega arith in
-      ap₂ stop-from
-      (ap (λ (a : List ℕ). get_or a i 0) u.items ∙ get_or-set_other s.items s.count i t 0 n)
-      (ap (λ (a : List ℕ). get_or a i 0) u.fresh ∙ get_or-set_other s.fresh s.count i flags 0 n)))
-      (ap₂ stop-from
-      (ap (λ (a : List ℕ). get_or a s.count 0) u.items ∙ get_or-set_same s.items s.count t 0 (omega (arith, g.items)))
-      (ap (λ (a : List ℕ). get_or a s.count 0) u.fresh ∙ get_or-set_same s.fresh s.count flags 0 (omega (arith, g.fresh))))
+      ∙ tab-step (stop_at p r) s.arrivals.count
+      ∙ ap₂ (λ (a : List Stop) (y : Stop). a ++ (y ∷ []))
+      (tab-same (stop_at p r) (stop_at p s) s.arrivals.count (λ i l. ap stop-of (item-old s.arrivals r.arrivals x zero_arrival u.items i l)))
+      (ap stop-of (item-new s.arrivals r.arrivals x zero_arrival u.items))
 
-  pub held_more : (s r : Trail) (t flags : ℕ) → Held p s → Standing p (spots (stops_in p s)) t → s.count < 64 → Pushed s t flags r → Held p r
-  held_more s r t flags g a h u =
-      let z : spots (stops_in p r) ≡ spots (stops_in p s) ++ (t ∷ []) = ap spots (stops-more s r t flags h g u) ∙ spots-more (stops_in p s) t (tab (has_bit flags) (how_many p t)) in
+  pub held_more : (s r : Trail) (t flags : ℕ) → Held p s → Standing p (spots (stops_in p s)) t → Pushed s t flags r → Held p r
+  held_more s r t flags g a u =
+      let z : spots (stops_in p r) ≡ spots (stops_in p s) ++ (t ∷ []) = ap spots (stops-more s r t flags u) ∙ spots-more (stops_in p s) t (tab (has_bit flags) (how_many p t)) in
       record {
         good = subst (Good p) (sym z) (good_more p (spots (stops_in p s)) t g.good a);
         seen = λ x. u.seen x ∙ ap (λ (b : Bool). b || eqb t x) (g.seen x) ∙ sym (elem-more x t (spots (stops_in p s))) ∙ ap (elem x) (sym z);
-        items = ap length u.items ∙ length-set s.items s.count t ∙ g.items;
-        fresh = ap length u.fresh ∙ length-set s.fresh s.count flags ∙ g.fresh;
       }
 
   -- a place that may stand behind those held has room
-  pub room : (s : Trail) (t : ℕ) → Held p s → Standing p (spots (stops_in p s)) t → s.count < p.count
+  pub room : (s : Trail) (t : ℕ) → Held p s → Standing p (spots (stops_in p s)) t → s.arrivals.count < p.count
   room s t g a =
       let l = spots (stops_in p s) in
       omega (arith, good-most p (l ++ (t ∷ [])) (good_more p l t g.good a), length-append l (t ∷ []), spots-count p s)
@@ -88,7 +83,7 @@ module _ (p : Parents) (o : Orderly p) where
 
   module _ (t : ℕ) (type : t < p.count) (s : Trail) where
     abbrev parent : ℕ → Parent
-    parent i = parent_at p (8 * t + i)
+    parent i = parent_at p t i
 
     abbrev Goes : ℕ → Trail → ℕ → Type 0
     Goes i now flags = Going p t s i now flags
@@ -157,13 +152,12 @@ module _ (p : Parents) (o : Orderly p) where
     pub reached-new : (i : ℕ) (now r : Trail) (flags : ℕ) → i ≡ how_many p t → Held p s → has_bit s.seen t ≡ false → Goes i now flags → Pushed now t flags r → ReachedFrom p t s r
     reached-new i now r flags e h n g u =
         let a = going-standing i now flags e h n g in
-        let m : now.count < 64 = omega (arith, room now t g.held a, o.valid.types) in
-        record { held = held_more now r t flags g.held a m u; same = λ k l. new-same k l m }
+        record { held = held_more now r t flags g.held a u; same = new-same }
       where
-        new-same : (k : ℕ) → rank_of p t < k → now.count < 64 → stops_in p r ≡ walk k p t (stops_in p s)
-        new-same zero l m = absurd (omega arith)
-        new-same (suc k) l m =
-            stops-more now r t flags m g.held u
+        new-same : (k : ℕ) → rank_of p t < k → stops_in p r ≡ walk k p t (stops_in p s)
+        new-same zero l = absurd (omega arith)
+        new-same (suc k) l =
+            stops-more now r t flags u
             ∙ sym
             (walk-new k p t (stops_in p s) (sym (h.seen t) ∙ n)
             ∙ ap (λ (x : List Stop × List Bool). x.0 ++ (record { place = t; fresh = x.1 } ∷ [])) (all_same i now flags e g k (omega arith)))
@@ -196,16 +190,21 @@ module _ (p : Parents) (o : Orderly p) where
         same = z ∙ ap (walk p.count p n) d.same ∙ rw (add-one n);
       }
 
-  pub tried-all : (n : ℕ) (s : Trail) → n ≡ p.count → Trying p n s → TrailOf p s
+  tab-first : (f : ℕ → ℕ) (n i : ℕ) → i < n → take i (tab f n) ≡ tab f i
+  tab-first f n i h =
+      let r = tab-split f n i h in
+      ap (take i) r.1 ∙ ap (λ (k : ℕ). take k (tab f i ++ f i ∷ r.0)) (sym (tab-length f i)) ∙ take-append_seam (tab f i) (f i ∷ r.0)
+
+  pub tried-all : (count : ℕ) (s : Trail) → count ≡ p.count → Trying p count s → TrailOf p s
   unfolding stops_in
-  tried-all n s e d =
+  tried-all count s e d =
       let g = d.held in
       let all : (t : ℕ) → t < p.count → elem t (spots (stops_in p s)) ≡ true = λ t l. d.has t (omega arith) in
-      let few : s.count ≤ length s.items = omega (arith, held-most p s g, g.items, o.valid.types) in
-      let z : spots (stops_in p s) ≡ take s.count s.items = spots-taken p s few in
-      let at : (i : ℕ) → i < s.count → Standing p (take i s.items) (item_at s i) = λ i l.
-      subst (λ (a : List ℕ). Standing p a (item_at s i)) (take-take i s.count s.items (omega arith))
-      (subst (Standing p (take i (take s.count s.items))) (get_or-take s.count s.items i 0 l)
+      let n = s.arrivals.count in
+      let z : spots (stops_in p s) ≡ tab (item_at s) n = spots-are p s in
+      let at : (i : ℕ) → i < n → Standing p (tab (item_at s) i) (item_at s i) = λ i l.
+      subst (λ (a : List ℕ). Standing p a (item_at s i)) (tab-first (item_at s) n i l)
+      (subst (Standing p (take i (tab (item_at s) n))) (tab-at (item_at s) n i 0 l)
       (subst (λ (a : List ℕ). Standing p (take i a) (get_or a i 0)) z (g.good.at i (omega (arith, spots-count p s))))) in
       record {
         count = sym (spots-count p s) ∙ good-all p (spots (stops_in p s)) g.good all;
@@ -216,5 +215,5 @@ module _ (p : Parents) (o : Orderly p) where
         reached = λ m r.
             trail_is p m r (λ t l. all-below p o.whole o.no_self t l)
             ∙ ap (map (as_reached m)) (ap (walk_each p.count p) (sym e) ∙ sym d.same)
-            ∙ map-tab (as_reached m) (stop_at p s) s.count;
+            ∙ map-tab (as_reached m) (stop_at p s) s.arrivals.count;
       }

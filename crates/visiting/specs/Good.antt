@@ -13,7 +13,8 @@ use Rattle.lists.specs.Lists.{In}
 use Rattle.lists.specs.Tests.{by, never, not_so, same_test, cons-elim}
 use Rattle.lists.specs.Appending.{any_append, map-append}
 use Rattle.ordering.specs.Lists.{elem, elem-left, elem-right, elem-cases, below, below_none, below_one, below_split, below-most, below_all}
-use Rattle.ordering.specs.Reading.{Parent, listed}
+use Rattle.ordering.specs.Reading.{listed}
+use Rattle.ordering.specs.declared.Parent.{Parent}
 use Rattle.ordering.specs.declared.Parents.{Parents}
 use Rattle.laws.specs.Visit.{choose}
 use Rattle.visiting.specs.Walk.{Stop, spots, walk_all, walk}

@@ -1,12 +1,13 @@
 -- The trail that the code holds, and what each of its functions does to it.
-use Rattle.std.specs.Prelude.{Bool, true, false, ◌&&◌, ◌||◌, not, List, [], ◌≡◌, ℕ, ◌+◌, ◌*◌, ◌%◌, ◌^◌, ◌≤◌, ◌<◌, eqb, length, get_or, take, set}
+use Rattle.std.specs.Prelude.{Bool, true, false, ◌&&◌, ◌||◌, not, List, [], ◌∷◌, ◌++◌, ◌≡◌, ℕ, ◌+◌, ◌*◌, ◌%◌, ◌^◌, ◌≤◌, ◌<◌, eqb, length}
 use Rattle.std.proofs.Math.Bool.{or-false, and-true, and-false}
-use Rattle.std.proofs.Common.{sym, ap, ◌∙◌, subst, arith, ext_get_or, get_or-take, length-take-le}
+use Rattle.std.proofs.Common.{sym, ap, ◌∙◌, subst, arith}
 use Rattle.std.specs.Int.Bits.{bit_or}
+use Rattle.bounded.specs.Items.{items_of}
 use Rattle.rows.specs.Rows.{has_bit}
 use Rattle.rows.specs.RowLaws.{bit-none, bit-one, bit-either}
 use Rattle.bitsets.specs.BitLaws.{bit-more}
-use Rattle.ordering.specs.Lists.{tab, tab-length, tab-at, elem, map-tab}
+use Rattle.ordering.specs.Lists.{tab, tab-length, elem, map-tab}
 use Rattle.ordering.specs.declared.Parents.{Parents}
 use Rattle.visiting.specs.Walk.{Stop, spots, walk}
 use Rattle.visiting.specs.Trails.{item_at, fresh_at}
@@ -22,15 +23,12 @@ pub record Marked (flags i seen t r : ℕ) : Type 0 where
 
 -- one place more, with its flags
 pub record Pushed (s : Trail) (t flags : ℕ) (r : Trail) : Type 0 where
-  pub count : r.count ≡ s.count + 1
-  pub items : r.items ≡ set s.items s.count t
-  pub fresh : r.fresh ≡ set s.fresh s.count flags
+  pub items : items_of r.arrivals ≡ items_of s.arrivals ++ (record { place = t; fresh = flags } ∷ [])
+  pub count : r.arrivals.count ≡ s.arrivals.count + 1
   pub seen : (x : ℕ) → has_bit r.seen x ≡ (has_bit s.seen x || eqb t x)
 
 pub record NothingHeld (r : Trail) : Type 0 where
-  pub count : r.count ≡ 0
-  pub items : length r.items ≡ 64
-  pub fresh : length r.fresh ≡ 64
+  pub count : r.arrivals.count ≡ 0
   pub seen : r.seen ≡ 0
 
 -- what a set has with one number more
@@ -57,42 +55,28 @@ abbrev pub stop_at : Parents → Trail → ℕ → Stop
 stop_at p s i = record { place = item_at s i; fresh = fresh_at p s i }
 
 unfoldable pub stops_in : Parents → Trail → List Stop
-stops_in p s = tab (stop_at p s) s.count
+stops_in p s = tab (stop_at p s) s.arrivals.count
 
 -- it keeps to the order, and the bits are those of its places
 pub record Held (p : Parents) (s : Trail) : Type 0 where
   pub good : Good p (spots (stops_in p s))
   pub seen : (t : ℕ) → has_bit s.seen t ≡ elem t (spots (stops_in p s))
-  pub items : length s.items ≡ 64
-  pub fresh : length s.fresh ≡ 64
 
 -- type t was tried: for every number that is past its place in the order
 pub record ReachedFrom (p : Parents) (t : ℕ) (s r : Trail) : Type 0 where
   pub held : Held p r
   pub same : (k : ℕ) → rank_of p t < k → stops_in p r ≡ walk k p t (stops_in p s)
 
--- ---- lists by place
-
-tab-take : (l : List ℕ) (n : ℕ) → n ≤ length l → tab (λ i. get_or l i 0) n ≡ take n l
-tab-take l n h =
-    ext_get_or 0 (tab (λ i. get_or l i 0) n) (take n l) (tab-length (λ i. get_or l i 0) n ∙ sym (length-take-le n l h))
-    (λ i k.
-    let j : i < n = subst (λ (x : ℕ). i < x) (tab-length (λ i. get_or l i 0) n) k in
-    tab-at (λ i. get_or l i 0) n i 0 j ∙ sym (get_or-take n l i 0 j))
-
--- the places are the first of the array
-pub spots-are : (p : Parents) (s : Trail) → spots (stops_in p s) ≡ tab (item_at s) s.count
+-- the places, in order
+pub spots-are : (p : Parents) (s : Trail) → spots (stops_in p s) ≡ tab (item_at s) s.arrivals.count
 unfolding stops_in
-spots-are p s = map-tab (λ (x : Stop). x.place) (stop_at p s) s.count
+spots-are p s = map-tab (λ (x : Stop). x.place) (stop_at p s) s.arrivals.count
 
-pub spots-taken : (p : Parents) (s : Trail) → s.count ≤ length s.items → spots (stops_in p s) ≡ take s.count s.items
-spots-taken p s h = spots-are p s ∙ tab-take s.items s.count h
-
-pub spots-count : (p : Parents) (s : Trail) → length (spots (stops_in p s)) ≡ s.count
-spots-count p s = ap length (spots-are p s) ∙ tab-length (item_at s) s.count
+pub spots-count : (p : Parents) (s : Trail) → length (spots (stops_in p s)) ≡ s.arrivals.count
+spots-count p s = ap length (spots-are p s) ∙ tab-length (item_at s) s.arrivals.count
 
 -- there is room for a place that is not held
-pub held-most : (p : Parents) (s : Trail) → Held p s → s.count ≤ p.count
+pub held-most : (p : Parents) (s : Trail) → Held p s → s.arrivals.count ≤ p.count
 held-most p s h = omega (arith, spots-count p s, good-most p (spots (stops_in p s)) h.good)
 
 pub held_none : (p : Parents) (r : Trail) → NothingHeld r → Held p r
@@ -102,6 +86,4 @@ held_none p r n =
     record {
       good = subst (λ (l : List Stop). Good p (spots l)) (sym z) (good_none p);
       seen = λ t. ap (λ (b : ℕ). has_bit b t) n.seen ∙ bit-none t ∙ ap (λ (l : List Stop). elem t (spots l)) (sym z);
-      items = n.items;
-      fresh = n.fresh;
     }

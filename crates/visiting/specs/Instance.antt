@@ -1,6 +1,6 @@
 -- A map and its compact form: what the code asks is no empty demand, and what it gives is the trail of the visit.
 -- Type `a` under `b`, listed twice, and under `c`; type `b` under `c`; type `c`.
-use Rattle.std.specs.Prelude.{true, [], ◌∷◌, ◌++◌, ◌≡◌, refl, ℕ, zero, suc, ◌<◌, replicate}
+use Rattle.std.specs.Prelude.{true, [], ◌∷◌, ◌≡◌, refl, ℕ, zero, suc, ◌<◌, replicate}
 use Rattle.std.proofs.Common.{arith}
 use Rattle.definitions.specs.Map.{TypeMap}
 use Rattle.definitions.specs.Order.{is_self, ready, pass, passes, last_pass, inherits_self, has_order}
@@ -8,11 +8,11 @@ use Rattle.definitions.specs.Comparisons.{look_up}
 use Rattle.definitions.specs.Synthesis.{listed_parents}
 use Rattle.visit_laws.specs.Trail.{reach_all, reach, reach_each, trail}
 use Rattle.rows.specs.Rows.{has_bit}
-use Rattle.ordering.specs.Lists.{tab}
+use Rattle.ordering.specs.Lists.{all_most, tab}
 use Rattle.ordering.specs.Reading.{listed, place_in, parent_in, ReadsType, Reads}
-use Rattle.ordering.specs.Instance.{under}
+use Rattle.ordering.specs.Instance.{under, parent, eight}
 use Rattle.ordering.specs.declared.Parents.{Parents}
-use Rattle.visiting.specs.Trails.{Orderly, reached_at}
+use Rattle.visiting.specs.Trails.{Orderly, zero_arrival, reached_at}
 use Rattle.visiting.specs.Ranks.{orderly}
 use Rattle.visiting.specs.declared.Trail.{Trail}
 
@@ -31,9 +31,9 @@ fallen = record {
   firsts = 0 ∷ 1 ∷ 2 ∷ replicate 61 0;
   seconds = 255 ∷ 255 ∷ 255 ∷ replicate 61 0;
   counts = 3 ∷ 1 ∷ 0 ∷ replicate 61 0;
-  places = 1 ∷ 1 ∷ 2 ∷ replicate 5 0 ++ (2 ∷ replicate 503 0);
-  parent_firsts = 1 ∷ 1 ∷ 2 ∷ replicate 5 0 ++ (2 ∷ replicate 503 0);
-  parent_seconds = 255 ∷ 255 ∷ 255 ∷ replicate 5 0 ++ (255 ∷ replicate 503 0);
+  parents = eight (parent 1 1 255 ∷ parent 1 1 255 ∷ parent 2 2 255 ∷ []) ∷ eight (parent 2 2 255 ∷ []) ∷ replicate 62 (eight []);
+  few = omega arith;
+  short = all_most 8 (3 ∷ 1 ∷ 0 ∷ replicate 61 0) refl;
 }
 
 fallen-types : (t : ℕ) → t < 3 → ReadsType fallen falling t
@@ -55,7 +55,16 @@ fallen-orderly = orderly fallen falling fallen-reads falling-ordered
 
 -- `c`, `b` and `a`: the first listing of `b` reached it, the second did not, and `c` was reached by `b`
 abbrev pub reached : Trail
-reached = record { count = 3; items = 2 ∷ 1 ∷ 0 ∷ replicate 61 0; fresh = 0 ∷ 1 ∷ 1 ∷ replicate 61 0; seen = 7 }
+reached =
+    record {
+      arrivals = record {
+        count = 3;
+        items = record { place = 2; fresh = 0 } ∷ record { place = 1; fresh = 1 } ∷ record { place = 0; fresh = 1 } ∷ replicate 61 zero_arrival;
+        few = omega arith;
+        long = refl;
+      };
+      seen = 7;
+    }
 
 pub falling-trail : trail falling ≡ tab (reached_at fallen falling reached) 3
 unfolding trail reach_each reach reach_all listed_parents look_up has_bit

@@ -1,7 +1,8 @@
 -- The trail of the visit by places in name order: `reach` over the compact form.
 use Rattle.std.specs.Prelude.{Bool, true, false, ◌&&◌, not, List, [], ◌∷◌, ◌++◌, map, ℕ, zero, suc}
 use Rattle.ordering.specs.Lists.{elem}
-use Rattle.ordering.specs.Reading.{Parent, listed}
+use Rattle.ordering.specs.Reading.{listed}
+use Rattle.ordering.specs.declared.Parent.{Parent}
 use Rattle.ordering.specs.declared.Parents.{Parents}
 
 -- a type that is interpreted, and for each of its listed parents whether this listing was the first to reach it

@@ -6,15 +6,20 @@ ghost use Rattle.std.specs.Prelude.{◌≡◌, ◌<◌, ◌≤◌};
 ghost use Rattle.visiting.specs.Trails.{Orderly, TrailOf};
 ghost use Rattle.visiting.specs.Holding.{Marked, Pushed, Held, ReachedFrom, NothingHeld};
 
+use bounded::UpTo;
 use ordering::Parents;
 
-// The places of the types reached, in order; for each, bit i is set if its listing i was the first to
-// reach that parent; and the places seen, as bits. Arrays beside their count: fixed memory, and no heap.
+// A type that is reached: its place, and bit i of fresh is set if its listing i was the first to reach that parent.
+#[derive(Clone, Copy)]
+pub struct Arrival {
+    pub place: u8,
+    pub fresh: u8,
+}
+
+// The types reached, in order, and the places seen, as bits.
 #[derive(Clone, Copy)]
 pub struct Trail {
-    pub count: usize,
-    pub items: [u8; 64],
-    pub fresh: [u8; 64],
+    pub arrivals: UpTo<Arrival, 64>,
     pub seen: u64,
 }
 
@@ -23,24 +28,22 @@ impl Trail {
     fn empty() -> Trail
         ensures { NothingHeld result }
     {
-        Trail {
-            count: 0,
-            items: [0; 64],
-            fresh: [0; 64],
-            seen: 0,
-        }
+        let none = Arrival { place: 0, fresh: 0 };
+        let arrivals = UpTo::new(none);
+        Trail { arrivals, seen: 0 }
     }
 
     // One place more.
     #[tactic(auto, using(crate::specs::Holding::one_more))]
     fn push(&mut self, t: usize, flags: u8)
-        requires { (self.old.count < 64) × (t < 64) }
+        requires { (self.old.arrivals.count < 64) × (t < 64) }
         ensures { Pushed self.old t flags self.new }
     {
-        let n = self.count;
-        self.items[n] = t as u8;
-        self.fresh[n] = flags;
-        self.count = n + 1;
+        let arrival = Arrival {
+            place: t as u8,
+            fresh: flags,
+        };
+        self.arrivals.push(arrival);
         self.seen = bitsets::with_one(self.seen, t);
     }
 }

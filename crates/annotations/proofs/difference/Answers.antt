@@ -9,14 +9,14 @@ pub returns-in-Nothing : goal.returns-in-Nothing
 unfolding part_of
 returns-in-Nothing c =
     let s = c in
-    difference-by s.args.x s.args.y s.requires.0 s.requires.1 nothing (sym c.overlap_of.ensures ∙ ap as_overlap c.in-Nothing.is)
+    difference-by s.args.x s.args.y nothing (sym c.overlap_of.ensures ∙ ap as_overlap c.in-Nothing.is)
 
 pub returns-in-Whole : goal.returns-in-Whole
 unfolding part_of
 returns-in-Whole c =
     let s = c in
     ap part_of c.then_some.ensures ∙ part_then _ s.args.x ∙ ap (λ b. some_if (not b) (info_of s.args.x)) c.same_alias.ensures
-    ∙ difference-by s.args.x s.args.y s.requires.0 s.requires.1 whole (sym c.overlap_of.ensures ∙ ap as_overlap c.in-Whole.is)
+    ∙ difference-by s.args.x s.args.y whole (sym c.overlap_of.ensures ∙ ap as_overlap c.in-Whole.is)
 
 pub returns-in-ByWord : goal.returns-in-ByWord
 unfolding part_of
@@ -26,4 +26,4 @@ returns-in-ByWord c =
     let b = matched-by-word s.args.x s.args.y e in
     ap part_of c.unless_empty.ensures ∙ b.made c.less_resources.result _ c.less_resources.ensures
     ∙ ap₂ (λ us vs. unless_empty (info_of s.args.x) (less us vs)) (sym b.left) (sym b.right)
-    ∙ difference-by s.args.x s.args.y s.requires.0 s.requires.1 by_word e
+    ∙ difference-by s.args.x s.args.y by_word e

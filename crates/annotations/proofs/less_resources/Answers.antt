@@ -50,6 +50,5 @@ returns c =
       resources = q;
       kind = refl;
       tag = refl;
-      few = omega arith;
       count = upto-length c.loop-i.k c.loop-i.out c.loop-i.sets (omega (arith, c.loop-i.invariant.1)) (omega (arith, c.loop-i.invariant.2)) ∙ ap length q;
     }

@@ -1,7 +1,5 @@
-use mathlib.Core.Path.{◌≡◌, sym, ◌∙◌}
+use mathlib.Core.Path.{sym, ◌∙◌}
 use native.Mathlib.Omega.{arith}
-use lib.ListN.{length}
-use Rattle.lists.specs.Tabulating.{length-mapped}
 use Rattle.dedup.specs.JoinLaws.{joins-by, join-none, join-merged}
 use Rattle.dedup.proofs.dedup_inherited_annotations_one.Goals as goal
 
@@ -17,6 +15,5 @@ pub returns : goal.returns
 returns c =
     let s = c in
     let e = c.merged.ensures in
-    let l : length s.args.l.items ≡ 201 = search length-mapped in
     joins-by s.args.l c.merged.result s.args.newcomer s.requires.kept s.requires.sound
-    (e.0 ∙ sym (join-merged s.args.l s.args.newcomer c.if-l-eq0.false (omega (arith, s.requires.kept.room)))) e.1
+    (e.0 ∙ sym (join-merged s.args.l s.args.newcomer c.if-l-eq0.false)) e.1

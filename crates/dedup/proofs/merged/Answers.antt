@@ -1,11 +1,11 @@
 use mathlib.Core.Bool.{true}
 use mathlib.Core.Path.{◌≡◌, refl, sym, ap, ◌∙◌}
-use Prim.Native.Nat.{◌+◌, ◌<◌, ◌≤◌}
+use Prim.Native.Nat.{◌+◌, ◌≤◌}
 use native.Mathlib.Omega.{arith}
-use lib.ListN.{length, take, drop, set}
-use lib.Seq.{length-take-le}
-use Rattle.lists.specs.Tabulating.{length-mapped}
+use lib.ListN.{length, take, drop, set, length-set}
+use Rattle.bounded.specs.Items.{length-items_of}
 use Rattle.rows.specs.Rows.{common, none}
+use Rattle.records.specs.declared.Kind.TheVariants.{MakeList}
 use Rattle.dedup.specs.Entries.{inter, unless_empty, merge, entries_of, Sound}
 use Rattle.dedup.specs.declared.Entry.{Entry}
 use Rattle.dedup.specs.EntryLaws.{sound-diff, apart-among, share-one, merge-length}
@@ -15,7 +15,7 @@ use Rattle.dedup.proofs.merged.Goals.{After-is_none, After-standing-k-2, After-s
 
 -- what a read past the end gives
 abbrev zeros : Entry
-zeros = record { kind = 0; words = record { a = 0; b = 0; c = 0; d = 0 }; parents = 0 }
+zeros = record { kind = MakeList; words = record { a = 0; b = 0; c = 0; d = 0 }; parents = 0 }
 
 -- the entry of the round, and the newcomer
 sound : (c : In-loop-i) →
@@ -26,17 +26,8 @@ unfolding entries_of
 sound c =
     let s = c in
     let l = c.loop-i in
-    let z : length s.args.l.items ≡ 201 = search length-mapped in
+    let z = s.args.l.long in
     (apart-among s.args.l.items s.args.l.count l.i zeros s.requires.apart (omega arith) (omega arith), l.invariant.3)
-
--- their kinds are among the seven
-kinds : (c : In-loop-i) →
-    let s = c in
-    let l = c.loop-i in
-    ((lib.ListN.get_or s.args.l.items l.i zeros).kind < 7) × (l.n.kind < 7)
-kinds c =
-    let s = sound c in
-    (omega (arith, s.0.kind), omega (arith, s.1.kind))
 
 -- a round of the loop
 one-round : (c : In-loop-i) →
@@ -47,7 +38,7 @@ unfolding entries_of
 one-round c =
     let s = c in
     let l = c.loop-i in
-    let z : length s.args.l.items ≡ 201 = search length-mapped in
+    let z = s.args.l.long in
     let m : length (merge (take s.args.l.count s.args.l.items) s.args.newcomer) ≤ 200 = merge-length _ _ s.requires.apart s.requires.count_bound.1 in
     round s.args.l.items l.out _ s.args.l.count l.k l.i l.n zeros (omega arith) (omega arith) l.invariant.1 l.invariant.0 m l.invariant.2
 
@@ -61,7 +52,7 @@ unfolding entries_of
 none-shared c e =
     let s = c in
     let l = c.loop-i in
-    let z : length s.args.l.items ≡ 201 = search length-mapped in
+    let z = s.args.l.long in
     let m : length (merge (take s.args.l.count s.args.l.items) s.args.newcomer) ≤ 200 = merge-length _ _ s.requires.apart s.requires.count_bound.1 in
     passed s.args.l.items l.out _ s.args.l.count l.k l.i l.n zeros (omega arith) (omega arith) l.invariant.1 l.invariant.0 m l.invariant.2 (sound c).0 (sound c).1 e
 
@@ -87,26 +78,19 @@ unfolding entries_of
 after c =
     let s = c in
     let l = c.loop-i in
-    let z : length s.args.l.items ≡ 201 = search length-mapped in
+    let z = s.args.l.long in
     let m : length (merge (take s.args.l.count s.args.l.items) s.args.newcomer) ≤ 200 = merge-length _ _ s.requires.apart s.requires.count_bound.1 in
-    let t : length (take s.args.l.count s.args.l.items) ≡ s.args.l.count = length-take-le _ _ (omega arith) in
+    let t = length-items_of s.args.l in
     last l.out _ (take s.args.l.count s.args.l.items) l.k l.i l.n (omega arith) l.invariant.1 l.invariant.0 m l.invariant.2
 
 pub loop-i-init : goal.loop-i-init
 loop-i-init c =
-    let l : length c.args.l.items ≡ 201 = search length-mapped in
-    (l, omega arith, refl, c.requires.count_bound.1)
+    (c.args.l.long, omega arith, refl, c.requires.count_bound.1)
 
 pub overflow_add-k : goal.overflow_add-k
 overflow_add-k c =
     let r = none-shared (goal.at.overflow_add-k c).In-loop-i (tested (goal.at.overflow_add-k c).After-is_none ∙ c.if-is_none.true) in
     omega (arith, r.most, c.standing-k.ensures)
-
-pub intersection-both-requires : goal.intersection-both-requires
-intersection-both-requires c = let k = kinds (goal.at.intersection-both-requires c).In-loop-i in omega arith
-
-pub difference-rest-requires : goal.difference-rest-requires
-difference-rest-requires c = let k = kinds (goal.at.difference-rest-requires c).In-loop-i in omega arith
 
 pub overflow_add-k-else-is_none : goal.overflow_add-k-else-is_none
 overflow_add-k-else-is_none c = omega (arith, room (goal.at.overflow_add-k-else-is_none c).After-standing-k-else-is_none)
@@ -119,9 +103,6 @@ bounds-out-k-else-is_none-2 c = omega (arith, room (goal.at.bounds-out-k-else-is
 
 pub overflow_add-k-else-is_none-2 : goal.overflow_add-k-else-is_none-2
 overflow_add-k-else-is_none-2 c = omega (arith, room (goal.at.overflow_add-k-else-is_none-2 c).After-standing-k-else-is_none)
-
-pub difference-n-requires : goal.difference-n-requires
-difference-n-requires c = let k = kinds (goal.at.difference-n-requires c).In-loop-i in omega arith
 
 pub loop-i-preserved : goal.loop-i-preserved
 loop-i-preserved c =
@@ -149,3 +130,9 @@ overflow_add-k-2 c =
 pub returns : goal.returns
 unfolding entries_of
 returns c = let r = after (goal.at.returns c).After-standing-k-2 in rw c.standing-k-2.ensures (r.0, r.1)
+
+pub invariant_of-result : goal.invariant_of-result
+invariant_of-result c =
+    let l = c.loop-i in
+    let r = after (goal.at.invariant_of-result c).After-standing-k-2 in
+    record { few = omega (arith, r.1, c.standing-k-2.ensures); long = length-set l.out l.k l.n ∙ l.invariant.0 }

@@ -1,6 +1,7 @@
 use Rattle.std.proofs.Common.{ap, replicate}
 use Rattle.rows.specs.declared.Row.{Row}
+use Rattle.records.specs.declared.Kind.TheVariants.{MakeList}
 use Rattle.dedup.proofs.no_entries.Goals as goal
 
 pub returns : goal.returns
-returns c = ap (λ (r : Row). replicate 201 (record { kind = 0; words = r; parents = 0 })) c.empty_row-words.ensures
+returns c = ap (λ (r : Row). replicate 201 (record { kind = MakeList; words = r; parents = 0 })) c.empty_row-words.ensures

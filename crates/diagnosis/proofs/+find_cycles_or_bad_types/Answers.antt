@@ -1,28 +1,27 @@
 use mathlib.Core.List.{append-nil}
-use mathlib.Core.Path.{◌≡◌, refl, sym, ◌∙◌, ap, ap₂}
+use mathlib.Core.Path.{◌≡◌, sym, subst, ◌∙◌, ap, ap₂}
 use native.Mathlib.Omega.{arith}
 use Rattle.lists.specs.Lists.{each, place_of}
 use Rattle.rows.specs.Rows.{has_bit}
 use Rattle.bitsets.specs.Bitsets.{more}
 use Rattle.ordering.specs.Lists.{tab, each-tab-step}
-use Rattle.ordering.specs.Reading.{Parent, parent_at, how_many, listed}
+use Rattle.ordering.specs.Reading.{parent_at, how_many, listed}
+use Rattle.ordering.specs.declared.Parent.{Parent}
 use Rattle.order_placed.specs.Placing.{off}
 use Rattle.diagnosis.specs.Rows.{rows, bad}
-use Rattle.diagnosis.specs.Emit.{emit}
+use Rattle.diagnosis.specs.Emit.{Emits}
 use Rattle.diagnosis.specs.Walk.{At, fewer, rows-bad, rows_on, pass, declared, onward}
-use Prim.Native.Nat.{ℕ, ◌+◌, ◌*◌}
-use Rattle.emitting.specs.Emitting.{State, emit-append, emit-full, emit-most}
-use Rattle.emitting.specs.Emitting as emitting
+use Prim.Native.Nat.{ℕ, ◌+◌}
+use Rattle.emitting.specs.Emitting.{State, emit-most}
+use Rattle.emitting.specs.Row.{bytes_of}
+use Rattle.emitting.specs.Writing.{emits_none, emits_then, emits_over}
 use Rattle.diagnosis.proofs.+find_cycles_or_bad_types.Goals as goal
 use Rattle.diagnosis.proofs.+find_cycles_or_bad_types.Goals.{then-not-has, else-not-has}
 
-pub returns-then-limit-n : goal.returns-then-limit-n
-returns-then-limit-n t c =
-    let e : c.args.n ≡ c.args.limit + 1 = omega arith in
-    rw e (sym (emit-full _ _ _ _))
+pub returns-then-is_over : goal.returns-then-is_over
+returns-then-is_over t c = emits_over bytes_of _ _ (sym c.is_over.ensures ∙ c.if-is_over.true) c.requires.count_bound
 
 pub returns-in-Some : goal.returns-in-Some
-unfolding emitting.emit
 returns-in-Some t c =
     let a = c.args in
     let p = a.l.now in
@@ -34,19 +33,18 @@ returns-in-Some t c =
     c.put_parent_row.ensures
 
 pub loop-i-init : goal.loop-i-init
-unfolding emitting.emit
-loop-i-init t c = refl
+loop-i-init t c = emits_none _ _
 
 pub has-requires : goal.has-requires
 has-requires t c =
     let a = c.args in
     let r = c.requires.at in
     let b = rw c.with_one-here.ensures at c.in_default.ensures in
-    omega (arith, declared a.l.now a.placed a.t a.path r c.loop-i.i b (omega (arith, c.from-i-end.ensures, c.loop-i-test.true)), c.place-place.ensures, r.stage.valid.types)
+    omega (arith, declared a.l.now a.placed a.t a.path r c.loop-i.i b (omega (arith, c.from-i-end.ensures, c.loop-i-test.true)), c.place-place.ensures, a.l.now.few)
 
 -- the parent of this turn, where it is not placed
-pub find_cycles_or_bad_types-total-requires : goal.find_cycles_or_bad_types-total-requires
-find_cycles_or_bad_types-total-requires t c =
+pub find_cycles_or_bad_types-requires : goal.find_cycles_or_bad_types-requires
+find_cycles_or_bad_types-requires t c =
     let a = c.args in
     let r = c.requires.at in
     let p = a.l.now in
@@ -57,7 +55,7 @@ find_cycles_or_bad_types-total-requires t c =
     let x = onward p a.placed a.t a.path r l.i b (omega (arith, c.from-i-end.ensures, c.loop-i-test.true)) (ap (has_bit a.placed) (sym e) ∙ sym c.has.ensures ∙ c.if-not-has.true) in
     let n : At p a.placed c.place-place.result c.with_one-here.result = rw (h, e) x in (
       omega (arith, fewer p a.placed a.t a.path r, ap (off p.count) h),
-      (n, (omega (arith, c.requires.limit_in_bounds.0, l.auto.buf), rw (ap (λ (z : State). z.1) l.invariant) (emit-most _ _ _ _ c.requires.limit_in_bounds.1))),
+      (n, rw (ap (λ (z : State). z.1) l.invariant.state, l.invariant.same.limit) (emit-most _ _ _ _ c.requires.count_bound)),
     )
 
 pub loop-i-preserved : goal.loop-i-preserved
@@ -66,16 +64,16 @@ loop-i-preserved t c =
     let l = c.loop-i in
     let p = a.l.now in
     let on = more a.path a.t in
-    let x = (parent_at p (8 * a.t + l.i)).place in
-    let e = each-tab-step (λ k. parent_at p (8 * a.t + k)) (λ (q : Parent). rows (off p.count on) p on q.place) l.i in
+    let x = (parent_at p a.t l.i).place in
+    let e = each-tab-step (λ k. parent_at p a.t k) (λ (q : Parent). rows (off p.count on) p on q.place) l.i in
     let g = ap₂ (λ (h y : ℕ). rows (off p.count h) p h y) c.with_one-here.ensures c.place-place.ensures in
     elim c.if-not-has.branch [
       | then-not-has w ↦
-          rw (w.buf-is, w.total-is, e, emit-append, ← l.invariant)
-          (w.find_cycles_or_bad_types-total.ensures ∙ ap (emit a.limit (l.buf, l.total)) g)
+          rw (w.out-is, e)
+          (emits_then bytes_of _ _ _ _ _ l.invariant (subst (Emits l.out w.find_cycles_or_bad_types.new.out) g w.find_cycles_or_bad_types.ensures))
       | else-not-has w ↦
           let q = pass p a.placed a.t a.path c.requires.at (off p.count on) x (ap (has_bit a.placed) (sym c.place-place.ensures) ∙ sym c.has.ensures ∙ w.if-not-has.false) in
-          rw (w.buf-is, w.total-is, e, q, append-nil) l.invariant
+          rw (w.out-is, e, q, append-nil) l.invariant
     ]
 
 pub returns : goal.returns
@@ -86,6 +84,7 @@ returns t c =
     let p = a.l.now in
     let on = more a.path a.t in
     let e : l.i ≡ how_many p a.t = omega (arith, c.from-i-end.ensures) in
+    subst (Emits a.out.now l.out)
+    (ap (λ (k : ℕ). each (λ (q : Parent). rows (off p.count on) p on q.place) (tab (λ j. parent_at p a.t j) k)) e
+    ∙ sym (rows_on p a.placed a.t a.path c.requires.at (rw c.with_one-here.ensures at c.in_default.ensures)))
     l.invariant
-    ∙ ap (λ (k : ℕ). emit a.limit (a.buf.now, a.n) (each (λ (q : Parent). rows (off p.count on) p on q.place) (tab (λ j. parent_at p (8 * a.t + j)) k))) e
-    ∙ ap (emit a.limit (a.buf.now, a.n)) (sym (rows_on p a.placed a.t a.path c.requires.at (rw c.with_one-here.ensures at c.in_default.ensures)))

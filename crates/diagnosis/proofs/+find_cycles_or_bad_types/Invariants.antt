@@ -1,18 +1,17 @@
-use mathlib.Core.Path.{◌≡◌}
 use Rattle.lists.specs.Lists.{each}
 use Rattle.bitsets.specs.Bitsets.{more}
 use Rattle.ordering.specs.Lists.{tab}
-use Rattle.ordering.specs.Reading.{Parent, parent_at}
+use Rattle.ordering.specs.Reading.{parent_at}
+use Rattle.ordering.specs.declared.Parent.{Parent}
 use Rattle.order_placed.specs.Placing.{off}
 use Rattle.diagnosis.specs.Rows.{rows}
-use Rattle.diagnosis.specs.Emit.{emit}
-use Prim.Native.Nat.{◌+◌, ◌*◌}
+use Rattle.diagnosis.specs.Emit.{Emits}
 use Rattle.diagnosis.proofs.+find_cycles_or_bad_types.Given as goal
 
 -- The rows of the parents passed have gone out.
 abbrev pub invariant-loop-i : goal.invariant-loop-i
 invariant-loop-i l =
-    (l.buf, l.total) ≡ emit l.limit (l.initial.buf, l.n) (each (λ (q : Parent). rows (off l.l.count (more l.path l.t)) l.l (more l.path l.t) q.place) (tab (λ k. parent_at l.l (8 * l.t + k)) l.i))
+    Emits l.initial.out l.out (each (λ (q : Parent). rows (off l.l.count (more l.path l.t)) l.l (more l.path l.t) q.place) (tab (λ k. parent_at l.l l.t k) l.i))
 
 -- the types off the path, which fall at each call
 abbrev pub decreases-find_cycles_or_bad_types : goal.decreases-find_cycles_or_bad_types

@@ -1,23 +1,24 @@
-use Rattle.std.proofs.Common.{refl, sym, ap, ◌≡◌, ◌∙◌, arith}
-use Rattle.emitting.specs.Emitting.{State, emit-append, emit-most}
-use Rattle.emitting.specs.Emitting as emitting
-use Rattle.diagnosis.specs.Emit.{emit}
+use Rattle.std.proofs.Common.{sym, subst, ap, ◌≡◌, ◌∙◌, arith}
+use Rattle.emitting.specs.Emitting.{State, emit-most}
+use Rattle.emitting.specs.Row.{bytes_of}
+use Rattle.emitting.specs.Writing.{emits_none, emits_then}
+use Rattle.diagnosis.specs.Emit.{Emits}
 use Rattle.diagnosis.specs.Walk.{before, before-yes, before-no, before-all, at-start}
 use Rattle.diagnosis.proofs.generate_type_no_parent_errors.Goals as goal
 use Rattle.diagnosis.proofs.generate_type_no_parent_errors.Goals.{then-not-has, else-not-has}
 
 pub loop-t-init : goal.loop-t-init
-unfolding emitting.emit before
-loop-t-init c = refl
+unfolding before
+loop-t-init c = emits_none _ _
 
-pub find_cycles_or_bad_types-total-requires-clause-at : goal.find_cycles_or_bad_types-total-requires-clause-at
-find_cycles_or_bad_types-total-requires-clause-at c =
+pub find_cycles_or_bad_types-requires-clause-at : goal.find_cycles_or_bad_types-requires-clause-at
+find_cycles_or_bad_types-requires-clause-at c =
     at-start c.args.l.now c.args.placed c.requires.stage c.loop-t.t (omega arith) (sym c.has.ensures ∙ c.if-not-has.true)
 
-pub find_cycles_or_bad_types-total-requires-clause-limit_in_bounds : goal.find_cycles_or_bad_types-total-requires-clause-limit_in_bounds
-find_cycles_or_bad_types-total-requires-clause-limit_in_bounds c =
+pub find_cycles_or_bad_types-requires-clause-count_bound : goal.find_cycles_or_bad_types-requires-clause-count_bound
+find_cycles_or_bad_types-requires-clause-count_bound c =
     let l = c.loop-t in
-    (omega (arith, c.requires.limit_in_bounds, l.auto.buf), rw (ap (λ (z : State). z.1) l.invariant) (emit-most _ _ _ _ (omega arith)))
+    rw (ap (λ (z : State). z.1) l.invariant.state, l.invariant.same.limit) (emit-most _ _ _ _ c.requires.count_bound)
 
 pub loop-t-preserved : goal.loop-t-preserved
 loop-t-preserved c =
@@ -26,9 +27,9 @@ loop-t-preserved c =
     let p = a.l.now in
     elim c.if-not-has.branch [
       | then-not-has w ↦
-          rw (w.buf-is, w.total-is, before-yes p a.placed l.t (sym c.has.ensures ∙ w.if-not-has.true), emit-append, ← l.invariant)
-          w.find_cycles_or_bad_types-total.ensures
-      | else-not-has w ↦ rw (w.buf-is, w.total-is, before-no p a.placed l.t (sym c.has.ensures ∙ w.if-not-has.false)) l.invariant
+          rw (w.out-is, before-yes p a.placed l.t (sym c.has.ensures ∙ w.if-not-has.true))
+          (emits_then bytes_of _ _ _ _ _ l.invariant w.find_cycles_or_bad_types.ensures)
+      | else-not-has w ↦ rw (w.out-is, before-no p a.placed l.t (sym c.has.ensures ∙ w.if-not-has.false)) l.invariant
     ]
 
 pub returns : goal.returns
@@ -37,4 +38,4 @@ returns c =
     let p = a.l.now in
     let l = c.loop-t in
     let e : l.t ≡ p.count = omega arith in
-    l.invariant ∙ ap (emit a.limit (a.buf.now, 0)) (ap (before p a.placed) e ∙ before-all p a.placed c.requires.stage)
+    subst (Emits a.out.now l.out) (ap (before p a.placed) e ∙ before-all p a.placed c.requires.stage) l.invariant

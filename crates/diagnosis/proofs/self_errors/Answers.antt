@@ -1,16 +1,17 @@
-use Rattle.std.proofs.Common.{refl, ap, ◌≡◌, ◌∙◌, arith}
-use Rattle.emitting.specs.Emitting.{emit-append}
-use Rattle.emitting.specs.Emitting as emitting
-use Rattle.diagnosis.specs.Emit.{emit}
+use Rattle.std.proofs.Common.{subst, ap, ◌≡◌, ◌∙◌, arith}
+use Rattle.emitting.specs.Row.{bytes_of}
+use Rattle.emitting.specs.Writing.{emits_none, emits_then}
+use Rattle.diagnosis.specs.Emit.{Emits}
 use Rattle.diagnosis.specs.Walk.{self_before, self-step, self-all}
 use Rattle.diagnosis.proofs.self_errors.Goals as goal
 
 pub loop-t-init : goal.loop-t-init
-unfolding emitting.emit self_before
-loop-t-init c = refl
+unfolding self_before
+loop-t-init c = emits_none _ _
 
 pub loop-t-preserved : goal.loop-t-preserved
-loop-t-preserved c = rw (self-step c.args.l.now c.loop-t.t, emit-append, ← c.loop-t.invariant) c.put_self_rows-total.ensures
+loop-t-preserved c =
+    rw (self-step c.args.l.now c.loop-t.t) (emits_then bytes_of _ _ _ _ _ c.loop-t.invariant c.put_self_rows.ensures)
 
 pub returns : goal.returns
 returns c =
@@ -18,4 +19,4 @@ returns c =
     let p = a.l.now in
     let l = c.loop-t in
     let e : l.t ≡ p.count = omega arith in
-    l.invariant ∙ ap (emit a.limit (a.buf.now, 0)) (ap (self_before p) e ∙ self-all p)
+    subst (Emits a.out.now l.out) (ap (self_before p) e ∙ self-all p) l.invariant

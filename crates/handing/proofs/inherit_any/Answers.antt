@@ -1,7 +1,5 @@
-use Rattle.handing.specs.Steps.{takes-nothing}
+use Rattle.handing.specs.Steps.{none-is, takes-nothing}
 use Rattle.handing.proofs.inherit_any.Goals as goal
 
-pub returns-then-store-place-eq0 : goal.returns-then-store-place-eq0
-returns-then-store-place-eq0 c =
-    let r = c.requires.addressable in
-    takes-nothing _ _ _ _ _ r.1 r.2 c.if-x-eq0.true c.if-store-place-eq0.true
+pub returns-then-saved-eq0 : goal.returns-then-saved-eq0
+returns-then-saved-eq0 c = takes-nothing _ _ _ _ _ (none-is _ c.if-is_none.ensures) c.if-saved-eq0.true

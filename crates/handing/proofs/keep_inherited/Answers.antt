@@ -1,12 +1,11 @@
+use Rattle.std.specs.Prelude.{◌<◌, length}
 use native.Mathlib.Omega.{arith}
 use Rattle.handing.specs.Keeping.{keeps-by}
+use Rattle.store.specs.StoreLaws.{stores-by}
 use Rattle.handing.proofs.keep_inherited.Goals as goal
 
-pub store-requires : goal.store-requires
-store-requires c =
-    let r = c.requires.ready in
-    let g = c.gather-all.ensures in
-    (omega (arith, r.low, r.room), r.most, g.good.kept.room)
-
 pub returns : goal.returns
-returns c = keeps-by _ _ _ _ _ _ _ c.requires.ready.low c.gather-all.ensures c.store.ensures
+returns c =
+    let r = c.requires.ready in
+    let low : c.args.t < length c.args.store.now = omega (arith, r.low, r.held.reads.most) in
+    keeps-by _ _ _ _ _ _ _ r.low c.gather-all.ensures (stores-by _ _ _ _ low c.of.ensures)

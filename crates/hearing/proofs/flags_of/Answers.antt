@@ -11,9 +11,9 @@ passes-handed-requires c =
     let a = c.args in
     let i = c.loop-i.i in
     let e = c.from-i-end.ensures in
-    let b = parent-below a.l.now a.t c.requires.t_bound.1 i (omega (arith, e, c.loop-i-test.true)) in (
-      omega (arith, e, c.loop-i-test.true, c.requires.valid.parents a.t c.requires.t_bound.0),
-      omega (arith, c.place-place.ensures, b, c.requires.valid.types),
+    let b = parent-below a.l.now a.t c.requires.1 i (omega (arith, e, c.loop-i-test.true)) in (
+      omega (arith, e, c.loop-i-test.true, a.l.now.short a.t),
+      omega (arith, c.place-place.ensures, b, a.l.now.few),
     )
 
 pub loop-i-preserved : goal.loop-i-preserved

@@ -1,16 +1,50 @@
-use mathlib.Core.Path.{subst}
+use borrow.Author.Rules.{rules}
+use mathlib.Core.Path.{◌≡◌, subst}
 use native.Mathlib.Omega.{arith}
+use Rattle.std.proofs.Common.{⊎_elim}
+use Rattle.lists.specs.Tests.{never}
+use Rattle.records.specs.declared.Kind.TheVariants.{Associate, NestAssociate}
+use Rattle.inheritance.specs.Kinds.{handed_on-which}
 use Rattle.inheritance.specs.Own.{DomsWith}
 use Rattle.interpreting.specs.Annotations.{type_reached, as_own}
 use Rattle.interpreting.specs.AnnotationsLaws.{all_none, all-as, all-entry}
 use Rattle.interpreting.specs.OwnLaws.{own-resources, own-size, plain-one, plain-none, names-none}
 use Rattle.interpreting.proofs.interpret_own.Goals as goal
+use Rattle.interpreting.proofs.interpret_own.Goals.{After-ne}
 
-pub returns-then-a-ne1 : goal.returns-then-a-ne1
-returns-then-a-ne1 c = let a = c.args in all-as a.t.now a.turn.place a.turn.limit _ _ 0 15 (type_reached a.s a.made.now) a.buf.now (type_reached a.s a.made.now) a.buf.now (λ ns. plain-none a.a c.if-a-ne1.true) (omega arith) (all_none a.t.now a.turn.place a.turn.limit (type_reached a.s a.made.now) a.buf.now)
+-- it is the one or the other
+nested : (c : After-ne) → c.ne.result ≡ mathlib.Core.Bool.true → c.args.a.info.kind ≡ NestAssociate
+nested c t =
+    let a = c.args.a in
+    ⊎_elim
+    (λ (e : a.info.kind ≡ Associate). never t (rw e at c.ne.ensures))
+    (λ (e : a.info.kind ≡ NestAssociate). e)
+    (handed_on-which a.info.kind a.associate)
+
+plain : (c : After-ne) → c.ne.result ≡ mathlib.Core.Bool.false → c.args.a.info.kind ≡ Associate
+plain c t = search rules
+
+pub returns-then-ne : goal.returns-then-ne
+returns-then-ne c =
+    let a = c.args in
+    let s = type_reached a.clean a.made.now in
+    all-as a.t.now a.place _ _ 0 15 s a.out.now s a.out.now (λ ns. plain-none a.a (nested (goal.at.returns-then-ne c).After-ne c.if-ne.true)) (omega arith) (all_none a.t.now a.place s a.out.now)
 
 pub with_entry-requires : goal.with_entry-requires
-with_entry-requires c = let s = c in let a = s.args in let w = c.words_of-words in let E = c.doms_with-doms in let d = subst (λ D. DomsWith D a.a E.result) c.no_doms-none.ensures E.ensures in record { place = s.requires.on_ground.place; room = omega (arith, s.requires.own.1, own-size a.a w.result E.result s.requires.own.0 w.ensures d); slice = s.requires.on_ground.slice }
+with_entry-requires c =
+    let a = c.args in
+    let w = c.words_of-words in
+    let E = c.doms_with-doms in
+    let d = subst (λ D. DomsWith D a.a.info E.result) c.no_doms-none.ensures E.ensures in
+    record { place = c.requires.place_bound; room = omega (arith, c.requires.room, own-size a.a w.result E.result w.ensures d) }
 
 pub returns : goal.returns
-returns c = let s = c in let a = s.args in let w = c.words_of-words in let k = c.if-a-ne1.false in let E = c.doms_with-doms in let d = subst (λ D. DomsWith D a.a E.result) c.no_doms-none.ensures E.ensures in all-as a.t.now a.turn.place a.turn.limit _ _ _ 15 (type_reached a.s a.made.now) a.buf.now _ _ (λ ns. plain-one a.a k) (own-size a.a w.result E.result s.requires.own.0 w.ensures d) (all-entry a.t.now a.turn.place a.turn.limit (λ ns. as_own a.a) _ _ (type_reached a.s a.made.now) a.buf.now _ _ (λ ns. own-resources a.a w.result E.result s.requires.own.0 w.ensures d k) names-none c.with_entry.ensures)
+returns c =
+    let a = c.args in
+    let s = type_reached a.clean a.made.now in
+    let w = c.words_of-words in
+    let k = plain (goal.at.returns c).After-ne c.if-ne.false in
+    let E = c.doms_with-doms in
+    let d = subst (λ D. DomsWith D a.a.info E.result) c.no_doms-none.ensures E.ensures in
+    all-as a.t.now a.place _ _ _ 15 s a.out.now _ _ (λ ns. plain-one a.a k) (own-size a.a w.result E.result w.ensures d)
+    (all-entry a.t.now a.place (λ ns. as_own a.a) _ _ s a.out.now _ _ (λ ns. own-resources a.a w.result E.result w.ensures d k) names-none c.with_entry.ensures)

@@ -1,4 +1,5 @@
-use mathlib.Core.Path.{◌≡◌, refl, ◌∙◌}
+use mathlib.Core.Bool.{true}
+use mathlib.Core.Path.{◌≡◌}
 use Prim.Native.Nat.{◌<◌}
 use native.Mathlib.Omega.{arith}
 use lib.ListN.{length}
@@ -13,7 +14,14 @@ long : (s : Start) → length s.args.own.items ≡ 12
 long s = search length-mapped
 
 pub loop-i-init : goal.loop-i-init
-loop-i-init c = (refl, all_none _ _ _ _ _)
+loop-i-init c = all_none _ _ _ _
 
 pub loop-i-preserved : goal.loop-i-preserved
-loop-i-preserved c = let s = c in let a = s.args in let l = c.loop-i in let n = long (goal.at.loop-i-preserved c).Start in let p : l.i < length a.own.items = omega (arith, s.requires.all_own.0.few) in (c.interpret_own-p.auto.buf ∙ l.invariant.0, all-as a.t.now a.turn.place a.turn.limit _ _ _ _ (type_reached a.s a.made.now) a.buf.now _ _ (λ ns. plain_step a.own.items l.i p) (omega arith) (all_then a.t.now a.turn.place a.turn.limit _ _ _ 15 (type_reached a.s a.made.now) (type_reached l.p l.made) _ a.buf.now l.buf _ l.invariant.1 c.interpret_own-p.ensures))
+loop-i-preserved c =
+    let a = c.args in
+    let l = c.loop-i in
+    let n = long (goal.at.loop-i-preserved c).Start in
+    let p : l.i < length a.own.items = omega (arith, a.own.few) in
+    let s = type_reached true a.made.now in
+    all-as a.t.now a.place _ _ _ _ s a.out.now _ _ (λ ns. plain_step a.own.items l.i _ p) (omega arith)
+    (all_then a.t.now a.place _ _ _ 15 s (type_reached l.clean l.made) _ a.out.now l.out _ l.invariant c.interpret_own-clean.ensures)

@@ -4,4 +4,7 @@ use Rattle.interpreting.specs.AnnotationsLaws.{entry-with}
 use Rattle.interpreting.proofs.with_entry.Goals as goal
 
 pub returns : goal.returns
-returns c = let a = c.args in let e = c.interpret_associate-r in entry-with a.t.now a.turn.place a.turn.limit a.e a.doms (type_reached a.s a.made.now) a.buf.now (reached e.result _) _ _ e.ensures c.still_clean-clean.ensures
+returns c =
+    let a = c.args in
+    let e = c.interpret_associate-standing in
+    entry-with a.t.now a.place a.e a.doms (type_reached a.clean a.made.now) a.out.now (reached e.result _) _ _ e.ensures c.still_clean.ensures

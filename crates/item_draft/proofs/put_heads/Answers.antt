@@ -9,4 +9,4 @@ pub loop-a-preserved : goal.loop-a-preserved
 loop-a-preserved c =
     let l = c.loop-a in
     let long : length l.t.heads ≡ 64 = search rules in
-    heads-more c.args.d.now c.args.entries.now l.a c.args.t.now l.t l.resources c.with_resource-resources.result c.head_in_bits-head.result (omega (arith, c.requires)) c.head_in_bits-head.ensures c.with_resource-resources.ensures l.invariant
+    heads-more c.args.d.now c.args.entries.now l.a c.args.t.now l.t l.resources c.with_resource-resources.result c.head_in_bits-head.result (omega (arith, c.requires.0)) c.head_in_bits-head.ensures c.with_resource-resources.ensures l.invariant

@@ -1,4 +1,4 @@
-use Rattle.std.proofs.Common.{◌<◌, refl, arith}
+use Rattle.std.proofs.Common.{◌<◌, arith}
 use Rattle.item_names.specs.NamesLaws.{sets-none, sets_more}
 use Rattle.item_entries.specs.EntryLaws.{first-at, marked-at}
 use Rattle.item_entries.proofs.put_sets.Goals as goal
@@ -11,6 +11,7 @@ loop-a-preserved c =
     let l = c.loop-a in
     let h = c.requires.keys_fit in
     let k : l.a < 64 = omega (arith, h.few) in
+    let small = h.small l.a c.loop-a-test.true in
     let f = first-at c.args.entries.now l.a k in
-    sets_more _ _ l.a _ l.t k (omega (arith, f, h.small l.a c.loop-a-test.true)) c.mark_name.ensures.long l.invariant
-    (marked-at c.args.entries.now l.a k l.t _ _ refl refl c.mark_name.ensures.sets)
+    sets_more _ _ l.a _ l.t k (omega (arith, f, small)) c.mark_name.ensures.long l.invariant
+    (marked-at c.args.entries.now l.a k l.t c.from-name.result small c.from-name.ensures c.mark_name.ensures.sets)

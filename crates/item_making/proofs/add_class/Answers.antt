@@ -4,17 +4,17 @@ use Rattle.item_making.specs.MakingLaws.{marks-are, marks-parted}
 use Rattle.item_making.specs.Adding.{room-field, room-behind, adds-behind}
 use Rattle.item_making.proofs.add_class.Goals as goal
 
-pub add-requires-clause-room_for : goal.add-requires-clause-room_for
-add-requires-clause-room_for c = room_as (sym (c.number.ensures.bits ∙ marks-are c.args.t.now c.args.c _ c.mark_width-width.ensures.0)) c.requires.room_for
+pub add-requires : goal.add-requires
+add-requires c = room_as (sym (c.number.ensures.bits ∙ marks-are c.args.t.now c.args.c _ c.mark_width-width.ensures.0)) c.requires.room_for
 
 pub returns-then-width-le56 : goal.returns-then-width-le56
 returns-then-width-le56 c = adds-as (c.number.ensures.bits ∙ marks-are c.args.t.now c.args.c _ c.mark_width-width.ensures.0) c.add.ensures
 
-pub add-to-requires-clause-room_for : goal.add-to-requires-clause-room_for
-add-to-requires-clause-room_for c = room-field _ c.number-2.ensures (room_as (sym (marks-parted c.args.t.now c.args.c _ c.mark_width-width.ensures.0 (omega arith))) c.requires.room_for)
+pub add-to-requires : goal.add-to-requires
+add-to-requires c = room-field _ c.number-2.ensures (room_as (sym (marks-parted c.args.t.now c.args.c _ c.mark_width-width.ensures.0 (omega arith))) c.requires.room_for)
 
-pub add-requires-2-clause-room_for : goal.add-requires-2-clause-room_for
-add-requires-2-clause-room_for c =
+pub add-requires-2 : goal.add-requires-2
+add-requires-2 c =
     room_as (sym c.number-3.ensures.bits) (room-behind _ c.number-2.ensures c.add-to.ensures (room_as (sym (marks-parted c.args.t.now c.args.c _ c.mark_width-width.ensures.0 (omega arith))) c.requires.room_for))
 
 pub returns : goal.returns

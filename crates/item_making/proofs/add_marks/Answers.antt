@@ -4,8 +4,8 @@ use Rattle.item_making.specs.MakingLaws.{mark-bits-both}
 use Rattle.item_making.specs.Adding.{room-field, room-behind, adds-behind}
 use Rattle.item_making.proofs.add_marks.Goals as goal
 
-pub add-to-requires-clause-room_for : goal.add-to-requires-clause-room_for
-add-to-requires-clause-room_for c =
+pub add-to-requires : goal.add-to-requires
+add-to-requires c =
     let a = c.args in
     room-field _ c.number.ensures (room_as (sym (mark-bits-both a.t.now a.classes a.marks)) c.requires)
 

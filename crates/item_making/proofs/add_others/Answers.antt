@@ -2,9 +2,9 @@ use Rattle.item_making.specs.Making.{others_bits}
 use Rattle.item_making.specs.Adding.{room-field, room-behind, adds-behind}
 use Rattle.item_making.proofs.add_others.Goals as goal
 
-pub add-to-requires-clause-room_for : goal.add-to-requires-clause-room_for
+pub add-to-requires : goal.add-to-requires
 unfolding others_bits
-add-to-requires-clause-room_for c = room-field _ c.resource_field.ensures c.requires.room_for
+add-to-requires c = room-field _ c.resource_field.ensures c.requires.room_for
 
 pub add_records-requires-clause-room_for : goal.add_records-requires-clause-room_for
 unfolding others_bits

@@ -6,8 +6,8 @@ use Rattle.item_making.proofs.add_record.Goals as goal
 pub loop-j-init : goal.loop-j-init
 loop-j-init c = pending-all _ _ 0 _
 
-pub add-to-requires-clause-room_for : goal.add-to-requires-clause-room_for
-add-to-requires-clause-room_for c =
+pub add-to-requires : goal.add-to-requires
+add-to-requires c =
     let a = c.args in
     let l = c.loop-j in
     let e = record-next a.t.now a.e l.j (omega arith) in

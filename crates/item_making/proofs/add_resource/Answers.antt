@@ -4,8 +4,8 @@ use Rattle.item_making.specs.MakingLaws.{resource-parts}
 use Rattle.item_making.specs.Adding.{room-counted, adds-counted}
 use Rattle.item_making.proofs.add_resource.Goals as goal
 
-pub add_firsts-to-requires-clause-room_for : goal.add_firsts-to-requires-clause-room_for
-add_firsts-to-requires-clause-room_for c =
+pub add_firsts-to-requires : goal.add_firsts-to-requires
+add_firsts-to-requires c =
     let a = c.args in
     let e = resource-parts a.t.now a.a a.m _ _ _ _ c.count_parents-parents.ensures c.gather_all-g.ensures c.head_field-head.ensures.0 in
     room-head 0 0 _ _ (room-counted c.counted.ensures (room_as (sym e) c.requires.room_for))

@@ -4,8 +4,8 @@ use Rattle.item_making.specs.MakingLaws.{tail-short, tail-long}
 use Rattle.item_making.specs.Adding.{room-field, room-behind, adds-behind}
 use Rattle.item_making.proofs.add_tail.Goals as goal
 
-pub add-requires-clause-room_for : goal.add-requires-clause-room_for
-add-requires-clause-room_for c =
+pub add-requires : goal.add-requires
+add-requires c =
     let h = holds-join c.tail_start-start.ensures c.number.ensures c.join-f.ensures in
     room_as (sym (h.bits ∙ tail-short c.args.t.now c.args.c _ c.mark_width-width.ensures.0)) c.requires.room_for
 
@@ -14,13 +14,13 @@ returns-then-width-le37 c =
     let h = holds-join c.tail_start-start.ensures c.number.ensures c.join-f.ensures in
     adds-as (h.bits ∙ tail-short c.args.t.now c.args.c _ c.mark_width-width.ensures.0) c.add.ensures
 
-pub add-to-requires-clause-room_for : goal.add-to-requires-clause-room_for
-add-to-requires-clause-room_for c =
+pub add-to-requires : goal.add-to-requires
+add-to-requires c =
     let h = holds-join c.tail_start-start.ensures c.number-2.ensures c.join-f-2.ensures in
     room-field _ h (room_as (sym (tail-long c.args.t.now c.args.c _ c.mark_width-width.ensures.0 (omega arith))) c.requires.room_for)
 
-pub add-requires-2-clause-room_for : goal.add-requires-2-clause-room_for
-add-requires-2-clause-room_for c =
+pub add-requires-2 : goal.add-requires-2
+add-requires-2 c =
     let h = holds-join c.tail_start-start.ensures c.number-2.ensures c.join-f-2.ensures in
     room_as (sym c.number-3.ensures.bits) (room-behind _ h c.add-to.ensures (room_as (sym (tail-long c.args.t.now c.args.c _ c.mark_width-width.ensures.0 (omega arith))) c.requires.room_for))
 

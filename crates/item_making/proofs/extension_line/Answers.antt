@@ -11,8 +11,8 @@ pass_over-requires c =
 pub returns-then-not-is_down : goal.returns-then-not-is_down
 returns-then-not-is_down c = adds-counted c.counted-then.ensures (c.pass_over.ensures.adds _ _ (sym c.line_field-line.ensures.0.wide))
 
-pub add-requires-clause-room_for : goal.add-requires-clause-room_for
-add-requires-clause-room_for c = room_as (sym c.line_field-line.ensures.0.bits) (room-counted c.counted-then.ensures c.requires.room_for)
+pub add-requires : goal.add-requires
+add-requires c = room_as (sym c.line_field-line.ensures.0.bits) (room-counted c.counted-then.ensures c.requires.room_for)
 
 pub returns : goal.returns
 returns c = adds-counted c.counted-then.ensures (adds-as c.line_field-line.ensures.0.bits c.add.ensures)

@@ -8,7 +8,7 @@ pub pass_over-requires : goal.pass_over-requires
 pass_over-requires c =
     let s = c in
     let d = c.is_down in
-    (sym d.ensures ∙ c.if-not-is_down.true, omega (arith, s.requires.room_for.small, length-to_bits s.args.f.width s.args.f.value))
+    (sym d.ensures ∙ c.if-not-is_down.true, omega (arith, s.requires.small, length-to_bits s.args.f.width s.args.f.value))
 
 pub returns-then-not-is_down : goal.returns-then-not-is_down
 returns-then-not-is_down c =
@@ -19,8 +19,8 @@ pub put_near-at-requires : goal.put_near-at-requires
 put_near-at-requires c =
     let s = c in
     let d = c.is_down in
-    let r = field_room s.args.buf.now s.args.pen s.args.f s.requires.full s.requires.room_for in
-    (r.few, r.fits (sym d.ensures ∙ c.if-not-is_down.false), r.small)
+    let r = field_room s.args.buf.now s.args.pen s.args.f s.requires in
+    (r.fits (sym d.ensures ∙ c.if-not-is_down.false), r.small)
 
 pub returns : goal.returns
 returns c =

@@ -16,9 +16,9 @@ put_near-requires c =
     let s = c in
     let a = s.args in
     let d : a.down ≡ true = c.if-not-down.false in
-    let r : RoomFor a.buf.now (fresh true) 0 (field_bits a.f) = subst (λ b. RoomFor a.buf.now (fresh b) 0 (field_bits a.f)) d s.requires.room_for in
+    let r : RoomFor a.buf.now (fresh true) 0 (field_bits a.f) = subst (λ b. RoomFor a.buf.now (fresh b) 0 (field_bits a.f)) d s.requires in
     let l = length-to_bits a.f.width a.f.value in
-    (s.requires.full.few, omega (arith, r.fits refl), omega (arith, r.small))
+    (omega (arith, r.fits refl), omega (arith, r.small))
 
 pub returns : goal.returns
 returns c =

@@ -12,7 +12,7 @@ pub put-at-requires : goal.put-at-requires
 put-at-requires c =
     let s = c in
     let a = s.args in
-    rw c.is_down.ensures (field_room a.buf.now a.pen a.held s.requires.full.0 (room_as (flushed-all a.held a.f c.if-held-f-le56.false) s.requires.room_for))
+    rw c.is_down.ensures (field_room a.buf.now a.pen a.held (room_as (flushed-all a.held a.f c.if-held-f-le56.false) s.requires))
 
 pub returns : goal.returns
 returns c =

@@ -6,12 +6,12 @@ use Rattle.item_pen.proofs.put.Goals as goal
 pub returns-then-not-down : goal.returns-then-not-down
 returns-then-not-down c =
     let a = c.args in
-    record { next = omega (arith, length-to_bits a.n a.v); holds = rw (c.if-not-down.true) refl }
+    record { next = omega (arith, length-to_bits a.f.width a.f.value); holds = rw (c.if-not-down.true) refl }
 
 pub put_bits-requires : goal.put_bits-requires
 put_bits-requires c =
     let r = c.requires in
-    (r.few, r.most, r.fits (c.if-not-down.false), r.small)
+    (r.fits (c.if-not-down.false), r.small)
 
 pub returns : goal.returns
 returns c =

@@ -11,25 +11,25 @@ pub write-c-requires : goal.write-c-requires
 write-c-requires c =
     let a = c.args in
     let l = c.loop-left in
-    let x = length-to_bits a.n a.v in
-    let y = length-to_bits l.left a.v in
+    let x = length-to_bits a.f.width a.f.value in
+    let y = length-to_bits l.left a.f.value in
     (omega arith, omega (arith, l.invariant.1.end, l.invariant.1.long, c.requires), omega (arith, l.invariant.1.end, c.requires))
 
 pub loop-left-preserved : goal.loop-left-preserved
 loop-left-preserved c =
-    (omega arith, part-less c.args.n c.loop-left.left c.args.v (omega arith) c.loop-left.invariant.1 c.write-c.ensures)
+    (omega arith, part-less c.args.f.width c.loop-left.left c.args.f.value (omega arith) c.loop-left.invariant.1 c.write-c.ensures)
 
 pub write-end-requires : goal.write-end-requires
 write-end-requires c =
     let a = c.args in
     let l = c.loop-left in
-    let x = length-to_bits a.n a.v in
-    let y = length-to_bits l.left a.v in
+    let x = length-to_bits a.f.width a.f.value in
+    let y = length-to_bits l.left a.f.value in
     (omega arith, omega (arith, l.invariant.1.end, l.invariant.1.long, c.requires), omega (arith, l.invariant.1.end, c.requires))
 
 pub shape_of-buf : goal.shape_of-buf
 shape_of-buf c =
-    ap length (part-last c.args.n c.loop-left.left c.args.v c.loop-left.invariant.1 c.write-end.ensures).holds ∙ length-put c.args.buf.now c.args.at (to_bits c.args.n c.args.v)
+    ap length (part-last c.args.f.width c.loop-left.left c.args.f.value c.loop-left.invariant.1 c.write-end.ensures).holds ∙ length-put c.args.buf.now c.args.at (to_bits c.args.f.width c.args.f.value)
 
 pub returns : goal.returns
-returns c = part-last c.args.n c.loop-left.left c.args.v c.loop-left.invariant.1 c.write-end.ensures
+returns c = part-last c.args.f.width c.loop-left.left c.args.f.value c.loop-left.invariant.1 c.write-end.ensures

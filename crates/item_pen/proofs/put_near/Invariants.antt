@@ -4,7 +4,7 @@ use Rattle.bits.specs.Writing.{Left}
 use Rattle.item_pen.proofs.put_near.Given as goal
 
 abbrev pub invariant-loop-left : goal.invariant-loop-left
-invariant-loop-left l = (l.left ≤ l.n) × Left l.initial.buf l.at (to_bits l.n l.v) l.buf l.c.at (to_bits l.left l.v)
+invariant-loop-left l = (l.left ≤ l.f.width) × Left l.initial.buf l.at (to_bits l.f.width l.f.value) l.buf l.c.at (to_bits l.left l.f.value)
 
 abbrev pub decreases-loop-left : goal.decreases-loop-left
 decreases-loop-left l = l.left

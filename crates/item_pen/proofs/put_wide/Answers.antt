@@ -7,5 +7,5 @@ returns c =
     let a = c.args in
     let g = c.requires in
     c.put_eight.ensures
-    ∙ put-wide-is a.buf.now a.at a.n a.v c.eight_at-old.result c.merged.result (λ j. (c.slice_known-1.given j).fits)
-    g.3 g.0 g.1 g.2 c.eight_at-old.ensures c.merged.ensures
+    ∙ put-wide-is a.buf.now a.at a.f.width a.f.value c.eight_at-old.result c.merged.result (λ j. (c.slice_known-1.given j).fits)
+    g.1 g.0 a.f.few a.f.most c.eight_at-old.ensures c.merged.ensures

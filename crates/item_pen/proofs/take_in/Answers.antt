@@ -8,9 +8,9 @@ pub returns-then-held-f-le56 : goal.returns-then-held-f-le56
 returns-then-held-f-le56 c =
     let a = c.args in
     let j = c.join.ensures in
-    record { full = j.full; bits = ap (λ l. l ++ field_bits c.join.result) (flushed-none a.held a.f c.if-held-f-le56.true) ∙ j.bits }
+    record { bits = ap (λ l. l ++ field_bits c.join.result) (flushed-none a.held a.f c.if-held-f-le56.true) ∙ j.bits }
 
 pub returns : goal.returns
 returns c =
     let s = c in
-    record { full = s.requires.1; bits = ap (λ l. l ++ field_bits s.args.f) (flushed-all s.args.held s.args.f c.if-held-f-le56.false) }
+    record { bits = ap (λ l. l ++ field_bits s.args.f) (flushed-all s.args.held s.args.f c.if-held-f-le56.false) }

@@ -8,8 +8,8 @@ use Rattle.order_listing.proofs.add_names.Goals as goal
 pub loop-i-init : goal.loop-i-init
 loop-i-init c = pending-all _ _ 0 _
 
-pub add-to-requires-clause-room_for : goal.add-to-requires-clause-room_for
-add-to-requires-clause-room_for c =
+pub add-to-requires : goal.add-to-requires
+add-to-requires c =
     let a = c.args in
     let l = c.loop-i in
     let e = names-next a.t.now a.order.now a.n l.i (omega arith) in

@@ -1,4 +1,4 @@
-use Rattle.std.proofs.Common.{refl, ◌≡◌, ◌+◌, ◌*◌, true, false, rules, tests, arith}
+use Rattle.std.proofs.Common.{refl, ◌≡◌, true, false, rules, tests, arith}
 use Rattle.std.proofs.lemmas.Iterator.{cases_from_all, YieldsList-from_range}
 use Rattle.ordering.specs.Reading.{parent_at, listed}
 use Rattle.order_placed.specs.Placing.{settled_in, free_in}
@@ -16,6 +16,6 @@ returns c =
     let t = c.args.t in
     let out = c.args.out in
     rw (← c.has.ensures, c.if-has.false)
-    (all_range (λ i. parent_at p (8 * t + i)) (settled_in p out) _ _ c.from.ensures c.all.result
-    (cases_from_all _ _ _ (λ i. settled_in p out (parent_at p (8 * t + i)) ≡ true) (λ i. settled_in p out (parent_at p (8 * t + i)) ≡ false) c.all.ensures.ran
+    (all_range (λ i. parent_at p t i) (settled_in p out) _ _ c.from.ensures c.all.result
+    (cases_from_all _ _ _ (λ i. settled_in p out (parent_at p t i) ≡ true) (λ i. settled_in p out (parent_at p t i) ≡ false) c.all.ensures.ran
     (YieldsList-from_range 0 _ _ refl (omega arith)) (λ x q k. search (rules, tests)) (λ x q k. search (rules, tests))))

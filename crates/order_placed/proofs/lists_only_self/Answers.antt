@@ -1,4 +1,4 @@
-use Rattle.std.proofs.Common.{refl, ◌≡◌, ◌+◌, ◌*◌, true, false, rules, tests, arith}
+use Rattle.std.proofs.Common.{refl, ◌≡◌, true, false, rules, tests, arith}
 use Rattle.std.proofs.lemmas.Iterator.{cases_from_all, YieldsList-from_range}
 use Rattle.ordering.specs.Reading.{parent_at, listed, self_in}
 use Rattle.order_placed.proofs.RangeLaws.{all_range}
@@ -9,6 +9,6 @@ unfolding listed
 returns c =
     let p = c.args.l.now in
     let t = c.args.t in
-    all_range (λ i. parent_at p (8 * t + i)) (self_in p) _ _ c.from.ensures c.all.result
-    (cases_from_all _ _ _ (λ i. self_in p (parent_at p (8 * t + i)) ≡ true) (λ i. self_in p (parent_at p (8 * t + i)) ≡ false) c.all.ensures.ran
+    all_range (λ i. parent_at p t i) (self_in p) _ _ c.from.ensures c.all.result
+    (cases_from_all _ _ _ (λ i. self_in p (parent_at p t i) ≡ true) (λ i. self_in p (parent_at p t i) ≡ false) c.all.ensures.ran
     (YieldsList-from_range 0 _ _ refl (omega arith)) (λ x q k. search (rules, tests)) (λ x q k. search (rules, tests)))

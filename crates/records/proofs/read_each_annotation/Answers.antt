@@ -7,6 +7,7 @@ use Rattle.fields.specs.Fields.{of_parsed, fault_of}
 use Rattle.fields.specs.FieldLaws.{err_was}
 use Rattle.fields.specs.ParseLaws.{repeat-none, repeat-next, repeat-refused}
 use Rattle.records.specs.Annotations.{annotation_of, of_annotations}
+use Rattle.records.specs.AnnotationLaws.{annotations_more}
 use Rattle.records.proofs.read_each_annotation.Goals as goal
 
 pub returns-in_err-annotation : goal.returns-in_err-annotation
@@ -29,7 +30,7 @@ loop-preserved c =
       l.invariant.1
           ∙ repeat-next (of_annotations l.annotations) (annotation a.s.words a.single) a.n l.counter (drop l.next.at bs) (annotation_of v.annotation) (drop v.end.at bs) (omega arith)
           (sym c.read_annotation.ensures ∙ ap (of_parsed annotation_of bs) v.was)
-          ∙ rw c.push.ensures.0 refl,
+          ∙ rw (annotations_more l.annotations c.push.new.self v.annotation c.push.ensures.0) refl,
     )
 
 pub returns : goal.returns

@@ -7,6 +7,7 @@ use Rattle.fields.specs.Fields.{of_parsed, fault_of}
 use Rattle.fields.specs.FieldLaws.{err_was}
 use Rattle.fields.specs.ParseLaws.{repeat-none, repeat-next, repeat-refused}
 use Rattle.records.specs.Marks.{mark_of, of_marks}
+use Rattle.records.specs.MarkLaws.{marks_more}
 use Rattle.records.proofs.read_each_mark.Goals as goal
 
 pub returns-in_err-mark : goal.returns-in_err-mark
@@ -29,7 +30,7 @@ loop-preserved c =
       l.invariant.1
           ∙ repeat-next (of_marks l.marks) mark a.n l.counter (drop l.next.at bs) (mark_of v.mark) (drop v.end.at bs) (omega arith)
           (sym c.read_mark.ensures ∙ ap (of_parsed mark_of bs) v.was)
-          ∙ rw c.push.ensures.0 refl,
+          ∙ rw (marks_more l.marks c.push.new.self v.mark c.push.ensures.0) refl,
     )
 
 pub returns : goal.returns

@@ -12,7 +12,7 @@ put_packed-requires c =
     let a = c.args in
     let r = c.requires in
     let d = c.if-not-down.false in
-    record { room = record { few = r.room.few; most = r.room.most; fits = λ _. r.room.fits d; small = r.room.small }; width_nonzero = r.aligned.some }
+    record { room = record { fits = λ _. r.room.fits d; small = r.room.small }; width_nonzero = r.aligned.some }
 
 pub returns-then-packed : goal.returns-then-packed
 returns-then-packed c =

@@ -80,6 +80,22 @@ overflow_add-at c =
     let d = ready a.w a.reading a.down a.source.now a.target.now l.target l.place l.at l.to l.invariant.0 l.rule l.invariant.1 w h in
     omega (arith, d.1, in-form a.reading l.rule.width d.0, n.ensures)
 
+pub invariant_of-field : goal.invariant_of-field
+invariant_of-field c =
+    let a = c.args in
+    let w = c.requires in
+    let l = c.loop-rule in
+    let h : 0 < l.rule.width = omega (arith, c.loop-rule-test.true) in
+    let n = c.in_form-n in
+    let m = c.in_other_form-m in
+    let d = ready a.w a.reading a.down a.source.now a.target.now l.target l.place l.at l.to l.invariant.0 l.rule l.invariant.1 w h in
+    let y : l.to + m.result ≤ most_bits = omega (arith, d.2, in-form (not a.reading) l.rule.width d.0, m.ensures) in
+    let r = subst (λ (b : Bool). Met b n.result l.rule a.source.now l.at c.in_ok-value.value) (ap (λ (i : ℕ). ltb i (l.to + m.result)) l.invariant.3 ∙ past-within (length a.target.now) (l.to + m.result) y) c.in_ok-value.ensures in
+    record {
+      few = omega (arith, (in-form (not a.reading) l.rule.width d.0).1, m.ensures);
+      most = value-lt a.w a.reading a.down a.source.now a.target.now l.target l.place l.at l.to l.invariant.0 l.rule l.invariant.1 w h n.result m.result n.ensures m.ensures _ r;
+    }
+
 pub lay-to-requires : goal.lay-to-requires
 lay-to-requires c =
     let a = c.args in
@@ -93,8 +109,6 @@ lay-to-requires c =
     let r = subst (λ (b : Bool). Met b n.result l.rule a.source.now l.at c.in_ok-value.value) (ap (λ (i : ℕ). ltb i (l.to + m.result)) l.invariant.3 ∙ past-within (length a.target.now) (l.to + m.result) y) c.in_ok-value.ensures in
     let i = in-form (not a.reading) l.rule.width d.0 in record {
       room = record {
-        few = omega (arith, i.1, m.ensures);
-        most = value-lt a.w a.reading a.down a.source.now a.target.now l.target l.place l.at l.to l.invariant.0 l.rule l.invariant.1 w h n.result m.result n.ensures m.ensures _ r;
         fits = λ _. omega (arith, fits_in a.w a.reading a.down a.source.now a.target.now l.target l.place l.at l.to l.invariant.0 l.rule l.invariant.1 w h n.result m.result n.ensures m.ensures _ r, d.4);
         small = omega (arith, y);
       };

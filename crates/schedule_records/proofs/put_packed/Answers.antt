@@ -5,7 +5,7 @@ use Rattle.schedule_records.proofs.put_packed.Goals as goal
 pub put_wide-requires : goal.put_wide-requires
 put_wide-requires c =
     let p = c.requires in
-    (p.width_nonzero, p.room.few, p.room.most, omega (arith, c.if-at-target.true))
+    (p.width_nonzero, omega (arith, c.if-at-target.true))
 
 pub returns-then-at-target : goal.returns-then-at-target
 returns-then-at-target c =

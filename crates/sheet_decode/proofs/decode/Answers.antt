@@ -1,6 +1,5 @@
-use Rattle.sheet_repeats.specs.declared.Sizes.{Sizes}
 use Rattle.std.proofs.lemmas.Result.{err_from_is_err_and}
-use Rattle.sheet_decode.specs.DecodeLaws.{listed, not_listed, low, back_as, fill-back, words_back, twice-back, passes}
+use Rattle.sheet_decode.specs.DecodeLaws.{listed, not_listed, back_as, fill-back, words_back, twice-back, passes}
 use Rattle.sheet_repeats.specs.TwiceLaws.{twice-is}
 use Rattle.definitions.specs.Bits.{bits_of}
 use mathlib.Core.Path.{refl, sym, ◌∙◌}
@@ -31,11 +30,7 @@ returns-then-l c =
 
 pub order_by_key-requires : goal.order_by_key-requires
 order_by_key-requires c =
-    let bytes = c.args.s.now in
-    let x = c.read_lists in
-    let l = c.in_ok-l.l in
-    let h = listed bytes x.new.d x.new.t l (rw c.in_ok-l.was at x.ensures.0) in
-    ((rw c.in_ok-l.was at x.ensures.1).count, low bytes x.new.d x.new.t l h)
+    (rw c.in_ok-l.was at c.read_lists.ensures.1).count
 
 pub returns-then-is_something_twice : goal.returns-then-is_something_twice
 returns-then-is_something_twice c =
@@ -45,10 +40,9 @@ returns-then-is_something_twice c =
     let d = x.new.d in
     let t = x.new.t in
     let h = listed bytes d t l (rw c.in_ok-l.was at x.ensures.0) in
-    let n : Sizes = record { words = l.width; types = l.count; extensions = l.extensions } in
     let en = c.order_by_key.ensures in
     let entries = c.order_by_key.new.entries in
-    let z = sym (c.is_something_twice.ensures ∙ twice-is h.s (bits_of bytes) d entries t n (rw c.in_ok-l.was at x.ensures.1).count en h.width h.types h.extensions) in
+    let z = sym (c.is_something_twice.ensures ∙ twice-is h.s (bits_of bytes) d entries t l.read (rw c.in_ok-l.was at x.ensures.1).count en h.width h.types h.extensions) in
     back_as bytes _ 6 refl
     (twice-back bytes d t l h (sym c.is_bad_fill.ensures ∙ c.if-is_bad_fill.false) c.if-l.false (z ∙ c.if-is_something_twice.true))
 
@@ -60,8 +54,7 @@ returns c =
     let d = x.new.d in
     let t = x.new.t in
     let h = listed bytes d t l (rw c.in_ok-l.was at x.ensures.0) in
-    let n : Sizes = record { words = l.width; types = l.count; extensions = l.extensions } in
     let en = c.order_by_key.ensures in
     let entries = c.order_by_key.new.entries in
-    let z = sym (c.is_something_twice.ensures ∙ twice-is h.s (bits_of bytes) d entries t n (rw c.in_ok-l.was at x.ensures.1).count en h.width h.types h.extensions) in
-    passes bytes d t l h (sym c.is_bad_fill.ensures ∙ c.if-is_bad_fill.false) c.if-l.false (z ∙ c.if-is_something_twice.false) c.requires entries en (rw c.in_ok-l.was at x.ensures.1) _ refl refl refl refl refl
+    let z = sym (c.is_something_twice.ensures ∙ twice-is h.s (bits_of bytes) d entries t l.read (rw c.in_ok-l.was at x.ensures.1).count en h.width h.types h.extensions) in
+    passes bytes d t l h (sym c.is_bad_fill.ensures ∙ c.if-is_bad_fill.false) c.if-l.false (z ∙ c.if-is_something_twice.false) c.requires entries en (rw c.in_ok-l.was at x.ensures.1)

@@ -1,4 +1,4 @@
-use Rattle.sheet_extensions.specs.RecordLaws.{records-none, records-more, few-none, few-more}
+use Rattle.sheet_extensions.specs.RecordLaws.{records-none, records-more}
 use Rattle.sheet_extensions.specs.Records.{record_in, records_in}
 use Rattle.fields.specs.FieldLaws.{err_was}
 use Rattle.fields.specs.ParseLaws.{repeat-none, repeat-next, repeat-refused}
@@ -16,7 +16,7 @@ use Rattle.sheet_extensions.proofs.read_each_record.Goals as goal
 pub loop-e-init : goal.loop-e-init
 loop-e-init c =
     let a = c.args in
-    (few-none a.t.now, rw (sub-zero a.n, records-none a.t.now) refl)
+    rw (sub-zero a.n, records-none a.t.now) refl
 
 pub returns-in_err-next : goal.returns-in_err-next
 returns-in_err-next c =
@@ -26,7 +26,7 @@ returns-in_err-next c =
     let bs = bits_of a.s.bytes.now in
     let r = c.in_err-next.field-0.0 in
     rw (err_was _ r c.from_residual.ensures.1) (
-      sym (l.invariant.1 ∙ repeat-refused (records_in l.t l.e) (extension a.s.words) _ (drop l.next.at bs) (fault_of r) (omega arith)
+      sym (l.invariant ∙ repeat-refused (records_in l.t l.e) (extension a.s.words) _ (drop l.next.at bs) (fault_of r) (omega arith)
           (sym x.0 ∙ rw c.in_err-next.was refl)),
       tt,
     )
@@ -38,13 +38,11 @@ loop-e-preserved c =
     let x = c.read_record.ensures in
     let bs = bits_of a.s.bytes.now in
     let v = c.in_ok-next in
-    let u = c.read_record.new.t in (
-      few-more l.e l.t u x.1 (rw v.was at x.2) l.invariant.0,
-      l.invariant.1
-          ∙ repeat-next (records_in l.t l.e) (extension a.s.words) a.n l.e (drop l.next.at bs) (record_in u l.e) (drop v.next.at bs) (omega arith)
-          (sym x.0 ∙ rw v.was refl)
-          ∙ rw (records-more l.e l.t u l.invariant.0 x.1) refl,
-    )
+    let u = c.read_record.new.t in
+    l.invariant
+    ∙ repeat-next (records_in l.t l.e) (extension a.s.words) a.n l.e (drop l.next.at bs) (record_in u l.e) (drop v.next.at bs) (omega arith)
+    (sym x.0 ∙ rw v.was refl)
+    ∙ rw (records-more l.e l.t u x.1) refl
 
 pub returns : goal.returns
 returns c =
@@ -53,6 +51,6 @@ returns c =
     let bs = bits_of a.s.bytes.now in
     let q : l.e ≡ a.n = omega arith in (
       ap (λ (k : ℕ). done (records_in l.t k) (drop l.next.at bs)) (sym q)
-          ∙ sym (l.invariant.1 ∙ repeat-none (records_in l.t l.e) (extension a.s.words) _ (drop l.next.at bs) (omega arith)),
+          ∙ sym (l.invariant ∙ repeat-none (records_in l.t l.e) (extension a.s.words) _ (drop l.next.at bs) (omega arith)),
       c.requires,
     )

@@ -1,6 +1,6 @@
-use Rattle.sheet_types.specs.Rows.{NotesRead}
+use Rattle.sheet_types.specs.Rows.{NotesRead, row_type}
 use Rattle.sheet_types.specs.RowLaws.{types-none, types_more, read_none, read_more}
-use Rattle.sheet_draft.specs.Draft.{type_in, types_in}
+use Rattle.sheet_draft.specs.Draft.{types_in}
 use Rattle.fields.specs.FieldLaws.{err_was}
 use Rattle.fields.specs.ParseLaws.{repeat-none, repeat-next, repeat-refused}
 use Rattle.definitions.specs.Reading.{type_info}
@@ -12,6 +12,7 @@ use native.Mathlib.Nat.{sub-zero}
 use Prim.Native.Nat.{ℕ}
 use mathlib.Core.Path.{◌≡◌, refl, sym, ap, ◌∙◌, subst}
 use native.Mathlib.Omega.{arith}
+use Rattle.std.proofs.Common.{rules}
 use Rattle.sheet_types.proofs.read_each_type.Goals as goal
 
 pub loop-i-init : goal.loop-i-init
@@ -39,12 +40,12 @@ loop-i-preserved c =
     let e = c.read_type.ensures in
     let bs = bits_of a.s.bytes.now in
     let v = c.in_ok-next in
-    let u = c.read_type.new.d in (
-      read_more a.s.words bs l.i l.d u e.1 (rw v.was at e.2) l.invariant.0,
+    let u = c.read_type.new.row in (
+      read_more a.s.words bs l.i l.d u (search rules) (rw v.was at e.1) l.invariant.0,
       l.invariant.1
-          ∙ repeat-next (types_in a.s.words bs l.d l.i) (type_info a.s.words) a.n l.i (drop l.next.at bs) (type_in a.s.words bs u l.i) (drop v.next.at bs) (omega arith)
+          ∙ repeat-next (types_in a.s.words bs l.d l.i) (type_info a.s.words) a.n l.i (drop l.next.at bs) (row_type a.s.words bs u) (drop v.next.at bs) (omega arith)
           (sym e.0 ∙ rw v.was refl)
-          ∙ rw (types_more a.s.words bs l.i l.d u e.1) refl,
+          ∙ rw (types_more a.s.words bs l.i l.d u (search rules)) refl,
     )
 
 pub returns : goal.returns

@@ -1,7 +1,7 @@
 use native.Mathlib.Omega.{arith}
 use mathlib.Core.Path.{refl}
 use lib.Bits.{or_lt}
-use Rattle.sheet_words.specs.Words.{marks}
+use Rattle.sheet_words.specs.Bytes.{marks}
 use Rattle.sheet_words.proofs.marked.Goals as goal
 
 pub overflow_add-letter : goal.overflow_add-letter

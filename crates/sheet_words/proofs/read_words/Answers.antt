@@ -15,7 +15,7 @@ read_each_word-requires c =
     let a = c.args in
     let bs = bits_of a.s.now in
     let h = between_in 8 2 200 (drop a.c.at bs) c.in_ok-n.n _ (sym c.read_between.ensures ∙ ap (of_field bs) c.in_ok-n.was) in
-    (c.requires, h.1)
+    h.1
 
 pub returns : goal.returns
 unfolding counted

@@ -1,14 +1,10 @@
 use mathlib.Core.Path.{refl, ◌∙◌}
-use Rattle.definitions.specs.Bits.{bits_of}
 use Rattle.sheet_words.specs.WordLaws.{self-test}
 use Rattle.sheet_words.proofs.with_name.Goals as goal
 
 pub returns : goal.returns
-returns c =
-    let b = c in
-    let bs = bits_of b.args.s.now in
-    record {
-      rising = refl;
-      class = c.first_place.ensures ∙ rw c.is_resource.ensures refl;
-      self = c.first_place-2.ensures ∙ rw (self-test bs b.args.w b.requires.1) refl;
-    }
+returns c = record {
+  rising = refl;
+  class = c.first_place.ensures ∙ rw c.is_resource.ensures refl;
+  self = c.first_place-2.ensures ∙ rw (self-test c.args.w) refl;
+}

@@ -6,7 +6,7 @@ use Rattle.std.proofs.lemmas.Iterator.Search.{any_from_yields_List}
 use Rattle.lists.specs.Lists.{null}
 use Rattle.rows.specs.Rows.{has}
 use Rattle.rows.specs.Lists.{below}
-use Rattle.synth_classes.specs.Doms.{doms_left}
+use Rattle.synth_classes.specs.Numbers.{numbers_left}
 use Rattle.synth_classes.specs.Walks.{among-kept}
 use Rattle.synth_same.specs.Same.{real_at, virtual_in}
 use Rattle.synth_same.specs.SameLaws.{any-real}
@@ -16,6 +16,6 @@ pub returns : goal.returns
 unfolding virtual_in
 returns c =
     let a = c.args in
-    let l = YieldsList-from_first (λ x. x) doms_left (below (has a.doms) 201) c.of.ensures in
-    let e = any_from_yields_List (real_at a.t.now a.word) _ _ c.any.result c.any.ensures.ran l (λ x b q h. search rules) in
-    ap not e ∙ any-real (real_at a.t.now a.word) (below (has a.doms) 201) ∙ ap null (sym (among-kept a.doms (real_at a.t.now a.word)))
+    let l = YieldsList-from_first (λ x. x) (numbers_left 201) {s = c.of.result} (below (has a.doms) 201) c.of.ensures in
+    let e = any_from_yields_List (real_at a.t.now a.site.word) (record { row = _; from = _; few = c.of.result.few }) _ c.any.result c.any.ensures.ran l (λ x b q h. search rules) in
+    ap not e ∙ any-real (real_at a.t.now a.site.word) (below (has a.doms) 201) ∙ ap null (sym (among-kept a.doms (real_at a.t.now a.site.word)))

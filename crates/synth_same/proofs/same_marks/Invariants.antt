@@ -3,4 +3,4 @@ use Rattle.synth_same.specs.SameLaws.{Alike}
 use Rattle.synth_same.proofs.same_marks.Given as goal
 
 abbrev pub invariant-loop-i : goal.invariant-loop-i
-invariant-loop-i l = Alike (bits_in l.t l.d l.word) (bits_in l.t l.e l.word) l.i
+invariant-loop-i l = Alike (bits_in l.t l.d l.site.word) (bits_in l.t l.e l.site.word) l.i

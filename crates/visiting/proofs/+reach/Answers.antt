@@ -19,8 +19,8 @@ marked-flags-requires t c =
     let r = c.requires in
     let e = c.from-i-end.ensures in
     let b = parent-rank a.l.now r.orderly a.t r.t_bound.0 a.trail.now c.loop-i.i (omega (arith, e, c.loop-i-test.true)) in (
-      omega (arith, e, c.loop-i-test.true, r.orderly.valid.parents a.t r.t_bound.0),
-      omega (arith, c.place-place.ensures, b.0, r.orderly.valid.types),
+      omega (arith, e, c.loop-i-test.true, a.l.now.short a.t),
+      omega (arith, c.place-place.ensures, b.0, a.l.now.few),
     )
 
 -- the parent is a type, earlier in the order
@@ -50,8 +50,8 @@ push-requires t c =
     let p = a.l.now in
     let e : l.i ≡ how_many p a.t = omega (arith, c.from-i-end.ensures) in
     let s = going-standing p r.orderly a.t r.t_bound.0 a.trail.now l.i l.trail l.flags e r.t_bound.1 (sym c.has.ensures ∙ c.if-has.false) l.invariant in (
-      omega (arith, room p r.orderly l.trail a.t l.invariant.held s, r.orderly.valid.types),
-      omega (arith, r.orderly.valid.types, r.t_bound.0),
+      omega (arith, room p r.orderly l.trail a.t l.invariant.held s, a.l.now.few),
+      omega (arith, a.l.now.few, r.t_bound.0),
     )
 
 pub returns : goal.returns

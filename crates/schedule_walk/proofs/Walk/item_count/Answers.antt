@@ -1,0 +1,5 @@
+use Rattle.schedule_walk.specs.FormLaws.{reads-rule}
+use Rattle.schedule_walk.proofs.Walk.item_count.Goals as goal
+
+pub returns : goal.returns
+returns c = reads-rule _ _ _ c.rule_at.ensures c.field.ensures

@@ -1,0 +1,5 @@
+use Rattle.store.specs.StoreLaws.{nothing-fit}
+use Rattle.store.proofs.Saved.nothing.Goals as goal
+
+pub invariant_of-result : goal.invariant_of-result
+invariant_of-result c = record { fit = nothing-fit _ _ c.no_doms-doms.ensures }
