@@ -25,12 +25,14 @@ module _ (entries : List Entry) (a : ℕ) (h : a < 64) where
       let e : k ≡ key_of (k / 256) ((k % 256 + 255) % 256) = omega arith in
       e ∙ sym (ap₂ key_of first-at second_at_lem)
 
-  -- what is marked for the name of a key
-  pub marked-at : (t : Catalogue) (name : Name) {new : Catalogue} → key_in entries a < 65536 → name ≡ name_with (key_in entries a)
+  -- what is marked for the bytes of a key
+  pub marked-at : (t : Catalogue) (first second : ℕ) {new : Catalogue} → first ≡ key_in entries a / 256 → second ≡ (key_in entries a % 256 + 255) % 256
+      → new ≡ name_marked t a first second → new ≡ name_marked t a (get_or (firsts_of entries) a 0) (get_or (seconds_of entries) a 0)
+  marked-at t first second e f q = q ∙ ap₂ (name_marked t a) (e ∙ sym first-at) (f ∙ sym second_at_lem)
+
+  -- what is marked for the name of a key, whose first byte is the key's where that has two bytes
+  pub named-at : (t : Catalogue) (name : Name) {new : Catalogue} → key_in entries a < 65536 → name ≡ name_with (key_in entries a)
       → new ≡ name_marked t a name.first name.second → new ≡ name_marked t a (get_or (firsts_of entries) a 0) (get_or (seconds_of entries) a 0)
-  marked-at t name small e q =
+  named-at t name small e q =
       let f : (key_in entries a) / 256 % 256 ≡ key_in entries a / 256 = omega (arith, small) in
-      q
-      ∙ ap₂ (name_marked t a)
-      (ap (λ (n : Name). n.first) e ∙ f ∙ sym first-at)
-      (ap (λ (n : Name). n.second) e ∙ sym second_at_lem)
+      marked-at t name.first name.second (ap (λ (n : Name). n.first) e ∙ f) (ap (λ (n : Name). n.second) e) q

@@ -90,7 +90,7 @@ fn same_virtual(t: &Catalogue, a: usize, c: usize, classes: u64) -> bool
 
 // Of the last `left` bits of marks, how many are left behind the bits of `next`; none where they do not begin so.
 #[tactic(auto, unfolding(crate::specs::Tests::behind))]
-fn bits_behind(marks: u64, left: usize, next: u64, width: usize) -> Option<usize>
+fn bits_behind(marks: u64, left: u64, next: u64, width: u64) -> Option<u64>
     ensures { number_left result ≡ behind marks left next width }
 {
     if left >= 64 || left < width {
@@ -106,13 +106,14 @@ fn bits_behind(marks: u64, left: usize, next: u64, width: usize) -> Option<usize
 }
 
 // The same behind the marks of the classes of a set in turn (FORMAT 4.7).
+// Not Catalogue::mark_width: its remainder is a tally's eighth where a tally is below 512, and this law is of any catalogue.
 #[tactic(auto, using(crate::specs::TestLaws::follow_next, crate::specs::TestLaws::follow_stop, crate::specs::TestLaws::follow_end))]
-fn marks_behind(t: &Catalogue, marks: u64, left: usize, classes: u64) -> Option<usize>
+fn marks_behind(t: &Catalogue, marks: u64, left: u64, classes: u64) -> Option<u64>
     ensures { number_left result ≡ follow t.now marks left (members classes) }
 {
     let mut rest = left;
     for e in bitsets::members(classes) {
-        rest = bits_behind(marks, rest, t.marks[e], t.mark_width(e))?;
+        rest = bits_behind(marks, rest, t.marks[e], t.tallies[e] / 8)?;
     }
     Some(rest)
 }
@@ -126,7 +127,7 @@ fn same_marks(t: &Catalogue, c: usize, classes: u64) -> bool
 {
     let marks = t.marks[c];
     let alone = t.seconds[0];
-    match marks_behind(t, marks, t.mark_width(c), classes & alone) {
+    match marks_behind(t, marks, t.tallies[c] / 8, classes & alone) {
         None => false,
         Some(rest) => matches!(
             marks_behind(t, marks, rest, bitsets::without(classes, alone)),

@@ -38,7 +38,7 @@ module _ (t : Catalogue) (e key count : ℕ) (few : e < 32) (keys : length t.ext
   set_key : extension_key_at (record_set t e key count) e ≡ key
   set_key = Seq.get_or-set_same t.extension_keys e key 0 (omega arith)
 
-  set-count : extension_count_at (record_set t e key count) e ≡ count
+  pub set-count : extension_count_at (record_set t e key count) e ≡ count
   set-count = Seq.get_or-set_same t.extension_counts e count 0 (omega arith)
 
 -- records before it

@@ -17,7 +17,7 @@ use Rattle.fields.specs.Keys.{key_of}
 use Rattle.sheet_keys.specs.Keys.{name_of_key, names_in}
 
 -- the key of two words
-key-words : (a b : ℕ) → a < 256 → b < 256 → name_of_key (a * 256 + (b + 1) % 256) ≡ two_words a b
+pub key-words : (a b : ℕ) → a < 256 → b < 256 → name_of_key (a * 256 + (b + 1) % 256) ≡ two_words a b
 unfolding name_of_key
 key-words a b h k =
     let q : (a * 256 + (b + 1) % 256) / 256 ≡ a = omega arith in
@@ -60,11 +60,11 @@ module _ (bs : List Bool) (p W w : ℕ) (l : p + 17 ≤ length bs) (few : W ≤ 
   unfolding name word_field allowed
   first-large h = sym (rw (field_in bs p 8 (p + 8) (omega arith) refl (omega arith), word, le-ltb (w / 512) W h))
 
-  pub one-word : w / 512 < W → w / 256 % 2 ≡ 0 → done (name_of_key (key_of (record { first = w / 512; second = 255 }))) (drop (p + 9) bs) ≡ name W (drop p bs)
+  pub one-word : w / 512 < W → w / 256 % 2 ≡ 0 → done (name_of_key (w / 512 * 256)) (drop (p + 9) bs) ≡ name W (drop p bs)
   unfolding name word_field word_if_flag allowed name_of_key
   one-word h z =
-      let a : (w / 512 * 256 + (255 + 1) % 256) / 256 ≡ w / 512 = omega arith in
-      let b : (w / 512 * 256 + (255 + 1) % 256) % 256 ≡ 0 = omega arith in
+      let a : w / 512 * 256 / 256 ≡ w / 512 = omega arith in
+      let b : w / 512 * 256 % 256 ≡ 0 = omega arith in
       sym (rw (
         field_in bs p 8 (p + 8) (omega arith) refl (omega arith),
         word,
@@ -92,11 +92,11 @@ module _ (bs : List Bool) (p W w : ℕ) (l : p + 17 ≤ length bs) (few : W ≤ 
           le-ltb (w % 256) W k,
         ))
 
-    pub two-words : w % 256 < W → done (name_of_key (key_of (record { first = w / 512; second = w % 256 }))) (drop (p + 17) bs) ≡ name W (drop p bs)
+    pub two-words : w % 256 < W → done (name_of_key (w / 512 * 256 + w % 256 + 1)) (drop (p + 17) bs) ≡ name W (drop p bs)
     unfolding name word_field word_if_flag allowed name_of_key
     two-words k =
-        let a : (w / 512 * 256 + (w % 256 + 1) % 256) / 256 ≡ w / 512 = omega (arith, few, k) in
-        let b : (w / 512 * 256 + (w % 256 + 1) % 256) % 256 ≡ w % 256 + 1 = omega (arith, few, k) in
+        let a : (w / 512 * 256 + w % 256 + 1) / 256 ≡ w / 512 = omega arith in
+        let b : (w / 512 * 256 + w % 256 + 1) % 256 ≡ w % 256 + 1 = omega arith in
         let c : w % 256 + 1 - 1 ≡ w % 256 = omega arith in
         sym (rw (
           field_in bs p 8 (p + 8) (omega arith) refl (omega arith),

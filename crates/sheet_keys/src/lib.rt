@@ -8,9 +8,10 @@ ghost use Rattle.fields.specs.Fields.{bits_in};
 ghost use Rattle.sheet_keys.specs.Keys.{of_key_read, of_names};
 
 use bits::Cursor;
-use fields::{Fault, Key, Name, Parsed, Sheet};
+use fields::{Fault, Key, Parsed, Sheet};
 
-// A name out of 17 bits that are there, of which it has 9 or 17.
+// A name out of 17 bits that are there, of which it has 9 or 17. Its key is made of the window itself: by way of a `Name` the
+// largest sheet takes 22 % more.
 fn key_in(s: Sheet, at: usize) -> Parsed<Key>
     requires { at / 8 + 4 ≤ length s.bytes.now }
     ensures { of_key_read (bits_in s.entry) result ≡ name s.entry.words (drop at (bits_in s.entry)) }
@@ -22,20 +23,12 @@ fn key_in(s: Sheet, at: usize) -> Parsed<Key>
         return Err(Fault::NotAllowed);
     }
     if w / 256 % 2 == 0 {
-        let name = Name {
-            first: a as u8,
-            second: 255,
-        };
-        return Ok((Key::from(name), Cursor { at: at + 9 }));
+        return Ok(((a * 256) as u64, Cursor { at: at + 9 }));
     }
     if s.words <= b {
         return Err(Fault::NotAllowed);
     }
-    let name = Name {
-        first: a as u8,
-        second: b as u8,
-    };
-    Ok((Key::from(name), Cursor { at: at + 17 }))
+    Ok(((a * 256 + b + 1) as u64, Cursor { at: at + 17 }))
 }
 
 // A name near the end, field by field.

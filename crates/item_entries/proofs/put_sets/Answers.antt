@@ -1,6 +1,6 @@
 use Rattle.std.proofs.Common.{◌<◌, arith}
 use Rattle.item_names.specs.NamesLaws.{sets-none, sets_more}
-use Rattle.item_entries.specs.EntryLaws.{first-at, marked-at}
+use Rattle.item_entries.specs.EntryLaws.{first-at, named-at}
 use Rattle.item_entries.proofs.put_sets.Goals as goal
 
 pub loop-a-init : goal.loop-a-init
@@ -14,4 +14,4 @@ loop-a-preserved c =
     let small = h.small l.a c.loop-a-test.true in
     let f = first-at c.args.entries.now l.a k in
     sets_more _ _ l.a _ l.t k (omega (arith, f, small)) c.mark_name.ensures.long l.invariant
-    (marked-at c.args.entries.now l.a k l.t c.from-name.result small c.from-name.ensures c.mark_name.ensures.sets)
+    (named-at c.args.entries.now l.a k l.t c.from-name.result small c.from-name.ensures c.mark_name.ensures.sets)

@@ -6,4 +6,4 @@ use Rattle.item_refusal.proofs.marks_behind.Goals as goal
 pub returns-in_err-rest : goal.returns-in_err-rest
 returns-in_err-rest c =
     let w = c.in-Some.ensures.steps in
-    ap number_left c.from_residual.ensures ∙ sym (c.loop-e.invariant.2 ∙ follow_stop _ _ _ _ _ _ _ w.0 w.1 c.mark_width.ensures.0 c.in_err-rest.ensures)
+    ap number_left c.from_residual.ensures ∙ sym (c.loop-e.invariant.2 ∙ follow_stop _ _ _ _ _ _ w.0 w.1 c.in_err-rest.ensures)

@@ -22,7 +22,7 @@ returns-then-w-eq0 c =
     let m = c.requires in
     let bs = bits_of a.s.bytes.now in
     let l : a.at + 17 ≤ length bs = omega (arith, length-bits_of a.s.bytes.now, m) in
-    rw c.from.ensures (one-word bs a.at a.s.words w.result l a.s.few w.ensures (omega arith) c.if-w-eq0.true)
+    one-word bs a.at a.s.words w.result l a.s.few w.ensures (omega arith) c.if-w-eq0.true
 
 pub returns-then-s-b : goal.returns-then-s-b
 returns-then-s-b c =
@@ -40,4 +40,4 @@ returns c =
     let m = c.requires in
     let bs = bits_of a.s.bytes.now in
     let l : a.at + 17 ≤ length bs = omega (arith, length-bits_of a.s.bytes.now, m) in
-    rw c.from-2.ensures (two-words bs a.at a.s.words w.result l a.s.few w.ensures (omega arith) (omega (arith, c.if-w-eq0.false)) (omega arith))
+    two-words bs a.at a.s.words w.result l a.s.few w.ensures (omega arith) (omega (arith, c.if-w-eq0.false)) (omega arith)
