@@ -1,5 +1,6 @@
 pub mod Ending
 pub mod Lines
+pub mod Calls
 pub mod Tables
 pub mod AnswerLaws
 pub mod ReadLaws

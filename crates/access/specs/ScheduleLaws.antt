@@ -1,5 +1,5 @@
 -- What the schedule call works on: the tables where rows are written, and the catalogue where it is filled.
-use Rattle.std.specs.Prelude.{Bool, true, false, List, ◌≡◌, ℕ, ◌*◌, ◌<◌, length, Option}
+use Rattle.std.specs.Prelude.{Bool, true, false, List, ◌≡◌, ℕ, ◌*◌, ◌<◌, length, take, Option}
 use Rattle.std.proofs.Common.{refl, sym, ap, ◌∙◌, subst, arith}
 use Rattle.lists.specs.Tabulating.{tabulate, tabulate-same}
 use Rattle.definitions.specs.Bits.{bits_of}
@@ -8,7 +8,10 @@ use Rattle.definitions.specs.Map.{TypeMap, type_map_of}
 use Rattle.definitions.specs.Order.{has_order}
 use Rattle.line_laws.specs.Statements.{line_map, any_refused}
 use Rattle.rows.specs.Rows.{has_bit}
+use Rattle.ordering.specs.Lists.{elem}
 use Rattle.ordering.specs.declared.Parents.{Parents}
+use Rattle.item_spread.specs.Spread.{Ordered}
+use Rattle.order_rounds.specs.declared.sequence.Order.{Order}
 use Rattle.own_associates.specs.declared.Location.{Location}
 use Rattle.synthesis.specs.Synthesized.{Synthesizes, Synthesized}
 use Rattle.synth_places.specs.Places as places
@@ -75,7 +78,7 @@ rows-due bytes d entries t n p notes c k b b' count more a q u = record {
 
 -- ---- the catalogue
 
-module _ (bytes : List ℕ) (d : Draft) (entries : List Entry) (t : Catalogue) (n : Decoding) (w : Whole bytes d entries t n) (u : Catalogue) (places : List ℕ) (r : Placing) (o : Looked d entries t u n places true r) where
+module _ (bytes : List ℕ) (d : Draft) (entries : List Entry) (t : Catalogue) (n : Decoding) (w : Whole bytes d entries t n) (u : Catalogue) (places : Order) (r : Placing) (o : Looked d entries t u n places true r) where
   abbrev s : Sheet
   s = w.s
 
@@ -92,9 +95,7 @@ module _ (bytes : List ℕ) (d : Draft) (entries : List Entry) (t : Catalogue) (
   records =
       records-stand s t u n.extensions
       (tabulate-same (record_in t) (extensions.record_in t) n.extensions (λ e h. record-as t e) ∙ w.extensions.records)
-      (ap (λ (x : Catalogue). x.extension_keys) o.put.kept ∙ ap (λ (x : Catalogue). x.extension_keys) o.names.kept)
-      (ap (λ (x : Catalogue). x.extension_counts) o.put.kept ∙ ap (λ (x : Catalogue). x.extension_counts) o.names.kept)
-      (ap (λ (x : Catalogue). x.extension_parents) o.put.kept ∙ ap (λ (x : Catalogue). x.extension_parents) o.names.kept)
+      (ap (λ (x : Catalogue). x.extensions) o.put.kept ∙ ap (λ (x : Catalogue). x.extensions) o.names.kept)
 
   word-is : n.resource ≡ m.resource
   unfolding type_map_of
@@ -111,8 +112,8 @@ module _ (bytes : List ℕ) (d : Draft) (entries : List Entry) (t : Catalogue) (
         word = word-is;
         names = names;
         parents = record { bits = p.bits; within = p.within; childed = λ b h. ap (λ (y : ℕ). has_bit y b) o.childed ∙ c.bits b h };
-        ordered = o.organized.ordered refl;
-        placed = o.organized.has refl;
+        ordered = subst (λ (i : ℕ). Ordered places.types.items i u.parents) (sym (o.organized.counted refl)) (o.organized.ordered refl);
+        placed = λ a h. ap (λ (i : ℕ). elem a (take i places.types.items)) (o.organized.counted refl) ∙ o.organized.has refl a h;
         extensions = records;
       }
 
@@ -145,13 +146,12 @@ module _ (bytes : List ℕ) (d : Draft) (entries : List Entry) (t : Catalogue) (
     pub refused-is : b ≡ any_refused (line_map w.s)
     refused-is = x.right s (tables.readable bytes d entries t n w) (tables.within bytes d entries t n w) catalogued (g.lost s stands)
 
-    pub orderly : b ≡ false → Orderly w.s v places n.count
+    pub orderly : b ≡ false → Orderly w.s v places
     orderly e = record {
       readable = tables.readable bytes d entries t n w;
       within = tables.within bytes d entries t n w;
       catalogued = catalogued;
       accepted = sym refused-is ∙ e;
-      placed = tables.placed-in bytes d entries t n w u places r o;
       names =
           tables.names_in_lem bytes d entries t n w u places r o v
           (λ a h.

@@ -40,11 +40,12 @@ use Rattle.order_parents.specs.Parents.{row_of, Prepared, ParentsPut}
 use Rattle.order_parents.specs.Known.{Looks, Rows}
 use Rattle.order_parents.specs.SheetLaws.{ByName, prepared-of}
 use Rattle.order_rounds.specs.Organized.{Holds, Asked, Organized}
+use Rattle.order_rounds.specs.declared.sequence.Order.{Order}
 use Rattle.order_rounds.specs.HoldsLaws.{holds_of}
 use Rattle.order_compact.specs.Compact.{Drafts}
 use Rattle.order_compact.specs.Reading as compact
 use Rattle.order_compact.specs.SheetLaws.{names_of, drafts-of}
-use Rattle.order_listing.specs.Order.{name_of, names_in, order_in, Placed}
+use Rattle.order_listing.specs.Order.{name_of, names_in, order_in}
 use Rattle.access.specs.Tables.{Looked}
 use Rattle.access.specs.ReadLaws as read
 
@@ -166,17 +167,19 @@ module _ (bytes : List ℕ) (d : Draft) (entries : List Entry) (t : Catalogue) (
         ∙ rows.name-of-listed s bs d entries n.count drawn a h
 
     -- the names in the order, in a table that has the names
-    names-as : (places : List ℕ) (u : Catalogue) (b : Bool) → ((a : ℕ) → a < n.count → name_of_key (key_at u a) ≡ (type_at m a).name) → Organized new n.count f.whole places b → b ≡ true
-        → names_in u places n.count ≡ organize_type_map m
+    names-as : (places : Order) (u : Catalogue) (b : Bool) → ((a : ℕ) → a < n.count → name_of_key (key_at u a) ≡ (type_at m a).name) → Organized new n.count f.whole places b → b ≡ true
+        → names_in u places ≡ organize_type_map m
     unfolding names_in
     names-as places u b k o e =
-        tabulate-same (name_of u places) (λ i. (type_at m (get_or places i 0)).name) n.count (λ i h. k (get_or places i 0) (o.within e i h))
-        ∙ sym (map-tabulate (λ (a : ℕ). (type_at m a).name) (λ i. get_or places i 0) n.count)
-        ∙ ap (map (λ (a : ℕ). (type_at m a).name)) (sym (taken places 0 n.count (omega (arith, o.long, w.drafted.few))))
+        let items = places.types.items in
+        ap (tabulate (name_of u items)) (o.counted e)
+        ∙ tabulate-same (name_of u items) (λ i. (type_at m (get_or items i 0)).name) n.count (λ i h. k (get_or items i 0) (o.within e i h))
+        ∙ sym (map-tabulate (λ (a : ℕ). (type_at m a).name) (λ i. get_or items i 0) n.count)
+        ∙ ap (map (λ (a : ℕ). (type_at m a).name)) (sym (taken items 0 n.count (omega (arith, places.types.long, w.drafted.few))))
         ∙ o.names m holds e
 
   -- an order that was looked for, and is there or is not
-  module _ (u : Catalogue) (places : List ℕ) (found : Bool) (r : Placing) (o : Looked d entries t u n places found r) where
+  module _ (u : Catalogue) (places : Order) (found : Bool) (r : Placing) (o : Looked d entries t u n places found r) where
     pub sketch : compact.Drawn (type_map_of w.s) u d entries n.count n.own
     sketch = sketched o.named u r.words o.parents o.names o.put
 
@@ -184,13 +187,10 @@ module _ (bytes : List ℕ) (d : Draft) (entries : List Entry) (t : Catalogue) (
     found-is = sym (o.organized.found m (holds o.named u r.words o.parents o.names o.put))
 
   -- one that was found
-  module _ (u : Catalogue) (places : List ℕ) (r : Placing) (o : Looked d entries t u n places true r) where
-    pub placed-in : Placed places n.count
-    placed-in = record { few = w.drafted.few; place = λ i h. omega (arith, o.organized.within refl i h, w.drafted.few) }
-
-    pub names_in_lem : (v : Catalogue) → ((a : ℕ) → a < n.count → name_of_key (key_at v a) ≡ (type_at (type_map_of w.s) a).name) → names_in v places n.count ≡ organize_type_map (type_map_of w.s)
+  module _ (u : Catalogue) (places : Order) (r : Placing) (o : Looked d entries t u n places true r) where
+    pub names_in_lem : (v : Catalogue) → ((a : ℕ) → a < n.count → name_of_key (key_at v a) ≡ (type_at (type_map_of w.s) a).name) → names_in v places ≡ organize_type_map (type_map_of w.s)
     names_in_lem v k = names-as o.named u r.words o.parents o.names o.put places v true k o.organized refl
 
-    pub bits_are : order_in u places n.count ≡ order_bits (organize_type_map (type_map_of w.s))
+    pub bits_are : order_in u places ≡ order_bits (organize_type_map (type_map_of w.s))
     unfolding order_in
     bits_are = ap order_bits (names_in_lem u (key-name o.named u r.words o.parents o.names o.put))

@@ -17,6 +17,7 @@ use Rattle.item_entries.specs.Entries.{firsts_of, seconds_of}
 use Rattle.order_parents.specs.declared.Found.{Found}
 use Rattle.order_parents.specs.Parents.{ParentsPut}
 use Rattle.order_rounds.specs.Organized.{Organized}
+use Rattle.order_rounds.specs.declared.sequence.Order.{Order}
 use Rattle.order_compact.specs.Reading as compact
 use Rattle.sheet_draft.specs.declared.Decoding.{Decoding}
 use Rattle.sheet_decode.specs.Decodes.{Whole}
@@ -41,7 +42,7 @@ pub record Decoded (d : Draft) (entries : List Entry) (t : Catalogue) (n : Decod
   pub whole : Whole bytes d entries t n
 
 -- Names and parents of the types went into the decoder's table, and the order was looked for (FORMAT 3.2).
-pub record Looked (d : Draft) (entries : List Entry) (old new : Catalogue) (n : Decoding) (places : List ℕ) (found : Bool) (r : Placing) : Type 0 where
+pub record Looked (d : Draft) (entries : List Entry) (old new : Catalogue) (n : Decoding) (places : Order) (found : Bool) (r : Placing) : Type 0 where
   pub named : Catalogue
   pub parents : Found
   pub names : NamesPut (firsts_of entries) (seconds_of entries) n.count n.width old named r.words
@@ -50,7 +51,7 @@ pub record Looked (d : Draft) (entries : List Entry) (old new : Catalogue) (n : 
   pub organized : Organized new n.count parents.whole places found
 
 -- There is one, or none.
-abbrev pub Organizes : Draft → List Entry → Catalogue → Catalogue → Decoding → List ℕ → Option Placing → Type 0
+abbrev pub Organizes : Draft → List Entry → Catalogue → Catalogue → Decoding → Order → Option Placing → Type 0
 Organizes d entries old new n places r =
     MatchOption r ((p : Placing) × Looked d entries old new n places false p) (λ p. Looked d entries old new n places true p)
 

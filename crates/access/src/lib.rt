@@ -11,28 +11,27 @@ ghost use Rattle.access.specs.Ending.{Unordered};
 ghost use Rattle.access.specs.Lines.{LinesListed};
 ghost use Rattle.access.specs.Tables.{Takes, Decoded, Organizes, Ordered, FilledFor, RowsDue, Scheduled};
 
+mod call;
+
 use answers::{Answer, Refusal};
+pub use call::Call;
 use catalogue::Catalogue;
 use fields::{Key, Name};
 use item_draft::Placing;
+use order_rounds::Order;
 use ordering::Parents;
 use sheet_draft::{Decoding, Draft, Entry};
+use sheet_order::ByName;
 
 // 8: the map has no order; its rows are written (FORMAT 8.3 to 8.5).
 // The slice's room is a clause here and below: a struct that lends it would have each say that it stays the same slice.
-fn no_order(
-    t: &Catalogue,
-    d: &Draft,
-    entries: &[Entry; 64],
-    n: Decoding,
-    diagnosis: &mut [u8],
-) -> Answer
-    requires drafts { Drafts d.now entries.now n.count }
+fn no_order(t: &Catalogue, x: ByName, diagnosis: &mut [u8]) -> Answer
+    requires drafts { Drafts x.draft.now x.entries.now x.read.count }
     requires most_row_bytes_in_bounds { most_row_bytes ≤ length diagnosis.old }
-    ensures { Unordered t.now d.now entries.now n.count n.own diagnosis.old diagnosis.new result }
+    ensures { Unordered t.now x.entry.draft.now x.entry.entries.now x.entry.read.count x.entry.read.own diagnosis.old diagnosis.new result }
 {
     let mut l = Parents::blank();
-    order_compact::fill(&mut l, t, d, entries, n.count, n.own);
+    order_compact::fill(&mut l, t, x);
     let report = diagnosis::diagnose(&l, diagnosis, answers::ROWS);
     Err(Refusal::NoOrder(report))
 }
@@ -52,23 +51,17 @@ fn take(
 }
 
 // Puts the names and the parents of the types into the catalogue, and looks for the order.
-fn organize(
-    t: &mut Catalogue,
-    d: &Draft,
-    entries: &[Entry; 64],
-    n: Decoding,
-    places: &mut [u64; 64],
-) -> Option<Placing>
-    requires decoded { Decoded d.now entries.now t.old n }
-    ensures { Organizes d.now entries.now t.old t.new n places.new result }
+fn organize(t: &mut Catalogue, x: ByName, order: &mut Order) -> Option<Placing>
+    requires decoded { Decoded x.draft.now x.entries.now t.old x.read }
+    ensures { Organizes x.entry.draft.now x.entry.entries.now t.old t.new x.entry.read order.new result }
 {
-    let words = item_entries::put_names(t, entries, n.count, n.width);
+    let words = item_entries::put_names(t, x);
     let own = Name {
-        first: n.own,
+        first: x.read.own,
         second: 255,
     };
-    let parents = order_parents::put_parents(t, d, entries, n.count, Key::from(own));
-    if !order_rounds::organize_type_map(t, n.count, parents.whole, places) {
+    let parents = order_parents::put_parents(t, x, Key::from(own));
+    if !order_rounds::organize_type_map(t, x.read.count, parents.whole, order) {
         return None;
     }
     Some(Placing {
@@ -78,23 +71,16 @@ fn organize(
 }
 
 // Writes the order, if there is one: 8, 10 or acceptance.
-fn end_order(
-    t: &mut Catalogue,
-    d: &Draft,
-    entries: &[Entry; 64],
-    n: Decoding,
-    listing: &mut [u8],
-    diagnosis: &mut [u8],
-) -> Answer
-    requires decoded { Decoded d.now entries.now t.old n }
+fn end_order(t: &mut Catalogue, x: ByName, listing: &mut [u8], diagnosis: &mut [u8]) -> Answer
+    requires decoded { Decoded x.draft.now x.entries.now t.old x.read }
     requires most_row_bytes_in_bounds { most_row_bytes ≤ length diagnosis.old }
-    ensures { Ordered d.now entries.now t.old n listing.old diagnosis.old result listing.new diagnosis.new }
+    ensures { Ordered x.entry.draft.now x.entry.entries.now t.old x.entry.read listing.old diagnosis.old result listing.new diagnosis.new }
 {
-    let mut places = [0u64; 64];
-    let Some(_) = organize(t, d, entries, n, &mut places) else {
-        return no_order(t, d, entries, n, diagnosis);
+    let mut order = Order::new();
+    let Some(_) = organize(t, x, &mut order) else {
+        return no_order(t, x, diagnosis);
     };
-    order_listing::write_order(listing, t, &places, n.count)
+    order_listing::write_order(listing, t, &order)
 }
 
 // The order-only call.
@@ -104,27 +90,25 @@ pub fn order(sheet: &[u8], listing: &mut [u8], diagnosis: &mut [u8]) -> Answer
     let mut d = Draft::blank();
     let mut entries = [Entry::blank(); 64];
     let mut t = Catalogue::blank();
-    let n = take(sheet, diagnosis.len(), &mut d, &mut entries, &mut t)?;
-    end_order(&mut t, &d, &entries, n, listing, diagnosis)
+    let read = take(sheet, diagnosis.len(), &mut d, &mut entries, &mut t)?;
+    let x = ByName {
+        draft: &d,
+        entries: &entries,
+        read,
+    };
+    end_order(&mut t, x, listing, diagnosis)
 }
 
 // 9: a type is refused; the rows of the synthesis are written (FORMAT 8.6 to 8.11). The catalogue of the map is filled.
-fn type_refused(
-    sheet: &[u8],
-    t: &Catalogue,
-    d: &Draft,
-    entries: &[Entry; 64],
-    n: Decoding,
-    diagnosis: &mut [u8],
-) -> Answer
-    requires filled_for { (s : Sheet) × FilledFor s sheet.now d.now entries.now t.now n }
+fn type_refused(sheet: &[u8], t: &Catalogue, x: ByName, diagnosis: &mut [u8]) -> Answer
+    requires filled_for { (s : Sheet) × FilledFor s sheet.now x.draft.now x.entries.now t.now x.read }
     requires most_row_bytes_in_bounds { most_row_bytes ≤ length diagnosis.old }
-    ensures { RowsDue sheet.now d.now entries.now t.now n diagnosis.old diagnosis.new result }
+    ensures { RowsDue sheet.now x.entry.draft.now x.entry.entries.now t.now x.entry.read diagnosis.old diagnosis.new result }
 {
     let mut l = Parents::blank();
-    order_compact::fill(&mut l, t, d, entries, n.count, n.own);
+    order_compact::fill(&mut l, t, x);
     let mut notes = [None; 64];
-    synth_places::fill(&mut notes, sheet, d, entries, n.count, n.width);
+    synth_places::fill(&mut notes, sheet, x);
     let report = synthesis::apply_associate_annotations(sheet, t, &l, &notes, diagnosis);
     Err(Refusal::TypeRefused(report))
 }
@@ -134,28 +118,26 @@ fn type_refused(
 fn end_schedule(
     sheet: &[u8],
     t: &mut Catalogue,
-    d: &Draft,
-    entries: &[Entry; 64],
-    n: Decoding,
+    x: ByName,
     listing: &mut [u8],
     diagnosis: &mut [u8],
 ) -> Answer
-    requires whole { Whole sheet.now d.now entries.now t.old n }
+    requires whole { Whole sheet.now x.draft.now x.entries.now t.old x.read }
     requires most_row_bytes_in_bounds { most_row_bytes ≤ length diagnosis.old }
-    ensures { Scheduled sheet.now d.now entries.now t.old n listing.old diagnosis.old result listing.new diagnosis.new }
+    ensures { Scheduled sheet.now x.entry.draft.now x.entry.entries.now t.old x.entry.read listing.old diagnosis.old result listing.new diagnosis.new }
 {
-    let mut places = [0u64; 64];
-    let Some(o) = organize(t, d, entries, n, &mut places) else {
-        return no_order(t, d, entries, n, diagnosis);
+    let mut order = Order::new();
+    let Some(o) = organize(t, x, &mut order) else {
+        return no_order(t, x, diagnosis);
     };
-    let lost = item_draft::fill(t, sheet, d, entries, &places, n, o);
+    let lost = item_draft::fill(t, sheet, x, &order, o);
     if lost {
-        return type_refused(sheet, t, d, entries, n, diagnosis);
+        return type_refused(sheet, t, x, diagnosis);
     }
     if item_refusal::is_refused(t, lost) {
-        return type_refused(sheet, t, d, entries, n, diagnosis);
+        return type_refused(sheet, t, x, diagnosis);
     }
-    item_schedule::write_schedule(listing, t, &places, n.count)
+    item_schedule::write_schedule(listing, t, &order)
 }
 
 // The schedule call.
@@ -166,6 +148,11 @@ pub fn schedule(sheet: &[u8], listing: &mut [u8], diagnosis: &mut [u8]) -> Answe
     let mut d = Draft::blank();
     let mut entries = [Entry::blank(); 64];
     let mut t = Catalogue::blank();
-    let n = take(sheet, diagnosis.len(), &mut d, &mut entries, &mut t)?;
-    end_schedule(sheet, &mut t, &d, &entries, n, listing, diagnosis)
+    let read = take(sheet, diagnosis.len(), &mut d, &mut entries, &mut t)?;
+    let x = ByName {
+        draft: &d,
+        entries: &entries,
+        read,
+    };
+    end_schedule(sheet, &mut t, x, listing, diagnosis)
 }

@@ -26,70 +26,13 @@ pub enum Overlap {
 pub fn overlap_of(k: Kind, j: Kind) -> Overlap
     ensures { as_overlap result ≡ overlap_at k j }
 {
+    if k != j {
+        return Overlap::Nothing; // an Associate and a NestAssociate as well
+    }
     match k {
-        Kind::MakeList => match j {
-            Kind::MakeList => Overlap::Whole,
-            Kind::Associate => Overlap::Nothing,
-            Kind::NestAssociate => Overlap::Nothing,
-            Kind::Alias => Overlap::Nothing,
-            Kind::Inherit => Overlap::Nothing,
-            Kind::Derive => Overlap::Nothing,
-            Kind::NoDerive => Overlap::Nothing,
-        },
-        Kind::Associate => match j {
-            Kind::MakeList => Overlap::Nothing,
-            Kind::Associate => Overlap::ByWord,
-            Kind::NestAssociate => Overlap::Nothing, // unlike kinds give none, these two as well
-            Kind::Alias => Overlap::Nothing,
-            Kind::Inherit => Overlap::Nothing,
-            Kind::Derive => Overlap::Nothing,
-            Kind::NoDerive => Overlap::Nothing,
-        },
-        Kind::NestAssociate => match j {
-            Kind::MakeList => Overlap::Nothing,
-            Kind::Associate => Overlap::Nothing,
-            Kind::NestAssociate => Overlap::ByWord,
-            Kind::Alias => Overlap::Nothing,
-            Kind::Inherit => Overlap::Nothing,
-            Kind::Derive => Overlap::Nothing,
-            Kind::NoDerive => Overlap::Nothing,
-        },
-        Kind::Alias => match j {
-            Kind::MakeList => Overlap::Nothing,
-            Kind::Associate => Overlap::Nothing,
-            Kind::NestAssociate => Overlap::Nothing,
-            Kind::Alias => Overlap::Whole,
-            Kind::Inherit => Overlap::Nothing,
-            Kind::Derive => Overlap::Nothing,
-            Kind::NoDerive => Overlap::Nothing,
-        },
-        Kind::Inherit => match j {
-            Kind::MakeList => Overlap::Nothing,
-            Kind::Associate => Overlap::Nothing,
-            Kind::NestAssociate => Overlap::Nothing,
-            Kind::Alias => Overlap::Nothing,
-            Kind::Inherit => Overlap::Nothing, // two Inherit give none
-            Kind::Derive => Overlap::Nothing,
-            Kind::NoDerive => Overlap::Nothing,
-        },
-        Kind::Derive => match j {
-            Kind::MakeList => Overlap::Nothing,
-            Kind::Associate => Overlap::Nothing,
-            Kind::NestAssociate => Overlap::Nothing,
-            Kind::Alias => Overlap::Nothing,
-            Kind::Inherit => Overlap::Nothing,
-            Kind::Derive => Overlap::Nothing, // two Derive give none
-            Kind::NoDerive => Overlap::Nothing,
-        },
-        Kind::NoDerive => match j {
-            Kind::MakeList => Overlap::Nothing,
-            Kind::Associate => Overlap::Nothing,
-            Kind::NestAssociate => Overlap::Nothing,
-            Kind::Alias => Overlap::Nothing,
-            Kind::Inherit => Overlap::Nothing,
-            Kind::Derive => Overlap::Nothing,
-            Kind::NoDerive => Overlap::Whole,
-        },
+        Kind::MakeList | Kind::Alias | Kind::NoDerive => Overlap::Whole,
+        Kind::Associate | Kind::NestAssociate => Overlap::ByWord,
+        Kind::Inherit | Kind::Derive => Overlap::Nothing,
     }
 }
 
@@ -119,21 +62,18 @@ pub fn has_word(y: AnnotationInfo, w: u8) -> bool
 pub fn united(d: Row, y: AnnotationInfo, w: u8) -> Row
     ensures { doms_of result ≡ set_of dom_before (doms_of d ++ doms_in (resources_in y) w) }
 {
-    let count = y.count;
-    let words = y.words;
-    let doms = y.doms;
+    let words = &y.words[..y.count];
     let mut out = d;
-    for j in 0..count {
-        if words[j] == w {
-            let e = doms[j];
-            out = rows::in_either(out, e);
+    for (v, e) in words.iter().zip(y.doms.iter()) {
+        if *v == w {
+            out = rows::in_either(out, *e);
         }
     }
     out
 }
 
 // The resources of x whose words y has as well, with the doms of both (FORMAT 8.8). A resource is stored at k, and k moves on
-// if the word is shared.
+// if the word is shared: no push, since one count goes for the two arrays of `AnnotationInfo`.
 pub fn shared_resources(x: AnnotationInfo, y: AnnotationInfo) -> AnnotationInfo
     ensures { With x (shared (resources_in x) (resources_in y)) result }
 {
@@ -162,7 +102,7 @@ pub fn shared_resources(x: AnnotationInfo, y: AnnotationInfo) -> AnnotationInfo
     }
 }
 
-// The resources of x whose words y has not (FORMAT 8.8). A resource is stored at k, and k moves on if it stays. One function
+// The resources of x whose words y has not (FORMAT 8.8). A resource is stored at k, as there, and k moves on if it stays. One function
 // for both would take a flag that turns the test and says whether doms are united; the law has two, `shared` and `less`.
 pub fn less_resources(x: AnnotationInfo, y: AnnotationInfo) -> AnnotationInfo
     ensures { With x (less (resources_in x) (resources_in y)) result }

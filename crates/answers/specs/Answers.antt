@@ -3,6 +3,7 @@ use Rattle.std.specs.Prelude.{Bool, false, cond, List, ◌≡◌, ℕ, eqb, Resu
 use Rattle.definitions.specs.Answer as rules
 use Rattle.definitions.specs.Answer.{standard, Call, Input, Outcome}
 use Rattle.emitting.specs.declared.Report.{Report}
+use Rattle.answers.specs.declared.Parts.{Parts}
 use Rattle.answers.specs.declared.Refusal.{Refusal}
 use Rattle.answers.specs.declared.Refusal.TheVariants.{LongSheet, ShortDiagnosis, Past, NotAllowed, Words, Repeats, Fill, NoOrder, TypeRefused, ShortListing}
 
@@ -13,6 +14,10 @@ Answer = Result ℕ Refusal
 -- the parts of an answer
 abbrev pub parts : ℕ → ℕ → ℕ → Bool → rules.Answer
 parts number size rows more = record { number = number; size = size; rows = rows; more = more }
+
+-- the answer that has these parts
+abbrev pub parts_of : Parts → rules.Answer
+parts_of p = parts p.number p.size p.rows p.more
 
 -- a refusal that has its number alone
 abbrev pub alone : ℕ → rules.Answer

@@ -4,7 +4,7 @@
 ghost use Rattle.std.specs.Prelude.{◌≡◌};
 ghost use Rattle.definitions.specs.Answer.{sheet_fault};
 ghost use Rattle.fields.specs.Fields.{fault_of};
-ghost use Rattle.answers.specs.Answers.{alone, number_of, refusal_of};
+ghost use Rattle.answers.specs.Answers.{alone, number_of, refusal_of, answer_of, parts_of};
 ghost use Rattle.answers.specs.Telling.{Early};
 
 use emitting::Report;
@@ -16,7 +16,7 @@ pub const SHEET: usize = 40960;
 // The most rows of a diagnosis that are written, and the bytes that hold them.
 pub const ROWS: usize = 256;
 
-pub const DIAGNOSIS: usize = 6 * ROWS;
+pub const DIAGNOSIS: usize = emitting::ROW * ROWS;
 
 // Why a call refuses, in the order of the numbers, 1 to 10: 8 and 9 come with a report of their rows, 10 with the size that the
 // listing lacks (FORMAT 7.2, 7.4).
@@ -37,6 +37,16 @@ pub enum Refusal {
 // What a call answers: the size written, or why it refuses.
 pub type Answer = Result<usize, Refusal>;
 
+// An answer in parts, for those who tell or compare it as numbers: the law's number, 0 where it accepts, the size, how many rows
+// are written and whether there are more. What a case does not name is 0 (FORMAT 7.2).
+#[derive(Clone, Copy, PartialEq, Eq)]
+pub struct Parts {
+    pub number: usize,
+    pub size: usize,
+    pub rows: usize,
+    pub more: bool,
+}
+
 impl Refusal {
     // The law's number.
     pub fn number(self) -> usize
@@ -53,6 +63,39 @@ impl Refusal {
             Refusal::NoOrder(_) => 8,
             Refusal::TypeRefused(_) => 9,
             Refusal::ShortListing(_) => 10,
+        }
+    }
+
+    fn parts(self) -> Parts
+        ensures { parts_of result ≡ refusal_of self }
+    {
+        let (size, rows, more) = match self {
+            Refusal::NoOrder(report) => (0, report.rows, report.more),
+            Refusal::TypeRefused(report) => (0, report.rows, report.more),
+            Refusal::ShortListing(size) => (size, 0, false),
+            _ => (0, 0, false),
+        };
+        Parts {
+            number: self.number(),
+            size,
+            rows,
+            more,
+        }
+    }
+}
+
+impl From<Answer> for Parts {
+    ghost from_gives = { λ a p. parts_of p ≡ answer_of a };
+
+    fn from(answer: Answer) -> Parts {
+        match answer {
+            Ok(size) => Parts {
+                number: 0,
+                size,
+                rows: 0,
+                more: false,
+            },
+            Err(refusal) => refusal.parts(),
         }
     }
 }

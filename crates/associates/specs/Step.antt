@@ -100,9 +100,3 @@ pub record Stepped (t : Catalogue) (site : Site) (o : Origin) (s : Reached) (w :
   pub count : p.made.count ≤ s.made.count + 1
   pub right : (x : Sheet) → Known x t → site.place < length (line_map x).types
       → SteppedIn (line_map x) site.place site.word o.doms o.parents s w p w'
-
--- what a word needs: room for one making more
-pub record Ready (site : Site) (made : Makings) : Type 0 where
-  pub place : site.place < 64
-  pub word : site.word < 255
-  pub room : made.count < 380

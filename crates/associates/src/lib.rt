@@ -1,10 +1,10 @@
 // One word of an annotation, which `interpret_associate` of compile.rs goes through.
 #![tactic(auto)]
 
-ghost use Rattle.std.specs.Prelude.{true, ◌≡◌};
+ghost use Rattle.std.specs.Prelude.{true, ◌≡◌, ◌<◌};
 ghost use Rattle.lists.specs.Lists.{null};
 ghost use Rattle.interpretation.specs.Judged.{unknown_doms};
-ghost use Rattle.associates.specs.Step.{begun, reached, Ready, Stepped};
+ghost use Rattle.associates.specs.Step.{begun, reached, Stepped};
 
 use catalogue::Catalogue;
 use duplicates::{Making, Makings};
@@ -31,7 +31,7 @@ fn interpret_known(
     made: &mut Makings,
     out: &mut Writer<'_>,
 ) -> Standing
-    requires ready { Ready site made.old }
+    requires room { made.old.count < 380 }
     requires word_value { null (unknown_doms t.now origin.doms site.word) ≡ true }
     ensures { Stepped t.now site origin (begun made.old) out.old (reached result made.new) out.new }
 {
@@ -62,11 +62,11 @@ pub fn interpret_word(
     made: &mut Makings,
     out: &mut Writer<'_>,
 ) -> Standing
-    requires { Ready site made.old }
+    requires room { made.old.count < 380 }
     ensures { Stepped t.now site origin (reached s made.old) out.old (reached result made.new) out.new }
 {
     if interpretation::first_unknown(t, origin.doms, site.word).is_some() {
-        interpretation::unknown_rows(t, site.place, origin.doms, site.word, out);
+        interpretation::unknown_rows(t, site, origin.doms, out);
         return Standing::Ended;
     }
     match s {

@@ -13,10 +13,10 @@ pub struct Cursor {
 }
 
 // The byte at i, or 0 past the end.
-fn byte_at(s: &[u8], i: usize) -> usize
-    ensures { (result ≡ get_or s.now i 0) × (result < 256) }
+pub fn byte_at(s: &[u8], i: usize) -> u8
+    ensures { result ≡ get_or s.now i 0 }
 {
-    if i < s.len() { s[i] as usize } else { 0 }
+    s.get(i).copied().unwrap_or(0)
 }
 
 // The n bits at p, out of the three bytes that hold them: at most 7 bits stand before them, and 7 + 16 < 24.
@@ -25,7 +25,7 @@ fn window(s: &[u8], p: usize, n: usize) -> usize
     ensures { result ≡ num n (drop p (bits_of s.now)) }
 {
     let b = p / 8;
-    let w = byte_at(s, b) * 65536 + byte_at(s, b + 1) * 256 + byte_at(s, b + 2);
+    let w = u32::from_be_bytes([0, byte_at(s, b), byte_at(s, b + 1), byte_at(s, b + 2)]) as usize;
     let k = 24 - p % 8 - n;
     (w >> k) % (1 << n)
 }
@@ -42,7 +42,8 @@ fn put_chunk(buf: &mut [u8], p: usize, m: usize, w: usize)
     buf[i] = (y % 256) as u8;
 }
 
-// Writes the last m bits of w at the start of byte i, and zeros behind them.
+// Writes the last m bits of w at the start of byte i, and zeros behind them. Not `put_chunk` at bit 8 * i, which would shift what
+// stands before out and in again.
 fn put_start(buf: &mut [u8], i: usize, m: usize, w: usize)
     requires { (i < length buf.old) × (0 < m) × (m ≤ 8) }
     ensures { buf.new ≡ put buf.old (8 * i) (to_bits m w) }

@@ -57,7 +57,7 @@ pub fn first(count: u64) -> u64
         let bit = one << count;
         return bit - 1;
     }
-    18446744073709551615
+    u64::MAX
 }
 
 // A walk over a set: its numbers, ascending.

@@ -14,9 +14,9 @@ pub struct UpTo<T, const N: usize> {
     pub ghost long: { length items ≡ N },
 }
 
+// By hand: on a struct with a type parameter a derive of Clone or Copy is refused beside ghost fields.
 impl<T: Copy, const N: usize> Copy for UpTo<T, N> {}
 
-// By hand, since no derive goes beside a ghost field.
 impl<T: Copy, const N: usize> Clone for UpTo<T, N> {
     fn clone(&self) -> Result<Self, AllocError> {
         Ok(*self)

@@ -1,6 +1,5 @@
 -- What it means that a table is the catalogue of a sheet's map.
 use Rattle.std.specs.Prelude.{Bool, false, cond, List, [], ◌∷◌, ◌≡◌, ℕ, ◌+◌, ◌-◌, ◌*◌, ◌/◌, ◌%◌, ◌≤◌, ◌<◌, eqb, length}
-use Rattle.std.proofs.Common.{ap, ◌∙◌, arith}
 use Rattle.lists.specs.Lists.{each}
 use Rattle.lists.specs.Tabulating.{tabulate}
 use Rattle.definitions.specs.Bits.{to_bits}
@@ -14,7 +13,7 @@ use Rattle.ordering.specs.Lists.{below}
 use Rattle.rows.specs.Rows.{has_bit}
 use Rattle.law_classes.specs.Sets.{some, one_word, word_of, masked, own_set, above_set, passed_set, type_at, SetIs}
 use Rattle.law_classes.specs.Numbers.{Fits}
-use Rattle.catalogue.specs.Layout.{key_at, head_at, marks_at, tally_at, mark_width, parents_at, own_at, above_at, passed_at, word_at, mask_at, owner_at}
+use Rattle.catalogue.specs.Layout.{key_at, head_at, marks_at, mark_width, mark_count, parents_at, own_at, above_at, passed_at, word_at, mask_at, owner_at}
 use Rattle.catalogue.specs.Layout.{extension_key_at, extension_count_at, extension_parent_at, first_at, second_at}
 use Rattle.catalogue.specs.declared.Catalogue.{Catalogue}
 
@@ -58,13 +57,8 @@ module _ (s : Sheet) (t : Catalogue) where
     pub is_resource : is_resource_head (head_at t a) ≡ is_resource_variant (type_at (line_map s) a).variant
     pub is_virtual : virtual_head (head_at t a) ≡ (type_at (line_map s) a).virtual
     pub is_trait : trait_head (head_at t a) ≡ (type_at (line_map s) a).trait
-    pub mark_count : tally_at t a % 8 ≡ length (type_at (line_map s) a).marks
-    pub mark_bits : to_bits (tally_at t a / 8) (marks_at t a) ≡ each mark_bits (type_at (line_map s) a).marks
-    pub tally : tally_at t a < 512
-
-  -- The bits of its marks: a tally is below 512, so that their number is below 64.
-  pub marks-wide : (a : ℕ) → Entry a → to_bits (mark_width t a) (marks_at t a) ≡ each mark_bits (type_at (line_map s) a).marks
-  marks-wide a x = let w : mark_width t a ≡ tally_at t a / 8 = omega (arith, x.tally) in ap (λ (n : ℕ). to_bits n (marks_at t a)) w ∙ x.mark_bits
+    pub mark_count : mark_count t a ≡ length (type_at (line_map s) a).marks
+    pub mark_bits : to_bits (mark_width t a) (marks_at t a) ≡ each mark_bits (type_at (line_map s) a).marks
 
   -- What stands in the table of the types alone, before sets are made.
   pub record Listed : Type 0 where

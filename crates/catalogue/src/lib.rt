@@ -1,22 +1,59 @@
-// The catalogue of a map: what is known of its types, by their places in name order, of its words and of its extension records. A
-// column for each, since each is filled by a pass of its own, and sets are asked by their columns. What holds of one that is
-// filled is said by clauses: between the passes it does not hold.
+// The catalogue of a map: what is known of its types, by their places in name order, of its words and of its extension records.
+// Columns for what is known of a type, since sets are asked, and lent, by their columns; a word with its types and an extension
+// record, each read by its place, are structs. What holds of one that is filled is said by clauses: between the passes it does not
+// hold.
 #![tactic(auto)]
 
-ghost use Rattle.std.specs.Prelude.{◌≡◌, ◌<◌};
-ghost use Rattle.catalogue.specs.Layout.{blank, head_at, mark_width, looked};
+ghost use Rattle.std.specs.Prelude.{◌≡◌, ◌+◌, ◌*◌, ◌/◌, ◌%◌, ◌<◌};
+ghost use Rattle.catalogue.specs.Layout.{blank, head_at, packed_at, mark_width, looked};
 ghost use Rattle.catalogue.specs.Catalogue.{virtual_head};
+
+use item_heads::Packed;
+
+// A word, and the set of the types whose last word it is.
+#[derive(Clone, Copy)]
+pub struct Word {
+    pub word: u64,
+    pub types: u64,
+}
+
+// An extension record (FORMAT 2.10).
+#[derive(Clone, Copy)]
+pub struct Extension {
+    // The key of its type, times 256, and its word.
+    pub key: u64,
+    // How many parents it adds.
+    pub count: u64,
+    // They, as keys.
+    pub parents: [u64; 8],
+}
+
+impl Extension {
+    // The key of a record for a type and a word.
+    pub fn key_of(key: u64, word: u64) -> u64
+        requires { (key < 65536) × (word < 256) }
+        ensures { (result ≡ key * 256 + word) × (result / 256 ≡ key) × (result % 256 ≡ word) }
+    {
+        key * 256 + word
+    }
+
+    // The key of its type.
+    pub fn type_key(&self) -> u64
+        ensures { result ≡ self.now.key / 256 }
+    {
+        self.key / 256
+    }
+}
 
 #[derive(Drop)]
 pub struct Catalogue {
     // The name of a type, as a key.
     pub keys: [u64; 64],
-    // Variant, virtual, trait and number of parents of a type, in the 8 bits that the sheet has them in.
+    // Variant, virtual, trait and number of parents of a type, in the 8 bits that the sheet has them in: an extension line has two of
+    // them as they stand, so that a struct of the four would be put together again.
     pub heads: [u64; 64],
     // The marks of a type, as the bits that a schedule has them in.
-    pub marks: [u64; 64],
-    // How many bits the marks of a type have, times 8, and how many marks there are.
-    pub tallies: [u64; 64],
+    pub marks: [Packed; 64],
     // The set of a type's parents.
     pub parents: [u64; 64],
     // The set of the classes of a type's own Associates.
@@ -27,16 +64,10 @@ pub struct Catalogue {
     pub passed: [u64; 64],
     // The place of the type `a` where a type's name is `a.b`, or 64 where there is none.
     pub owners: [u64; 64],
-    // The words that are the last of a type's name, ascending.
-    pub words: [u64; 64],
-    // For each of them the set of the types whose last word it is.
-    pub masks: [u64; 64],
-    // The key of an extension record: that of its type, times 256, and its word.
-    pub extension_keys: [u64; 32],
-    // How many parents an extension record has.
-    pub extension_counts: [u64; 32],
-    // The parents of an extension record, as keys.
-    pub extension_parents: [[u64; 8]; 32],
+    // The words that are the last of a type's name, ascending, and the extension records: arrays whose counts stand below, and no
+    // UpTo, since `blank` says what stands at each place, and a new UpTo only that none counts.
+    pub words: [Word; 64],
+    pub extensions: [Extension; 32],
     // The set of the types whose first word is w.
     pub firsts: [u64; 256],
     // The set of the types whose second word is one less than w; for 0 the set of those that have none.
@@ -68,18 +99,18 @@ impl Catalogue {
         Catalogue {
             keys: [0; 64],
             heads: [0; 64],
-            marks: [0; 64],
-            tallies: [0; 64],
+            marks: [Packed::none(); 64],
             parents: [0; 64],
             own: [0; 64],
             above: [0; 64],
             passed: [0; 64],
             owners: [0; 64],
-            words: [0; 64],
-            masks: [0; 64],
-            extension_keys: [0; 32],
-            extension_counts: [0; 32],
-            extension_parents: [[0; 8]; 32],
+            words: [Word { word: 0, types: 0 }; 64],
+            extensions: [Extension {
+                key: 0,
+                count: 0,
+                parents: [0; 8],
+            }; 32],
             firsts: [0; 256],
             seconds: [0; 256],
             count: 0,
@@ -114,11 +145,19 @@ impl Catalogue {
         self.heads[a] / 32 % 2 == 1
     }
 
-    // How many bits the marks of a type have (FORMAT 4.7).
+    // The marks of a type (FORMAT 4.7).
+    pub fn marks_of(&self, a: usize) -> Packed
+        requires { a < 64 }
+        ensures { result ≡ packed_at self.now a }
+    {
+        self.marks[a]
+    }
+
+    // How many bits they have.
     pub fn mark_width(&self, a: usize) -> usize
         requires { a < 64 }
         ensures { (result ≡ mark_width self.now a) × (result < 64) }
     {
-        (self.tallies[a] / 8 % 64) as usize
+        self.marks_of(a).width as usize
     }
 }

@@ -17,7 +17,7 @@ pub const SCHEDULE: usize = 262144;
 // At most so many records are read of an input: each loop is proved to end, and no contract says that an input does.
 pub const MANY: usize = usize::MAX;
 
-// Two bytes as a number, the high one first.
+// Two bytes as a number, the high one first: std's `from_be_bytes`, here and in `three`, with a bound as a clause for callers.
 pub fn two(bytes: [u8; 2]) -> usize
     ensures value { result ≡ from_be_bytes w16 bytes }
     ensures bound { result < 65536 }

@@ -208,7 +208,7 @@ unfolding unless_empty
 nothing_left e p = rw p
 
 -- the entries of a list that is apart are sound
-apart-at : (l : List Entry) (i : ℕ) (d : Entry) → Apart l → i < length l → Sound (get_or l i d)
+pub apart-at : (l : List Entry) (i : ℕ) (d : Entry) → Apart l → i < length l → Sound (get_or l i d)
 apart-at [] i d f h = absurd (native.Mathlib.Nat.not-suc-le-zero h)
 apart-at (e ∷ l) zero d (cons s q f) h = s
 apart-at (e ∷ l) (suc i) d (cons s q f) h = apart-at l i d f (le_of_suc-le-suc h)
@@ -238,9 +238,9 @@ pub share-nothing : (a n : Entry) → Sound a → Sound n → none (common a.wor
 share-nothing a n sa s p = (nothing_left (inter a n) (none-common a n sa s ∙ p), apart-left a n sa s p, apart-right a n sa s p)
 
 -- those with one share an entry
-pub share-one : (a n : Entry) → Sound a → Sound n → none (common a.words n.words) ≡ false → length (unless_empty (inter a n)) ≡ 1
+pub share-whole : (a n : Entry) → Sound a → Sound n → none (common a.words n.words) ≡ false → unless_empty (inter a n) ≡ inter a n ∷ []
 unfolding unless_empty
-share-one a n sa s p = rw (none-common a n sa s ∙ p)
+share-whole a n sa s p = rw (none-common a n sa s ∙ p)
 
 -- ---- a newcomer with the words of an entry adds its parents to it
 

@@ -13,7 +13,7 @@ use Rattle.definitions.specs.Inherited.{dedup_onto}
 use Rattle.dedup.specs.declared.Entry.{Entry}
 use Rattle.dedup.specs.declared.inherited.Inherited.{Inherited}
 use Rattle.dedup.specs.Entries.{Entries, inter, merge, join, join_all, entries_of, stands, Sound, covers, Apart, nil, Full}
-use Rattle.dedup.specs.EntryLaws.{join_apart, apart-among, zeros, PlaceOf, merge-same}
+use Rattle.dedup.specs.EntryLaws.{join_apart, apart-at, zeros, PlaceOf, merge-same}
 use Rattle.dedup.specs.Reading.{read_all, table_of, inherited_of, joined, Clean, Kept, Good, Joins, JoinsAll, Nothing, Unites, no_doms, under_place}
 use Rattle.dedup.specs.ReadingLaws.{join_is, join-full, join-all-is, join-all-covers, same_tables, covers-under, apart-under, sound-under, read_under}
 
@@ -63,17 +63,13 @@ joins-shared l r n i k s p e c = joins-by l r n k s (join-under l r n i k s p e)
 
 -- ---- one entry of a parent more
 
-pub sound-at : (items : List Entry) (count i p : ℕ) (d : Entry) → Apart (take count items) → i < count → count ≤ length items
-    → Sound (under_place p (get_or items i d))
-sound-at items count i p d f h l = sound-under p (get_or items i d) (apart-among items count i d f h l)
+pub sound-at : (l : List Entry) (i p : ℕ) (d : Entry) → Apart l → i < length l → Sound (under_place p (get_or l i d))
+sound-at l i p d f h = sound-under p (get_or l i d) (apart-at l i d f h)
 
-pub all-step : (items : List Entry) (count i p : ℕ) (d : Entry) (out : List Entry) → i < count → count ≤ length items
-    → join_all out (map (under_place p) (drop i (take count items)))
-    ≡ join_all (join out (under_place p (get_or items i d))) (map (under_place p) (drop (i + 1) (take count items)))
+pub all-step : (l : List Entry) (i p : ℕ) (d : Entry) (out : List Entry) → i < length l
+    → join_all out (map (under_place p) (drop i l)) ≡ join_all (join out (under_place p (get_or l i d))) (map (under_place p) (drop (i + 1) l))
 unfolding join_all
-all-step items count i p d out h l =
-    let t : length (take count items) ≡ count = length-take-le count items l in
-    rw (drop-cons (take count items) i d (omega arith), get_or-take count items i d h, add-one) refl
+all-step l i p d out h = rw (drop-cons l i d h, add-one) refl
 
 pub all_done : (l : List Entry) (i p : ℕ) (out : List Entry) → length l ≤ i → join_all out (map (under_place p) (drop i l)) ≡ out
 unfolding join_all

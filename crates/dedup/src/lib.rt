@@ -1,9 +1,10 @@
-// What a type inherits: `InheritedAnnotation` and its dedup, after compile.rs.
+// What a type inherits: `InheritedAnnotation` and its dedup, after compile.rs. Lists go by value, as the Rust's do: no caller keeps
+// what it hands in.
 #![tactic(auto)]
 
-ghost use Rattle.std.specs.Prelude.{◌≡◌, [], ◌∷◌, map, ◌≤◌, length, IfSome};
+ghost use Rattle.std.specs.Prelude.{◌≡◌, [], ◌∷◌, ◌++◌, map, ◌≤◌, IfSome};
 ghost use Rattle.annotations.specs.Reading.{overlap_at};
-ghost use Rattle.dedup.specs.Entries.{shared_by, left_by, inter, diff, unless_empty, merge, join_all, entries_of, Sound, Apart};
+ghost use Rattle.dedup.specs.Entries.{shared_by, left_by, inter, diff, stands, unless_empty, merge, join_all, entries_of, Sound, Apart};
 ghost use Rattle.dedup.specs.EntryLaws.{PlaceOf, no_entries};
 ghost use Rattle.dedup.specs.Reading.{no_doms, under_place, Kept, Nothing, Unites, Joins, JoinsAll};
 
@@ -24,7 +25,8 @@ pub struct Entry {
     pub parents: u64,
 }
 
-// No two entries share a word, so there are at most 200; one place is to spare.
+// In a list that is inherited no two entries share a word, so that it has at most 200: `Kept`, which Inherited has as a ghost
+// field. One place is to spare.
 pub type Entries = UpTo<Entry, 201>;
 
 // The words of what two entries of the kinds k and j share. The kinds decide, as they do for two annotations.
@@ -77,64 +79,54 @@ pub fn difference(x: Entry, y: Entry) -> Entry
     }
 }
 
-// How many entries stand for it: one, or none where no words are left.
-pub fn standing(e: Entry) -> usize
-    ensures { result ≡ length (unless_empty e) }
+// Whether it has a word: one that has none is no entry (FORMAT 8.9).
+pub fn stands(e: Entry) -> bool
+    ensures { result ≡ stands e }
 {
-    let words = e.words;
-    if rows::is_none(words) {
-        return 0;
-    }
-    1
+    !rows::is_none(e.words)
 }
 
-// The newcomer alone. What stands at the other places does not count.
-fn alone(l: Entries, newcomer: Entry) -> Entries
+// The list with an entry behind the others, if it stands.
+fn push_standing(l: &mut Entries, e: Entry)
+    requires { l.old.count ≤ 200 }
+    ensures { entries_of l.new ≡ entries_of l.old ++ unless_empty e }
+{
+    if stands(e) {
+        l.push(e);
+    }
+}
+
+// The newcomer alone.
+fn alone(newcomer: Entry) -> Entries
     ensures { (entries_of result ≡ newcomer ∷ []) × (result.count ≡ 1) }
 {
-    let mut out = l;
-    out.count = 0;
+    let mut out = no_entries();
     out.push(newcomer);
     out
 }
 
 // The list that a newcomer has joined: each earlier entry split into its rest and what it shares, behind all of them the
-// newcomer's rest (FORMAT 8.9). An entry is stored at k, and k moves on if the entry stands. One that has no word of the newcomer
-// shares nothing: it is its own rest, and the newcomer stays. Of the others the kinds decide.
+// newcomer's rest (FORMAT 8.9). One that has no word of the newcomer shares nothing: it is its own rest, and the newcomer stays.
+// Of the others the kinds decide.
 // `Sound` is no ghost field of an entry: `intersection` and `difference` take entries of all kinds.
 pub fn merged(l: Entries, newcomer: Entry) -> Entries
     requires apart { Apart (entries_of l) }
     requires count_bound { (l.count ≤ 200) × Sound newcomer }
     ensures { (entries_of result ≡ merge (entries_of l) newcomer) × (result.count ≤ 200) }
 {
-    let count = l.count;
-    let mut out = l.items;
+    let mut out = no_entries();
     let mut n = newcomer;
-    let mut k: usize = 0;
-    for i in 0..count {
-        let a = l.items[i];
-        let v = a.words;
-        let w = n.words;
-        let words = rows::in_both(v, w);
-        if rows::is_none(words) {
-            out[k] = a;
-            k += standing(a);
+    for a in l.as_slice() {
+        if rows::is_none(rows::in_both(a.words, n.words)) {
+            push_standing(&mut out, *a);
         } else {
-            let both = intersection(a, n);
-            let rest = difference(a, n);
-            out[k] = rest;
-            k += standing(rest);
-            out[k] = both;
-            k += 1;
-            n = difference(n, a);
+            push_standing(&mut out, difference(*a, n));
+            out.push(intersection(*a, n));
+            n = difference(n, *a);
         }
     }
-    out[k] = n;
-    k += standing(n);
-    UpTo {
-        count: k,
-        items: out,
-    }
+    push_standing(&mut out, n);
+    out
 }
 
 // A newcomer joins a list. The first of a list stays as it is, an associate without resources as well.
@@ -144,22 +136,24 @@ pub fn dedup_inherited_annotations_one(l: Entries, newcomer: Entry) -> Entries
     ensures { Joins l newcomer result }
 {
     if l.count == 0 {
-        return alone(l, newcomer);
+        return alone(newcomer);
     }
     merged(l, newcomer)
 }
 
 // No entries.
-pub fn no_entries() -> [Entry; 201]
-    ensures { result ≡ no_entries }
+pub fn no_entries() -> Entries
+    ensures { (entries_of result ≡ []) × (result.count ≡ 0) × (result.items ≡ no_entries) }
 {
-    let words = rows::empty_row();
-    let e = Entry {
+    let blank = Entry {
         kind: Kind::MakeList,
-        words,
+        words: rows::empty_row(),
         parents: 0,
     };
-    [e; 201]
+    UpTo {
+        count: 0,
+        items: [blank; 201],
+    }
 }
 
 // Dom sets in which nothing stands.
@@ -174,8 +168,7 @@ pub fn no_doms() -> [Row; 200]
 pub fn nothing() -> Inherited
     ensures { Nothing result }
 {
-    let items = no_entries();
-    let list = UpTo { count: 0, items };
+    let list = no_entries();
     let doms = no_doms();
     Inherited { list, doms }
 }
@@ -185,11 +178,8 @@ pub fn united(doms: [Row; 200], given: [Row; 200]) -> [Row; 200]
     ensures { Unites doms given result }
 {
     let mut out = doms;
-    for w in 0..200 {
-        let x = doms[w];
-        let y = given[w];
-        let z = rows::in_either(x, y);
-        out[w] = z;
+    for (w, y) in given.iter().enumerate() {
+        out[w] = rows::in_either(doms[w], *y);
     }
     out
 }
@@ -199,16 +189,10 @@ fn place_of(l: &Entries, words: Row) -> Option<usize>
     requires { l.now.count ≤ 200 }
     ensures { IfSome result (PlaceOf l.now words) }
 {
-    let first = l.items[0];
-    if standing(first) == 0 {
+    if !stands(l.items[0]) {
         return None;
     }
-    for at in 0..l.count {
-        if l.items[at].words == words {
-            return Some(at);
-        }
-    }
-    None
+    l.as_slice().iter().position(|e| e.words == words)
 }
 
 // The entries of a parent join a list, one after the other, under that parent. Most stand there, from another parent, and are
@@ -218,18 +202,15 @@ pub fn joined_entries(l: Entries, p: Entries, parent: u64) -> Entries
     requires kept_2 { Kept p }
     ensures { Kept result × (entries_of result ≡ join_all (entries_of l) (map (under_place parent) (entries_of p))) }
 {
-    let count = p.count;
     let mut out = l;
-    for i in 0..count {
-        let e = p.items[i];
+    for e in p.as_slice() {
         let n = Entry {
             parents: parent,
-            ..e
+            ..*e
         };
-        match place_of(&out, e.words) {
+        match place_of(&out, n.words) {
             Some(at) => {
-                let y = out.items[at];
-                let both = intersection(y, n);
+                let both = intersection(out.items[at], n);
                 out.set(at, both);
             }
             None => out = dedup_inherited_annotations_one(out, n),

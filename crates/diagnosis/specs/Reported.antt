@@ -15,7 +15,7 @@ use Rattle.ordering.specs.declared.Parents.{Parents}
 use Rattle.emitting.specs.Emitting.{State, emit-all}
 use Rattle.emitting.specs.Row.{bytes_of}
 use Rattle.diagnosis.specs.Rows.{order_rows}
-use Rattle.emitting.specs.Writing.{Begins, Tells, emits_begun}
+use Rattle.emitting.specs.Writing.{counted, Begins, Tells, told-rows, told-more, emits_begun}
 use Rattle.emitting.specs.declared.Report.{Report}
 use Rattle.emitting.specs.declared.Writer.{Writer}
 use Rattle.diagnosis.specs.Emit.{emit, Emits}
@@ -68,4 +68,4 @@ pub reported-by : (p : Parents) (limit : ℕ) (slice : MutBor (List ℕ)) (w w' 
     → Begins slice limit w → Emits w w' (order_rows p) → Tells w' r → new ≡ w'.buf.now → Reported p limit slice.now new r.rows r.more
 reported-by p limit slice w w' r new h b e t q =
     let k : w'.limit ≡ limit = e.same.limit ∙ b.limit in
-    rw (t.rows, t.more, k, q) (reported p limit slice.now w'.buf.now w'.count h (emits_begun bytes_of slice limit w w' (order_rows p) b e))
+    rw (told-rows w' r t, told-more w' r t, k, q) (reported p limit slice.now w'.buf.now (counted w') h (emits_begun bytes_of slice limit w w' (order_rows p) b e))

@@ -4,7 +4,7 @@ use Rattle.lists.specs.Lists.{null, filter, each, first_of}
 use Rattle.rows.specs.Rows.{has_bit}
 use Rattle.bitsets.specs.Bitsets.{more}
 use Rattle.ordering.specs.Lists.{below}
-use Rattle.ordering.specs.Reading.{listed, self_in}
+use Rattle.ordering.specs.Reading.{no_name, listed, self_in}
 use Rattle.ordering.specs.declared.Parent.{Parent}
 use Rattle.ordering.specs.Rounds.{placed, final, lists_self}
 use Rattle.ordering.specs.Names.{unplaced}
@@ -17,8 +17,8 @@ use Rattle.emitting.specs.declared.Kind.TheVariants.{ListsSelf, ClosesCycle, Und
 abbrev pub parent_row : Kind → Parents → ℕ → Parent → Row
 parent_row kind p t q = record {
   kind = kind;
-  subject = record { first = get_or p.firsts t 0; second = get_or p.seconds t 0 };
-  other = Some (record { first = q.first; second = q.second });
+  subject = get_or p.names t no_name;
+  other = Some q.name;
   word = None;
 }
 

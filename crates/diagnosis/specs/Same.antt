@@ -52,7 +52,7 @@ module _ (p : Parents) (m : TypeMap) (r : Reads p m) where
   -- the row of type t and one of its parents
   row_is : (kind : Kind) (t : ℕ) (n : Name) → t < p.count → row_bytes (rules.parent_row (number_of kind) (type_at m t) n) ≡ bytes_of (parent_row kind p t (parent_in m n))
   unfolding row_bytes parent_in
-  row_is kind t n h = rw (name-bytes (type_at m t).name, name-bytes n, (r.types t h).first, (r.types t h).second)
+  row_is kind t n h = rw (name-bytes (type_at m t).name, name-bytes n, (r.types t h).name)
 
   -- ---- rows of kind 1
 

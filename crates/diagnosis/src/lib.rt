@@ -22,8 +22,8 @@ fn put_parent_row(l: &Parents, out: &mut Writer<'_>, kind: Kind, t: usize, i: us
 {
     let row = Row {
         kind,
-        subject: order_table::name_at(l, t),
-        other: Some(order_table::parent_name_at(l, t, i)),
+        subject: l.names[t],
+        other: Some(l.parents[t][i].name),
         word: None,
     };
     out.push(row);
@@ -56,8 +56,7 @@ fn first_bad(l: &Parents, t: usize, path: u64) -> Option<usize>
 // (specs/Loud.antt), the first bad parent is looked for before any parent is entered, and past the limit the search ends: so
 // each step belongs to a row.
 fn find_cycles_or_bad_types(l: &Parents, placed: u64, t: usize, path: u64, out: &mut Writer<'_>)
-    requires at { At l.now placed t path }
-    requires count_bound { out.old.count ≤ out.old.limit + 1 }
+    requires { At l.now placed t path }
     ensures { Emits out.old out.new (rows (off l.now.count path) l.now path t) }
 {
     if out.is_over() {
@@ -78,8 +77,7 @@ fn find_cycles_or_bad_types(l: &Parents, placed: u64, t: usize, path: u64, out: 
 
 // Writes the rows of the types that are not placed, in name order.
 fn generate_type_no_parent_errors(l: &Parents, placed: u64, out: &mut Writer<'_>)
-    requires stage { Stage l.now placed }
-    requires count_bound { out.old.count ≤ out.old.limit + 1 }
+    requires { Stage l.now placed }
     ensures { Emits out.old out.new (no_parent_rows l.now (final l.now)) }
 {
     for t in 0..l.count {

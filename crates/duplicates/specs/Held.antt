@@ -54,6 +54,11 @@ pub record Keeps (h : Makings) (word : ℕ) (doms : Row) (ps : ℕ) (r : Makings
 pub record Declared (t : Catalogue) (T word : ℕ) (r : Bool) : Type 0 where
   pub right : (s : Sheet) → Known s t → T < length (line_map s).types → r ≡ not (null (declared (line_map s) (dotted (type_at (line_map s) T).name word)))
 
+-- the making x is identical to that of the site's word
+pub record SameAs (t : Catalogue) (site : Site) (o : Origin) (x : Making) (r : Bool) : Type 0 where
+  pub right : (s : Sheet) → Known s t → site.place < length (line_map s).types
+      → r ≡ same_item (created (line_map s) site.place site.word o.doms o.parents) (created (line_map s) site.place x.word x.origin.doms x.origin.parents)
+
 -- one of the first n makings is identical
 pub record Made (t : Catalogue) (site : Site) (o : Origin) (h : Makings) (n : ℕ) (r : Bool) : Type 0 where
   pub right : (s : Sheet) → Known s t → site.place < length (line_map s).types

@@ -1,15 +1,18 @@
 -- Laws of held makings.
 use mathlib.Core.Bool.{Bool, true, false, ◌||◌, not, or-false, and-false}
-use Rattle.std.specs.Prelude.{List, Option, is_some, [], ◌∷◌, ◌++◌, ◌≡◌, ℕ, zero, suc, ◌+◌, ◌*◌, ◌-◌, ◌/◌, ◌%◌, ◌<◌, eqb, ltb, length}
+use Rattle.std.specs.Prelude.{List, Option, is_some, [], ◌∷◌, ◌++◌, ◌≡◌, ℕ, zero, suc, ◌+◌, ◌*◌, ◌-◌, ◌/◌, ◌%◌, ◌<◌, eqb, ltb, length, replicate}
 use Rattle.std.proofs.Math.Path.{refl, ap, ap₂}
-use Rattle.std.proofs.Common.{sym, ◌∙◌, add-one}
+use Rattle.std.proofs.lemmas.List.{length-replicate}
+use Rattle.std.specs.Bool.{MatchBool}
+use Rattle.std.specs.List.{AllWithin, HoldsAt}
+use Rattle.std.proofs.Common.{sym, ◌∙◌, subst, add-one, get_or-take}
 use native.Mathlib.Omega.{arith}
 use borrow.Author.Tests.{eq-eqb, ne_eqb, eqb-true, eqb-false}
 use Rattle.lists.specs.Lists.{any, null, keep}
 use Rattle.lists.specs.Tests.{by}
 use Rattle.lists.specs.Appending.{any_append}
 use Rattle.lists.specs.Members.{filter_none}
-use Rattle.bounded.specs.Items.{items_of, count-more, item-old, item-new}
+use Rattle.bounded.specs.Items.{items_of, length-items_of, count-more, item-old, item-new}
 use Rattle.rows.specs.declared.Row.{Row}
 use Rattle.definitions.specs.Records.{Name, Mark, Item, Sheet, synthesized}
 use Rattle.definitions.specs.Comparisons.{same_name, look_up, dotted}
@@ -30,7 +33,7 @@ use Rattle.synth_classes.specs.Made.{created}
 use Rattle.synth_classes.specs.Known.{Known, name-known, type-known}
 use Rattle.synth_same.specs.Same.{SameMaking}
 use Rattle.duplicates.specs.declared.Making.{Making}
-use Rattle.duplicates.specs.Held.{Makings, no_making, making_at, word_at, doms_at, parents_at, held_items, Keeps, Declared, Made, Repeated}
+use Rattle.duplicates.specs.Held.{Makings, no_making, making_at, word_at, doms_at, parents_at, held_items, Keeps, Declared, SameAs, Made, Repeated}
 
 -- ---- what stands among the items
 
@@ -189,34 +192,46 @@ declared_two t T word p e w q =
 
 -- ---- the makings one after the other
 
-module _ (t : Catalogue) (site : Site) (o : Origin) (h : Makings) where
-  pub made_start : Made t site o h 0 false
-  made_start = record { right = λ s k l. sym (new-start (line_map s) site.place h site.word o.doms o.parents) }
-
-  module _ (i : ℕ) (w : word_at h i ≡ site.word) (r : Bool) (same : SameMaking t site o (making_at h i).origin r) where
-    answer : (s : Sheet) → Known s t → site.place < length (line_map s).types
-        → same_item (created (line_map s) site.place site.word o.doms o.parents) (created (line_map s) site.place (word_at h i) (doms_at h i) (parents_at h i)) ≡ r
-    answer s k l =
-        ap (λ (x : ℕ). same_item (created (line_map s) site.place site.word o.doms o.parents) (created (line_map s) site.place x (doms_at h i) (parents_at h i))) w
-        ∙ sym (same.right s k l)
-
-    pub made_found : (n : ℕ) → i < n → r ≡ true → Made t site o h n true
-    made_found n l q = record { right = λ s k z. sym (new-found (line_map s) site.place h site.word o.doms o.parents i n l (answer s k z ∙ q)) }
-
-    pub made_unlike : r ≡ false → Made t site o h i false → Made t site o h (i + 1) false
-    made_unlike q m =
-        record { right = λ s k z. sym (new-next (line_map s) site.place h site.word o.doms o.parents i (sym (m.right s k z)) (answer s k z ∙ q)) }
-
-  pub made_other : (i : ℕ) → (word_at h i ≡ site.word → ⊥) → Made t site o h i false → Made t site o h (i + 1) false
-  made_other i w m =
+module _ (t : Catalogue) (site : Site) (o : Origin) where
+  pub same_word : (m : Making) (r : Bool) → m.word ≡ site.word → SameMaking t site o m.origin r → SameAs t site o m r
+  same_word m r w same =
       record {
-        right = λ s k z.
-            sym (new-next (line_map s) site.place h site.word o.doms o.parents i (sym (m.right s k z))
-            (new-unlike (line_map s) site.place h site.word o.doms o.parents (word_at h i) (doms_at h i) (parents_at h i) w));
+        right = λ s k l.
+            same.right s k l
+            ∙ ap (λ (y : ℕ). same_item (created (line_map s) site.place site.word o.doms o.parents) (created (line_map s) site.place y m.origin.doms m.origin.parents)) (sym w);
       }
 
--- the steps of a walk over the makings
-pub ruleset made_steps = (made_start, made_found, made_unlike, made_other)
+  pub other_word : (m : Making) → (m.word ≡ site.word → ⊥) → SameAs t site o m (eqb m.word site.word)
+  other_word m w =
+      let none : Makings = record { count = 0; items = replicate 380 no_making; few = omega arith; long = length-replicate 380 no_making } in
+      rw (ne_eqb m.word site.word w)
+      (record {
+        right = λ s k l. sym (new-unlike (line_map s) site.place none site.word o.doms o.parents m.word m.origin.doms m.origin.parents w);
+      })
+
+  made-none : (h : Makings) (n : ℕ) → ((i : ℕ) → i < n → SameAs t site o (making_at h i) false) → Made t site o h n false
+  made-none h zero f = record { right = λ s k l. sym (new-start (line_map s) site.place h site.word o.doms o.parents) }
+  made-none h (suc n) f =
+      record {
+        right = λ s k l.
+            let m = made-none h n (λ i b. f i (omega arith)) in
+            sym (new-next (line_map s) site.place h site.word o.doms o.parents n (sym (m.right s k l)) (sym ((f n (omega arith)).right s k l)))
+            ∙ ap (λ (i : ℕ). any (same_item (created (line_map s) site.place site.word o.doms o.parents)) (held_items (line_map s) site.place h i)) (add-one n);
+      }
+
+  made-some : (h : Makings) (n i : ℕ) → i < n → SameAs t site o (making_at h i) true → Made t site o h n true
+  made-some h n i l m =
+      record { right = λ s k z. sym (new-found (line_map s) site.place h site.word o.doms o.parents i n l (sym (m.right s k z))) }
+
+  -- what a search for one among the makings answers
+  pub made-any : (h : Makings) (r : Bool) → MatchBool r ((i : ℕ) × (i < length (items_of h)) × HoldsAt (λ x. SameAs t site o x true) (items_of h) i)
+      (AllWithin (λ x. SameAs t site o x false) (items_of h) 0 (length (items_of h))) → Made t site o h h.count r
+  made-any h true f =
+      let l : f.0 < h.count = omega (arith, f.1, length-items_of h) in
+      made-some h h.count f.0 l (subst (λ (x : Making). SameAs t site o x true) (get_or-take h.count h.items f.0 no_making l) (f.2 no_making))
+  made-any h false f =
+      made-none h h.count
+      (λ i l. subst (λ (x : Making). SameAs t site o x false) (get_or-take h.count h.items i no_making l) (f i no_making (omega arith) (omega (arith, length-items_of h))))
 
 -- ---- a duplicate
 

@@ -2,7 +2,7 @@
 #![tactic(auto)]
 
 ghost use Rattle.std.specs.Prelude.{◌<◌};
-ghost use Rattle.duplicates.specs.Held.{Declared, Made, Repeated};
+ghost use Rattle.duplicates.specs.Held.{Declared, SameAs, Made, Repeated};
 
 use bounded::UpTo;
 use catalogue::Catalogue;
@@ -36,7 +36,8 @@ impl Making {
 // 15 words, an inherited one once, so that there are at most 380.
 pub type Makings = UpTo<Making, 380>;
 
-// Whether T.r is declared. A two-word T gives three-word names, which are never declared.
+// Whether T.r is declared. A two-word T gives three-word names, which are never declared. The key is taken apart here, since
+// `place_of` asks for the parts of a key: a Name would be made of it and turned back.
 #[tactic(auto, using(crate::specs::HeldLaws::declared_three, crate::specs::HeldLaws::declared_two))]
 pub fn is_declared(t: &Catalogue, site: Site) -> bool
     ensures { Declared t.now site.place site.word result }
@@ -50,18 +51,21 @@ pub fn is_declared(t: &Catalogue, site: Site) -> bool
     synth_classes::place_of(t, first, second + 1).is_some()
 }
 
-// Whether an earlier making of the type is identical to that of a word. Only those of the same word are compared.
-#[tactic(auto, using(crate::specs::HeldLaws::made_steps))]
+// Whether a making is identical to that of a word. Only those of the same word are compared.
+#[tactic(auto, using(crate::specs::HeldLaws::same_word, crate::specs::HeldLaws::other_word))]
+fn is_same_making(t: &Catalogue, site: Site, origin: Origin, making: Making) -> bool
+    ensures { SameAs t.now site origin making result }
+{
+    making.word == site.word && synth_same::is_same(t, site, origin, making.origin)
+}
+
+// Whether an earlier making of the type is identical to that of a word.
 pub fn is_made(t: &Catalogue, site: Site, origin: Origin, made: &Makings) -> bool
     ensures { Made t.now site origin made.now made.now.count result }
 {
-    for i in 0..made.count {
-        let making = made.items[i];
-        if making.word == site.word && synth_same::is_same(t, site, origin, making.origin) {
-            return true;
-        }
-    }
-    false
+    made.as_slice()
+        .iter()
+        .any(|making| is_same_making(t, site, origin, *making))
 }
 
 // Kind 6 (FORMAT 8.10): T.r is declared, or an earlier making is identical.

@@ -1,7 +1,7 @@
 // Rows of a diagnosis written into a lent slice.
 #![tactic(auto)]
 
-ghost use Rattle.std.specs.Prelude.{◌≡◌, ◌*◌, ◌≤◌, length, ltb};
+ghost use Rattle.std.specs.Prelude.{true, ◌≡◌, ◌*◌, ◌≤◌, length};
 ghost use Rattle.emitting.specs.Emitting.{emit_bytes};
 ghost use Rattle.emitting.specs.Row.{bytes_of, number_of};
 
@@ -36,8 +36,11 @@ pub struct Row {
     pub word: Option<u8>,
 }
 
+// The bytes of a row: its kind, two for each of its names, and a word (FORMAT 8.1).
+pub const ROW: usize = 6;
+
 // What stands in a row for an absent word, and twice for an absent name (FORMAT 8.1).
-const ABSENT: u8 = 255;
+pub const ABSENT: u8 = 255;
 
 // How many rows were written, and whether there are more (FORMAT 8.2).
 #[derive(Clone, Copy)]
@@ -46,14 +49,17 @@ pub struct Report {
     pub more: bool,
 }
 
-// Writes rows into a lent slice, the first `limit` of them. The count of rows stops one past the limit, so that it tells whether
-// there are more (FORMAT 8.2).
+// Writes rows into a lent slice, the first `limit` of them (FORMAT 8.2).
 #[derive(Drop)]
 pub struct Writer<'a> {
     pub buf: &'a mut [u8],
     pub limit: usize,
+    // how many were written, and whether there are more
     pub count: usize,
+    pub more: bool,
     pub ghost room: { 6 * limit ≤ length buf.now },
+    pub ghost few: { count ≤ limit },
+    pub ghost full: { more ≡ true → count ≡ limit },
 }
 
 impl<'a> Writer<'a> {
@@ -68,6 +74,7 @@ impl<'a> Writer<'a> {
             buf,
             limit,
             count: 0,
+            more: false,
         }
     }
 
@@ -76,7 +83,7 @@ impl<'a> Writer<'a> {
         ensures { Adds self.old self.new (emit_bytes self.old.limit (state self.old) (bytes_of row)) }
     {
         if self.count >= self.limit {
-            self.count = self.limit + 1;
+            self.more = true;
             return;
         }
         let absent = Name {
@@ -84,8 +91,8 @@ impl<'a> Writer<'a> {
             second: ABSENT,
         };
         let other = row.other.unwrap_or(absent);
-        let at = 6 * self.count;
-        self.buf[at..at + 6].copy_from_slice(&[
+        let at = ROW * self.count;
+        self.buf[at..at + ROW].copy_from_slice(&[
             u8::from(row.kind),
             row.subject.first,
             row.subject.second,
@@ -98,9 +105,9 @@ impl<'a> Writer<'a> {
 
     // Whether there are more rows than may be written.
     pub fn is_over(&self) -> bool
-        ensures { result ≡ ltb self.now.limit self.now.count }
+        ensures { result ≡ self.now.more }
     {
-        self.limit < self.count
+        self.more
     }
 
     // How many rows were written, and whether there are more.
@@ -108,8 +115,8 @@ impl<'a> Writer<'a> {
         ensures { Tells self.now result }
     {
         Report {
-            rows: self.count.min(self.limit),
-            more: self.is_over(),
+            rows: self.count,
+            more: self.more,
         }
     }
 }

@@ -9,9 +9,10 @@ use Rattle.definitions.specs.Conversion.{Converted, convert}
 use Rattle.fields.specs.declared.Fault.{Fault}
 use Rattle.schedule_records.specs.Turning.{answer_of, Converts}
 use Rattle.schedule_records.specs.CallLaws.{plain}
-use Rattle.exports.specs.declared.Parts.{Parts}
-use Rattle.exports.specs.Exports.{too_few_parts}
-use Rattle.exports.specs.Parts.{Small, Tells}
+use Rattle.answers.specs.declared.Parts.{Parts}
+use Rattle.answers.specs.Answers.{parts_of}
+use Rattle.exports.specs.Exports.{flag, too_few_parts}
+use Rattle.exports.specs.Parts.{Small}
 use Rattle.exports.specs.ExportLaws.{told-by}
 use Rattle.exports.specs.Conversions.{told_conversion, exported_conversion}
 
@@ -33,11 +34,11 @@ module _ (from to : Form) (W : ℕ) (source lent : List ℕ) (a : Result ℕ Fau
       }
 
   -- and all are told
-  pub told-conversion : (p : Parts) → Tells p (answer_of a) → (number : ℕ) (parts new : List ℕ) → 3 ≤ length parts → number ≡ p.number
-      → new ≡ overwrite (p.size ∷ p.rows ∷ p.more ∷ []) parts
+  pub told-conversion : (p : Parts) → parts_of p ≡ answer_of a → (number : ℕ) (parts new : List ℕ) → 3 ≤ length parts → number ≡ p.number
+      → new ≡ overwrite (p.size ∷ p.rows ∷ flag p.more ∷ []) parts
       → record { number = number; parts = new; output = output } ≡ exported_conversion (convert from to W source lent) lent parts
   unfolding exported_conversion
   told-conversion p t number parts new k n q =
-      ap₂ (λ (x : ℕ) (y : List ℕ). record { number = x; parts = y; output = output }) (n ∙ ap (λ (x : Answer). x.number) t.same) (told-by p (answer_of a) t parts new q)
+      ap₂ (λ (x : ℕ) (y : List ℕ). record { number = x; parts = y; output = output }) (n ∙ ap (λ (x : Answer). x.number) t) (told-by p (answer_of a) t parts new q)
       ∙ ap (λ (o : Converted). told_conversion o parts) h.outcome
       ∙ sym (rw (le-ltb (length parts) 3 k))

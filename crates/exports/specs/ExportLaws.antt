@@ -1,25 +1,23 @@
 -- The parts of an answer fit; and demand 3 for the exported calls.
-use Rattle.std.specs.Prelude.{Bool, true, false, List, [], ◌∷◌, ◌≡◌, refl, ℕ, ◌≤◌, ◌<◌, eqb, ltb, length, get_or, set, take}
+use Rattle.std.specs.Prelude.{Bool, true, false, List, [], ◌∷◌, ◌≡◌, refl, ℕ, ◌≤◌, ◌<◌, ltb, length, get_or, set, take}
 use Rattle.std.specs.Int.{from_bool}
 use Rattle.std.proofs.Common.{sym, ap, ap₂, ◌∙◌, subst, arith, lt-ltb, le-ltb}
 use Rattle.std.proofs.lemmas.List.Edits.{sets-eq}
 use Rattle.lists.specs.Tests.{by, never}
 use Rattle.definitions.specs.Relisted.{Alike}
 use Rattle.definitions.specs.Answer.{standard, Input, Answer, Outcome, overwrite, outcome}
-use Rattle.emitting.specs.declared.Report.{Report}
-use Rattle.answers.specs.declared.Refusal.{Refusal}
 use Rattle.answers.specs.Answers as held
 use Rattle.fields.specs.declared.Fault.{Fault}
 use Rattle.tariff_table.specs.declared.Broken.{Broken}
 use Rattle.tariff.specs.declared.Refusal as charging
 use Rattle.tariff.specs.Numbers as numbers
-use Rattle.answers.specs.Answers.{parts, alone, reported, refusal_of, number_of, answer_of, Answered}
+use Rattle.answers.specs.declared.Parts.{Parts}
+use Rattle.answers.specs.Answers.{parts_of, answer_of, Answered}
 use Rattle.access.specs.Lines.{LinesListed}
 use Rattle.relisting_laws.proofs.Alike.{answers-alike, listings-equal}
 use Rattle.answer_laws.specs.Sizes as sizes
 use Rattle.exports.specs.Exports.{flag, too_few_parts, told, exported, Exported}
-use Rattle.exports.specs.declared.Parts.{Parts}
-use Rattle.exports.specs.Parts.{Small, Tells}
+use Rattle.exports.specs.Parts.{Small}
 use Rattle.exports.specs.Statements.{ExportedAlike, ExportsAlike}
 
 pub small : (i : Input) → i.settings ≡ standard → Small (outcome i).answer
@@ -29,54 +27,9 @@ small i e = record {
   rows = omega (arith, sizes.rows i, ap (λ s. s.rows) e);
 }
 
-pub flag_is : (b : Bool) → eqb (flag b) 1 ≡ b
-flag_is true = refl
-flag_is false = refl
-
 pub from-bool : (b : Bool) → from_bool b ≡ flag b
 from-bool true = refl
 from-bool false = refl
-
--- ---- case by case
-
--- a refusal without rows and size has its number alone
-pub alone-else : (r : Refusal) → ((x : Report) → r ≡ Refusal.NoOrder x → ⊥) → ((x : Report) → r ≡ Refusal.TypeRefused x → ⊥) → ((n : ℕ) → r ≡ Refusal.ShortListing n → ⊥)
-    → alone (number_of r) ≡ refusal_of r
-alone-else Refusal.LongSheet h k l = refl
-alone-else Refusal.ShortDiagnosis h k l = refl
-alone-else Refusal.Past h k l = refl
-alone-else Refusal.NotAllowed h k l = refl
-alone-else Refusal.Words h k l = refl
-alone-else Refusal.Repeats h k l = refl
-alone-else Refusal.Fill h k l = refl
-alone-else (Refusal.NoOrder x) h k l = absurd (h x refl)
-alone-else (Refusal.TypeRefused x) h k l = absurd (k x refl)
-alone-else (Refusal.ShortListing n) h k l = absurd (l n refl)
-
--- a refusal with rows has them, and one with a size has it
-pub no-order : {p : Parts} {n : ℕ} {x : Report} (r : Refusal) → Tells p (reported n x) → r ≡ Refusal.NoOrder x → n ≡ number_of r → Tells p (refusal_of r)
-no-order {x = x} r t e q = record {
-  same = t.same ∙ ap (λ (k : ℕ). reported k x) (q ∙ ap number_of e) ∙ sym (ap refusal_of e);
-  flagged = t.flagged ∙ sym (ap (λ (y : Refusal). flag (refusal_of y).more) e);
-}
-
-pub type-refused : {p : Parts} {n : ℕ} {x : Report} (r : Refusal) → Tells p (reported n x) → r ≡ Refusal.TypeRefused x → n ≡ number_of r → Tells p (refusal_of r)
-type-refused {x = x} r t e q = record {
-  same = t.same ∙ ap (λ (k : ℕ). reported k x) (q ∙ ap number_of e) ∙ sym (ap refusal_of e);
-  flagged = t.flagged ∙ sym (ap (λ (y : Refusal). flag (refusal_of y).more) e);
-}
-
-pub short-listing : {p : Parts} {n : ℕ} (size : ℕ) (r : Refusal) → Tells p (parts n size 0 false) → r ≡ Refusal.ShortListing size → n ≡ number_of r → Tells p (refusal_of r)
-short-listing size r t e q = record {
-  same = t.same ∙ ap (λ (k : ℕ). parts k size 0 false) (q ∙ ap number_of e) ∙ sym (ap refusal_of e);
-  flagged = t.flagged ∙ sym (ap (λ (y : Refusal). flag (refusal_of y).more) e);
-}
-
-pub others-alone : {p : Parts} {n : ℕ} (r : Refusal) → Tells p (alone n) → alone (number_of r) ≡ refusal_of r → n ≡ number_of r → Tells p (refusal_of r)
-others-alone r t e q = record {
-  same = t.same ∙ ap (λ (k : ℕ). alone k) q ∙ e;
-  flagged = t.flagged ∙ ap (λ (y : Answer). flag y.more) e;
-}
 
 -- the numbers of a tariff's refusals
 pub few-numbers : (r : charging.Refusal) → numbers.number_of r ≤ 16
@@ -87,12 +40,10 @@ few-numbers (charging.Refusal.Schedule Fault.Past) = omega arith
 few-numbers (charging.Refusal.Schedule Fault.NotAllowed) = omega arith
 
 -- what is told by its parts, by what they are the parts of
-pub told-by : (p : Parts) (a : Answer) → Tells p a → (parts new : List ℕ) → new ≡ overwrite (p.size ∷ p.rows ∷ p.more ∷ []) parts
+pub told-by : (p : Parts) (a : Answer) → parts_of p ≡ a → (parts new : List ℕ) → new ≡ overwrite (p.size ∷ p.rows ∷ flag p.more ∷ []) parts
     → new ≡ overwrite (a.size ∷ a.rows ∷ flag a.more ∷ []) parts
 told-by p a t parts new e =
-    e
-    ∙ ap (λ (x : Answer). overwrite (x.size ∷ x.rows ∷ p.more ∷ []) parts) t.same
-    ∙ ap (λ (n : ℕ). overwrite (a.size ∷ a.rows ∷ n ∷ []) parts) t.flagged
+    e ∙ ap (λ (x : Answer). overwrite (x.size ∷ x.rows ∷ flag x.more ∷ []) parts) t
 
 -- the three numbers, and behind them what was there
 pub three : (l : List ℕ) (a b c : ℕ) → 3 ≤ length l → set (set (set l 0 a) 1 b) 2 c ≡ overwrite (a ∷ b ∷ c ∷ []) l
@@ -121,11 +72,11 @@ module _ (i : Input) (e : i.settings ≡ standard) (a : held.Answer) (l d : List
   pub small-answer : Small (answer_of a)
   small-answer = subst Small (sym (ap (λ (x : Outcome). x.answer) h.outcome)) (small i e)
 
-  pub told-all : (p : Parts) → Tells p (answer_of a) → (number : ℕ) (parts new : List ℕ) → 3 ≤ length parts → number ≡ p.number
-      → new ≡ overwrite (p.size ∷ p.rows ∷ p.more ∷ []) parts
+  pub told-all : (p : Parts) → parts_of p ≡ answer_of a → (number : ℕ) (parts new : List ℕ) → 3 ≤ length parts → number ≡ p.number
+      → new ≡ overwrite (p.size ∷ p.rows ∷ flag p.more ∷ []) parts
       → record { number = number; parts = new; listing = l; diagnosis = d } ≡ exported i parts
   told-all p t number parts new k n q =
-      ap₂ (λ (x : ℕ) (y : List ℕ). record { number = x; parts = y; listing = l; diagnosis = d }) (n ∙ ap (λ (x : Answer). x.number) t.same) (told-by p (answer_of a) t parts new q)
+      ap₂ (λ (x : ℕ) (y : List ℕ). record { number = x; parts = y; listing = l; diagnosis = d }) (n ∙ ap (λ (x : Answer). x.number) t) (told-by p (answer_of a) t parts new q)
       ∙ ap (λ (x : Outcome). told x parts) h.outcome
       ∙ sym (all_told i parts (le-ltb (length parts) 3 k))
 

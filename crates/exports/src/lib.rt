@@ -3,99 +3,46 @@
 
 ghost use Rattle.std.specs.Prelude.{false, [], ◌∷◌, ◌≡◌, ◌^◌, ◌<◌, ◌≤◌, length};
 ghost use Rattle.definitions.specs.Answer.{overwrite};
-ghost use Rattle.answers.specs.Answers.{parts, reported, refusal_of, answer_of, order_input, schedule_input};
+ghost use Rattle.answers.specs.Answers.{parts_of, order_input, schedule_input};
 ghost use Rattle.access.specs.Lines.{LinesListed};
 ghost use Rattle.definitions.specs.Conversion.{read_schedule, write_schedule};
 ghost use Rattle.tariff_definitions.specs.Tariff.{charged};
-ghost use Rattle.exports.specs.Exports.{exported};
+ghost use Rattle.exports.specs.Exports.{flag, exported};
 ghost use Rattle.exports.specs.Conversions.{exported_conversion};
-ghost use Rattle.exports.specs.Parts.{Small, Tells, converted};
+ghost use Rattle.exports.specs.Parts.{Small, converted};
 
-use answers::{Answer, Refusal};
-use emitting::Report;
+use answers::Parts;
 use fields::Fault;
 
 // What is answered where fewer than three numbers are lent for the parts.
 const TOO_FEW_PARTS: u32 = 255;
 
-// The parts of an answer: 01's number, the size, how many rows were written, and 1 if there are more.
-#[derive(Clone, Copy)]
-pub struct Parts {
-    pub number: u32,
-    pub size: u32,
-    pub rows: u32,
-    pub more: u32,
-}
-
-// A number and a size.
-fn sized(number: u32, size: usize) -> Parts
-    requires { size < 2 ^ 32 }
-    ensures { Tells result (parts number size 0 false) }
-{
-    Parts {
-        number: number,
-        size: size as u32,
-        rows: 0,
-        more: 0,
-    }
-}
-
-// A number and a report of rows.
-fn with_rows(number: u32, report: Report) -> Parts
-    requires { report.rows < 2 ^ 32 }
-    ensures { Tells result (reported number report) }
-{
-    Parts {
-        number: number,
-        size: 0,
-        rows: report.rows as u32,
-        more: u32::from(report.more),
-    }
-}
-
-fn parts_of_refusal(r: Refusal) -> Parts
-    requires { Small (refusal_of r) }
-    ensures { Tells result (refusal_of r) }
-{
-    let number = r.number() as u32;
-    match r {
-        Refusal::NoOrder(report) => with_rows(number, report),
-        Refusal::TypeRefused(report) => with_rows(number, report),
-        Refusal::ShortListing(size) => sized(number, size),
-        _ => sized(number, 0),
-    }
-}
-
-fn parts_of(a: Answer) -> Parts
-    requires { Small (answer_of a) }
-    ensures { Tells result (answer_of a) }
-{
-    match a {
-        Ok(size) => sized(0, size),
-        Err(refusal) => parts_of_refusal(refusal),
-    }
-}
-
 // Of a schedule that was turned into records, or back.
 fn parts_of_conversion(a: Result<usize, Fault>) -> Parts
-    requires { Small (converted a) }
-    ensures { Tells result (converted a) }
+    ensures { parts_of result ≡ converted a }
 {
-    match a {
-        Ok(size) => sized(0, size),
-        Err(fault) => sized(schedule_values::number_of(fault) as u32, 0),
+    let (number, size) = match a {
+        Ok(size) => (0, size),
+        Err(fault) => (schedule_values::number_of(fault), 0),
+    };
+    Parts {
+        number,
+        size,
+        rows: 0,
+        more: false,
     }
 }
 
-// Writes size, rows and flag, and answers the number.
+// Writes size, rows and flag, which is 1 if there are more, and answers the number.
 fn tell(p: Parts, parts: &mut [u32]) -> u32
-    requires { 3 ≤ length parts.old }
-    ensures { (result ≡ p.number) × (parts.new ≡ overwrite (p.size ∷ p.rows ∷ p.more ∷ []) parts.old) }
+    requires lent { 3 ≤ length parts.old }
+    requires small { Small (parts_of p) }
+    ensures { (result ≡ p.number) × (parts.new ≡ overwrite (p.size ∷ p.rows ∷ flag p.more ∷ []) parts.old) }
 {
-    parts[0] = p.size;
-    parts[1] = p.rows;
-    parts[2] = p.more;
-    p.number
+    parts[0] = p.size as u32;
+    parts[1] = p.rows as u32;
+    parts[2] = u32::from(p.more);
+    p.number as u32
 }
 
 // The order-only call. Where fewer than three numbers are lent, the answer is no refusal's number, and nothing is touched.
@@ -112,7 +59,7 @@ pub extern "C" fn gidzelma_order(
         return TOO_FEW_PARTS;
     }
     let answer = access::order(sheet, listing, diagnosis);
-    tell(parts_of(answer), parts)
+    tell(Parts::from(answer), parts)
 }
 
 // The schedule call, likewise; the lines of an accepted map stand in the listing, as `access::schedule` promises.
@@ -131,7 +78,7 @@ pub extern "C" fn gidzelma_schedule(
         return TOO_FEW_PARTS; // and nothing is touched
     }
     let answer = access::schedule(sheet, listing, diagnosis);
-    tell(parts_of(answer), parts)
+    tell(Parts::from(answer), parts)
 }
 
 // A packed schedule into records, for a sheet of w words (FORMAT 12.1). Where fewer than three numbers are lent nothing is

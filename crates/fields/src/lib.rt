@@ -26,8 +26,9 @@ pub enum Fault {
 // What was read and the cursor behind it, or what is wrong with a field.
 pub type Parsed<T> = Result<(T, Cursor), Fault>;
 
-// A name (FORMAT 1.3). The second word is 255 where there is none: a word is below W, at most 200. No Option: the law has that
-// number for an absent word, in the two bytes of a name in a row (FORMAT 8.1).
+// A name (FORMAT 1.3). The second word is 255 where there is none: a word is below W, at most 200. No Option: the flat
+// arrays of an annotation as read (01) and the two bytes of a name in a row (FORMAT 8.1) have that number, and names are made of the
+// one and put into the other.
 #[derive(Clone, Copy)]
 pub struct Name {
     pub first: u8,
@@ -127,7 +128,8 @@ impl Names {
     }
 }
 
-// n names. Each kind of list has such a loop: one for all would need a trait with its parser, and more lines than it spares.
+// n names. Each kind of list has such a loop: one for all would need a trait with its parser, and a fold, as `sheet_notes` has where
+// nothing is kept, would hand the list on by value with the cursor.
 fn read_each_name(s: Sheet, c: Cursor, n: usize) -> Parsed<Names>
     requires { n ≤ 15 }
     ensures { of_parsed of_names (bits_in s.entry) result ≡ repeat (name s.entry.words) n (drop c.at (bits_in s.entry)) }
@@ -142,8 +144,8 @@ fn read_each_name(s: Sheet, c: Cursor, n: usize) -> Parsed<Names>
     Ok((names, next))
 }
 
-// A count of 4 bits within its bounds, and so many names: parents, the names of an Inherit, and the resources of an
-// associate, which are read like names (FORMAT 2.3, 2.8).
+// A count of 4 bits within its bounds, and so many names: those of an Inherit, and the resources of an associate, which are
+// read like names (FORMAT 2.3, 2.8).
 pub fn read_names(s: Sheet, c: Cursor, least: usize, most: usize) -> Parsed<Names>
     requires { most ≤ 15 }
     ensures { of_parsed of_names (bits_in s.entry) result ≡ counted 4 least most (name s.entry.words) (drop c.at (bits_in s.entry)) }

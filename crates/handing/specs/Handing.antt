@@ -1,5 +1,5 @@
 -- What the functions require and ensure: what stands in the store, and what a type inherits from its listed parents.
-use Rattle.std.specs.Prelude.{Bool, true, false, List, ◌++◌, map, ◌≡◌, ℕ, ◌+◌, ◌*◌, ◌<◌, ◌^◌, length, get_or, Option}
+use Rattle.std.specs.Prelude.{Bool, true, false, List, ◌++◌, map, ◌≡◌, ℕ, ◌<◌, ◌^◌, length, get_or, Option}
 use Rattle.lists.specs.Lists.{ascends}
 use Rattle.rows.specs.Rows.{has_bit}
 use Rattle.definitions.specs.Records.{Name, TypeInfo, Sheet}

@@ -1,5 +1,5 @@
 -- One parent, and one listed parent more.
-use Rattle.std.specs.Prelude.{Bool, true, false, List, [], ◌∷◌, ◌++◌, map, ◌≡◌, refl, ℕ, ◌+◌, ◌*◌, ◌<◌, ◌^◌, Option, Some, None, is_some}
+use Rattle.std.specs.Prelude.{Bool, true, false, List, [], ◌∷◌, ◌++◌, map, ◌≡◌, refl, ℕ, ◌+◌, ◌<◌, ◌^◌, Option, Some, None, is_some}
 use Rattle.std.proofs.Common.{append-nil, append_assoc, sym, ap, ap₂, ◌∙◌, add-one, arith}
 use Rattle.std.proofs.lemmas.List.{get_or_default}
 use lib.ListN.{length, get_or, get_or-map}
@@ -23,7 +23,7 @@ use Rattle.inheritance.specs.Own.{handed, handed_own, JoinsParent}
 use Rattle.inheritance.specs.OwnLaws.{onto-append}
 use Rattle.store.specs.Store.{nothing, Fetched}
 use Rattle.store.specs.declared.Saved.{Saved}
-use Rattle.store.specs.StoreLaws.{held-read}
+use Rattle.store.specs.StoreLaws.{held-count, held-read}
 use Rattle.own_associates.specs.Owning as owning
 use Rattle.own_associates.specs.Owning.{OwnAssociates, OwnFit, OwnOf}
 use Rattle.own_associates.specs.declared.Location.{Location}
@@ -78,7 +78,7 @@ none-is None e = refl
 none-is (Some y) e = cc
 
 -- one that inherits nothing either hands on nothing
-pub takes-nothing : (h : Inherited) (bs : List Bool) (x : Option Location) (k : Saved) (place : ℕ) → x ≡ None → k.count ≡ 0 → Takes h bs x k place h
+pub takes-nothing : (h : Inherited) (bs : List Bool) (x : Option Location) (k : Saved) (place : ℕ) → x ≡ None → k.words.count ≡ 0 → Takes h bs x k place h
 takes-nothing h bs x k place a z =
     record {
       dedup = λ T n g e names asc.
@@ -86,7 +86,7 @@ takes-nothing h bs x k place a z =
           ∙ ap (dedup_onto (inherited_of names h))
           (sym (ap₂ (λ (x : List records.AnnotationInfo) (y : List InheritedAnnotation). map (λ b. record { annotation = as_associate b; parents = names_at names (2 ^ place) }) x ++ map (under' (names_at names (2 ^ place))) y)
           (own-none T (n.none a))
-          (inherits-none names g (sym e.count ∙ z))));
+          (inherits-none names g (sym (held-count k g e) ∙ z))));
     }
 
 -- ---- a parent that is stored

@@ -28,9 +28,8 @@ fn inherit_from(
 {
     let own = own_associates::own_associates(s, x);
     let p = saved.fetch();
-    let one: u64 = 1;
-    let bit = one << place;
-    inheritance::inherit_parent(h, &own.items[..own.count], p, bit)
+    let parent = bitsets::with_one(0, place);
+    inheritance::inherit_parent(h, own.as_slice(), p, parent)
 }
 
 // The same, but one without annotations that inherits nothing hands on nothing.
@@ -46,7 +45,7 @@ fn inherit_any(
     requires own_fit { OwnFit (bits_of s.now) x }
     ensures { Takes h (bits_of s.now) x saved.now place result }
 {
-    if x.is_none() && saved.count == 0 {
+    if x.is_none() && saved.words.count == 0 {
         return h;
     }
     inherit_from(h, s, x, saved, place)

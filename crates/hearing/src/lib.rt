@@ -9,7 +9,8 @@ ghost use Rattle.hearing.specs.Hearing.{WithFlag, FlagsOf, WithOk};
 
 use ordering::Parents;
 
-// Bit i is set if listing i hands on; `all` if each does.
+// Bit i is set if listing i hands on; `all` if each does. The row alone does not tell `all`: the count of the listings would have
+// to stand here in its place.
 #[derive(Clone, Copy)]
 pub struct Flags {
     pub row: u64,

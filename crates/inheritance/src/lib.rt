@@ -17,12 +17,9 @@ use rows::Row;
 pub fn words_of(a: OwnAssociate) -> Row
     ensures { WordsOf a.info result }
 {
-    let count = a.info.count;
-    let words = a.info.words;
     let mut row = rows::empty_row();
-    for i in 0..count {
-        let w = words[i] as usize;
-        let one = rows::alone(w);
+    for w in &a.info.words[..a.info.count] {
+        let one = rows::alone(usize::from(*w));
         row = rows::in_either(row, one);
     }
     row
@@ -32,16 +29,11 @@ pub fn words_of(a: OwnAssociate) -> Row
 pub fn doms_with(doms: [Row; 200], a: OwnAssociate) -> [Row; 200]
     ensures { DomsWith doms a.info result }
 {
-    let count = a.info.count;
-    let words = a.info.words;
-    let given = a.info.doms;
+    let words = &a.info.words[..a.info.count];
     let mut out = doms;
-    for i in 0..count {
-        let w = words[i] as usize;
-        let x = out[w];
-        let y = given[i];
-        let z = rows::in_either(x, y);
-        out[w] = z;
+    for (w, given) in words.iter().zip(a.info.doms.iter()) {
+        let w = usize::from(*w);
+        out[w] = rows::in_either(out[w], *given);
     }
     out
 }

@@ -13,7 +13,7 @@ use catalogue::Catalogue;
 use emitting::{Kind, Writer};
 use fields::Name;
 use rows::Row;
-use synth_classes::Doms;
+use synth_classes::{Doms, Site};
 
 // Why a word of a type makes no resource (FORMAT 8.10).
 #[derive(Clone, Copy)]
@@ -79,15 +79,14 @@ pub fn first_other(t: &Catalogue, doms: Row, word: u8) -> Option<u8>
 
 // A row of kind 4 for each unknown class, with the class as the other name (FORMAT 8.10).
 #[tactic(auto, using(crate::specs::JudgedLaws::written_steps))]
-pub fn unknown_rows(t: &Catalogue, place: usize, doms: Row, word: u8, out: &mut Writer<'_>)
-    requires { (word < 255) × (place < 64) }
-    ensures { Emits out.old out.new (map (unknown_row t.now place word) (unknown_doms t.now doms word)) }
+pub fn unknown_rows(t: &Catalogue, site: Site, doms: Row, out: &mut Writer<'_>)
+    ensures { Emits out.old out.new (map (unknown_row t.now site.place site.word) (unknown_doms t.now doms site.word)) }
 {
-    let subject = synth_classes::name_at(t, place);
+    let subject = synth_classes::name_at(t, site.place);
     for dom in Doms::of(doms) {
-        if is_unknown(t, word, dom) {
-            let class = synth_classes::class_name(dom as usize, word);
-            put_reason(out, subject, Reason::Unknown(class), word);
+        if is_unknown(t, site.word, dom) {
+            let class = synth_classes::class_name(dom as usize, site.word);
+            put_reason(out, subject, Reason::Unknown(class), site.word);
         }
     }
 }

@@ -24,15 +24,8 @@ use Rattle.emitting.specs.Writing.{state, SameSlice}
 use Rattle.interpretation.specs.Emit.{emit}
 use Rattle.duplicates.specs.Held.{Makings}
 use Rattle.associates.specs.Step.{items_held}
+use Rattle.interpreting.specs.declared.Progress.{Progress}
 use Rattle.interpreting.specs.Entry.{size}
-
--- how far a type is, with its makings
-pub record TypeReached : Type 0 where
-  pub clean : Bool
-  pub made : Makings
-
-abbrev pub type_reached : Bool → Makings → TypeReached
-type_reached clean made = record { clean = clean; made = made }
 
 -- an own annotation has no parents
 abbrev pub as_own : OwnAssociate → InheritedAnnotation
@@ -53,19 +46,19 @@ abbrev pub interpreted_of : LineMap → ℕ → List InheritedAnnotation → Mak
 interpreted_of m T l made = interpret_all m (type_at m T) l (items_held m T made)
 
 -- r is s behind the annotations l, and so is what is written
-pub record AddedIn (m : LineMap) (T : ℕ) (l : List InheritedAnnotation) (s : TypeReached) (w : Writer) (r : TypeReached) (w' : Writer) : Type 0 where
+pub record AddedIn (m : LineMap) (T : ℕ) (l : List InheritedAnnotation) (s : Progress) (w : Writer) (r : Progress) (w' : Writer) : Type 0 where
   pub rows : state w' ≡ emit w.limit (state w) (interpreted_of m T l s.made).rows
   pub items : items_held m T r.made ≡ (interpreted_of m T l s.made).items
   pub clean : r.clean ≡ (s.clean && null (interpreted_of m T l s.made).rows)
 
 -- the same for every sheet whose catalogue it is, of annotations that name its types; at most k resources were made
-pub record Added (t : Catalogue) (T : ℕ) (l : List Name → List InheritedAnnotation) (k : ℕ) (s : TypeReached) (w : Writer) (r : TypeReached) (w' : Writer) : Type 0 where
+pub record Added (t : Catalogue) (T : ℕ) (l : List Name → List InheritedAnnotation) (k : ℕ) (s : Progress) (w : Writer) (r : Progress) (w' : Writer) : Type 0 where
   pub same : SameSlice w w'
   pub count : r.made.count ≤ s.made.count + k
   pub right : (x : Sheet) → Known x t → T < length (line_map x).types → AddedIn (line_map x) T (l (type_names (line_map x))) s w r w'
 
 -- r is s behind the entry e: behind whatever annotation has its words, dom sets and parents
-pub record WithEntry (t : Catalogue) (T : ℕ) (e : Entry) (doms : List Row) (s : TypeReached) (w : Writer) (r : TypeReached) (w' : Writer) : Type 0 where
+pub record WithEntry (t : Catalogue) (T : ℕ) (e : Entry) (doms : List Row) (s : Progress) (w : Writer) (r : Progress) (w' : Writer) : Type 0 where
   pub same : SameSlice w w'
   pub count : r.made.count ≤ s.made.count + size e
   pub added : (x : Sheet) → Known x t → T < length (line_map x).types → (a : InheritedAnnotation) → resources_of a.annotation ≡ resources_at (table_of doms) e.words →

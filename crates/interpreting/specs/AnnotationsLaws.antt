@@ -28,7 +28,8 @@ use Rattle.associates.specs.StepLaws.{no_rows}
 use Rattle.associates.specs.Step.{Reached, begun, items_held}
 use Rattle.emitting.specs.Emitting.{emit-append}
 use Rattle.interpreting.specs.Entry.{size, interpret_entry, EntryDoneIn, EntryDone}
-use Rattle.interpreting.specs.Annotations.{TypeReached, own_entries_in, interpreted_of, AddedIn, Added, WithEntry, interpreted_at, TypeDoneIn, TypeDone}
+use Rattle.interpreting.specs.declared.Progress.{Progress}
+use Rattle.interpreting.specs.Annotations.{own_entries_in, interpreted_of, AddedIn, Added, WithEntry, interpreted_at, TypeDoneIn, TypeDone}
 
 -- ---- some annotations, and then others
 
@@ -47,11 +48,11 @@ null-append [] b = refl
 null-append (x ∷ a) b = refl
 
 module _ (t : LineMap) (T : ℕ) where
-  added_none : (s : TypeReached) (w : Writer) → AddedIn t T [] s w s w
+  added_none : (s : Progress) (w : Writer) → AddedIn t T [] s w s w
   unfolding interpret_all
   added_none s w = record { rows = no_rows w.limit (state w); items = refl; clean = sym (and-true s.clean) }
 
-  added_then : (a c : List InheritedAnnotation) (s p r : TypeReached) (w w' w'' : Writer) → w'.limit ≡ w.limit → AddedIn t T a s w p w' → AddedIn t T c p w' r w'' →
+  added_then : (a c : List InheritedAnnotation) (s p r : Progress) (w w' w'' : Writer) → w'.limit ≡ w.limit → AddedIn t T a s w p w' → AddedIn t T c p w' r w'' →
       AddedIn t T (a ++ c) s w r w''
   added_then a c s p r w w' w'' k x y =
       let m = t in
@@ -86,7 +87,7 @@ module _ (t : LineMap) (T : ℕ) where
       (λ j. interpret_words m D (sym ps j) (sym us j) false is) ∙ ap (λ rs. interpreted rs i.items) (sym (append-nil i.rows))
 
   -- one annotation
-  added-entry : (x : InheritedAnnotation) (e : Entry) (doms : List Row) (s : TypeReached) (w : Writer) (r : Reached) (w' : Writer) (c : Bool) →
+  added-entry : (x : InheritedAnnotation) (e : Entry) (doms : List Row) (s : Progress) (w : Writer) (r : Reached) (w' : Writer) (c : Bool) →
       resources_of x.annotation ≡ resources_at (table_of doms) e.words → x.parents ≡ names_in t e.parents →
       EntryDoneIn t T e doms (begun s.made) w r w' → c ≡ (s.clean && not r.failed) →
       AddedIn t T (x ∷ []) s w (record { clean = c; made = r.made }) w'
@@ -104,7 +105,7 @@ module _ (t : LineMap) (T : ℕ) where
   unfolding held_items
   nothing-held made e = ap (λ (k : ℕ). held_items t T made k) e
 
-  done-in : (o : OwnAssociates) (h : Inherited) (made : Makings) (w w' : Writer) (r : TypeReached) → made.count ≡ 0 →
+  done-in : (o : OwnAssociates) (h : Inherited) (made : Makings) (w w' : Writer) (r : Progress) → made.count ≡ 0 →
       AddedIn t T (own_entries_in o ++ inherited_of (type_names t) h) (record { clean = true; made = made }) w r w' → TypeDoneIn t T o h w r.clean w'
   unfolding interpreted_at
   done-in o h made w w' r e x =
@@ -119,10 +120,10 @@ module _ (t : LineMap) (T : ℕ) where
 -- ---- for every sheet whose catalogue it is
 
 module _ (t : Catalogue) (T : ℕ) where
-  pub all_none : (s : TypeReached) (w : Writer) → Added t T (λ ns. []) 0 s w s w
+  pub all_none : (s : Progress) (w : Writer) → Added t T (λ ns. []) 0 s w s w
   all_none s w = record { same = same_self w; count = omega arith; right = λ x k h. added_none (line_map x) T s w }
 
-  pub all_then : (a c : List Name → List InheritedAnnotation) (k l : ℕ) (s p r : TypeReached) (w w' w'' : Writer) → Added t T a k s w p w' → Added t T c l p w' r w'' →
+  pub all_then : (a c : List Name → List InheritedAnnotation) (k l : ℕ) (s p r : Progress) (w w' w'' : Writer) → Added t T a k s w p w' → Added t T c l p w' r w'' →
       Added t T (λ ns. a ns ++ c ns) (k + l) s w r w''
   all_then a c k l s p r w w' w'' y z =
       record {
@@ -133,7 +134,7 @@ module _ (t : Catalogue) (T : ℕ) where
       }
 
   -- the same annotations, and room for more
-  pub all-as : (a c : List Name → List InheritedAnnotation) (k l : ℕ) (s : TypeReached) (w : Writer) (r : TypeReached) (w' : Writer) → ((ns : List Name) → a ns ≡ c ns) → k ≤ l →
+  pub all-as : (a c : List Name → List InheritedAnnotation) (k l : ℕ) (s : Progress) (w : Writer) (r : Progress) (w' : Writer) → ((ns : List Name) → a ns ≡ c ns) → k ≤ l →
       Added t T a k s w r w' → Added t T c l s w r w'
   all-as a c k l s w r w' e h y =
       record {
@@ -143,12 +144,12 @@ module _ (t : Catalogue) (T : ℕ) where
       }
 
   -- one annotation
-  pub entry-with : (e : Entry) (doms : List Row) (s : TypeReached) (w : Writer) (r : Reached) (w' : Writer) (c : Bool) →
+  pub entry-with : (e : Entry) (doms : List Row) (s : Progress) (w : Writer) (r : Reached) (w' : Writer) (c : Bool) →
       EntryDone t T e doms (begun s.made) w r w' → c ≡ (s.clean && not r.failed) → WithEntry t T e doms s w (record { clean = c; made = r.made }) w'
   entry-with e doms s w r w' c d h =
       record { same = d.same; count = d.count; added = λ x k l a us ps. added-entry (line_map x) T a e doms s w r w' c us ps (d.right x k l) h }
 
-  pub all-entry : (a : List Name → InheritedAnnotation) (e : Entry) (doms : List Row) (s : TypeReached) (w : Writer) (r : TypeReached) (w' : Writer) →
+  pub all-entry : (a : List Name → InheritedAnnotation) (e : Entry) (doms : List Row) (s : Progress) (w : Writer) (r : Progress) (w' : Writer) →
       ((ns : List Name) → resources_of (a ns).annotation ≡ resources_at (table_of doms) e.words) → ((ns : List Name) → (a ns).parents ≡ names_at ns e.parents) →
       WithEntry t T e doms s w r w' → Added t T (λ ns. a ns ∷ []) (size e) s w r w'
   all-entry a e doms s w r w' us ps y =
@@ -158,7 +159,7 @@ module _ (t : Catalogue) (T : ℕ) where
         right = λ x k l. y.added x k l (a (type_names (line_map x))) (us (type_names (line_map x))) (ps (type_names (line_map x)));
       }
 
-  pub type-done : (o : OwnAssociates) (h : Inherited) (made : Makings) (w w' : Writer) (r : TypeReached) (k : ℕ) → made.count ≡ 0 →
+  pub type-done : (o : OwnAssociates) (h : Inherited) (made : Makings) (w w' : Writer) (r : Progress) (k : ℕ) → made.count ≡ 0 →
       Added t T (λ ns. own_entries_in o ++ inherited_of ns h) k (record { clean = true; made = made }) w r w' → TypeDone t T o h w r.clean w'
   type-done o h made w w' r k e y = record { same = y.same; right = λ x i l. done-in (line_map x) T o h made w w' r e (y.right x i l) }
 

@@ -27,7 +27,7 @@ use Rattle.inheritance.specs.declared.own.OwnAssociate.{OwnAssociate}
 use Rattle.own_associates.specs.Owning.{OwnAssociates}
 use Rattle.synth_classes.specs.Made.{type_names}
 use Rattle.duplicates.specs.Held.{Makings, no_making}
-use Rattle.associates.specs.Step.{Ready}
+use Rattle.synth_classes.specs.declared.site.Site.{Site}
 use Rattle.interpreting.specs.Entry.{EntryReady}
 use Rattle.interpreting.specs.Annotations.{TypeReady, interpreted_at}
 
@@ -129,8 +129,11 @@ ready = record { place = omega arith }
 abbrev makings : (n : ℕ) → n ≤ 380 → Makings
 makings n h = record { count = n; items = replicate 380 no_making; few = h; long = length-replicate 380 no_making }
 
-pub word-ready : Ready (record { place = 0; word = 199; inside = omega arith; numbered = omega arith }) (makings 379 (omega arith))
-word-ready = record { place = omega arith; word = omega arith; room = omega arith }
+abbrev pub word_site : Site
+word_site = record { place = 0; word = 199; inside = omega arith; numbered = omega arith }
+
+pub word-room : (makings 379 (omega arith)).count < 380
+word-room = omega arith
 
 pub entry_ready : EntryReady 0 entry (makings 180 (omega arith))
 entry_ready = record { place = omega arith; room = omega (arith, many-most (has words) 200) }

@@ -9,11 +9,10 @@ use Rattle.definitions.specs.Records.{Name}
 use Rattle.definitions.specs.Checks.{resources_of}
 use Rattle.definitions.specs.Inherited.{InheritedAnnotation}
 use Rattle.dedup.specs.declared.Entry.{Entry}
-use Rattle.dedup.specs.declared.inherited.Inherited.{Inherited}
 use Rattle.dedup.specs.Lists.{many, many-or, many-most}
-use Rattle.dedup.specs.Entries.{entries_of, Sound, covers, Apart, cons}
+use Rattle.dedup.specs.Entries.{Sound, covers, Apart, cons}
 use Rattle.dedup.specs.EntryLaws.{zeros}
-use Rattle.dedup.specs.Reading.{resources_at, names_at, read, read_all, table_of, inherited_of}
+use Rattle.dedup.specs.Reading.{resources_at, names_at, read, read_all}
 use Rattle.dedup.specs.ReadingLaws.{read_is}
 use Rattle.interpreting.specs.Entry.{size}
 
@@ -66,24 +65,9 @@ total-most l f = omega (arith, total-apart l f, many-most (covers l) 200)
 pub total-more : (l : List Entry) (i : ℕ) → i < length l → total (take i l) + size (get_or l i zeros) ≡ total (take (i + 1) l)
 total-more l i h = sym (total-step l i h) ∙ ap (λ (k : ℕ). total (take k l)) (sym (add-one i))
 
-pub total-room : (l : List Entry) (n i : ℕ) → Apart (take n l) → i < n → n ≤ length l → total (take i l) + size (get_or l i zeros) ≤ 200
-total-room l n i f h k =
-    omega (
-      arith,
-      total-more l i (omega arith),
-      ap total (Seq.take-take (i + 1) n l (omega arith)),
-      total-upto (take n l) (i + 1),
-      total-most (take n l) f,
-    )
+pub total-room : (l : List Entry) (i : ℕ) → Apart l → i < length l → total (take i l) + size (get_or l i zeros) ≤ 200
+total-room l i f h = omega (arith, total-more l i h, total-upto l (i + 1), total-most l f)
 
 pub read_step : (names : List Name) (D : ℕ → Row) (l : List Entry) (i : ℕ) → i < length l →
     read_all names D (take i l) ++ (read names D (get_or l i zeros) ∷ []) ≡ read_all names D (take (i + 1) l)
 read_step names D l i h = sym (map-append (read names D) (take i l) (get_or l i zeros ∷ [])) ∙ rw (add-one i, Seq.take-suc l i zeros h)
-
-pub apart-items : (h : Inherited) → Apart (take h.list.count h.list.items)
-unfolding entries_of
-apart-items h = h.good.kept.apart
-
-pub inherited-all : (names : List Name) (h : Inherited) (i : ℕ) → i ≡ h.list.count → read_all names (table_of h.doms) (take i h.list.items) ≡ inherited_of names h
-unfolding inherited_of entries_of
-inherited-all names h i e = ap (λ (k : ℕ). read_all names (table_of h.doms) (take k h.list.items)) e

@@ -1,11 +1,11 @@
 // What the annotations of one type come to, after `interpret_associate` and `interpret_inherited_annotations` of compile.rs.
 #![tactic(auto)]
 
-ghost use Rattle.std.specs.Prelude.{true, ◌&&◌, not, [], ◌∷◌, ◌≡◌, ◌+◌, ◌≤◌, ◌<◌};
+ghost use Rattle.std.specs.Prelude.{◌&&◌, not, [], ◌∷◌, ◌≡◌, ◌+◌, ◌≤◌, ◌<◌};
 ghost use Rattle.dedup.specs.Reading.{inherited_of};
 ghost use Rattle.associates.specs.Step.{failed_in, begun, reached};
 ghost use Rattle.interpreting.specs.Entry.{EntryReady, EntryDone};
-ghost use Rattle.interpreting.specs.Annotations.{type_reached, plain_of, own_entries_in, Added, WithEntry, TypeReady, TypeDone};
+ghost use Rattle.interpreting.specs.Annotations.{plain_of, own_entries_in, Added, WithEntry, TypeReady, TypeDone};
 
 use associates::Standing;
 use bounded::UpTo;
@@ -25,31 +25,41 @@ const MOST_WORDS: usize = 200;
 // The words of a row.
 type Words = Numbers<MOST_WORDS>;
 
+// A type as far as it is interpreted: whether its annotations added no row, and its makings. The catalogue, the place and the
+// writer stay parameters: a struct that lends the writer on would have each function say that what it lends stays as it was, and
+// all that is called below asks for a catalogue and a `Site`, so that one of catalogue and place would be taken apart each time.
+#[derive(Drop)]
+pub struct Progress {
+    pub clean: bool,
+    pub made: Makings,
+}
+
 // One annotation, its words ascending, as far as it goes.
 #[tactic(auto, using(synth_classes::specs::Numbers::number_below, crate::specs::EntryLaws::going_room))]
 pub fn interpret_associate(
     t: &Catalogue,
     place: usize,
     e: Entry,
-    doms: [Row; 200],
+    doms: &[Row; 200],
     made: &mut Makings,
     out: &mut Writer<'_>,
 ) -> Standing
     requires { EntryReady place e made.old }
-    ensures { EntryDone t.now place e doms (begun made.old) out.old (reached result made.new) out.new }
+    ensures { EntryDone t.now place e doms.now (begun made.old) out.old (reached result made.new) out.new }
 {
-    let parents = e.parents;
-    let mut p = Standing::Going;
+    let mut standing = Standing::Going;
     for word in Words::of(e.words) {
-        if p == Standing::Ended {
-            return p;
+        if standing == Standing::Ended {
+            return standing;
         }
-        let d = doms[word as usize];
         let site = Site { place, word };
-        let origin = Origin { doms: d, parents };
-        p = associates::interpret_word(t, site, origin, p, made, out);
+        let origin = Origin {
+            doms: doms[word as usize],
+            parents: e.parents,
+        };
+        standing = associates::interpret_word(t, site, origin, standing, made, out);
     }
-    p
+    standing
 }
 
 // Whether a type that was clean is so behind an annotation.
@@ -59,21 +69,20 @@ fn still_clean(clean: bool, standing: Standing) -> bool
     clean && standing == Standing::Going
 }
 
-// One annotation more: whether the type is still clean.
+// One annotation more.
 fn with_entry(
     t: &Catalogue,
     place: usize,
     e: Entry,
-    doms: [Row; 200],
-    clean: bool,
-    made: &mut Makings,
+    doms: &[Row; 200],
+    p: &mut Progress,
     out: &mut Writer<'_>,
-) -> bool
-    requires { EntryReady place e made.old }
-    ensures { WithEntry t.now place e doms (type_reached clean made.old) out.old (type_reached result made.new) out.new }
+)
+    requires { EntryReady place e p.old.made }
+    ensures { WithEntry t.now place e doms.now p.old out.old p.new out.new }
 {
-    let standing = interpret_associate(t, place, e, doms, made, out);
-    still_clean(clean, standing)
+    let standing = interpret_associate(t, place, e, doms, &mut p.made, out);
+    p.clean = still_clean(p.clean, standing);
 }
 
 // One own associate more. An Associate is an annotation without parents; a NestAssociate is not interpreted.
@@ -81,16 +90,15 @@ fn interpret_own(
     t: &Catalogue,
     place: usize,
     a: OwnAssociate,
-    clean: bool,
-    made: &mut Makings,
+    p: &mut Progress,
     out: &mut Writer<'_>,
-) -> bool
+)
     requires place_bound { place < 64 }
-    requires room { made.old.count + 15 ≤ 380 }
-    ensures { Added t.now place (λ ns. plain_of (a ∷ [])) 15 (type_reached clean made.old) out.old (type_reached result made.new) out.new }
+    requires room { p.old.made.count + 15 ≤ 380 }
+    ensures { Added t.now place (λ ns. plain_of (a ∷ [])) 15 p.old out.old p.new out.new }
 {
     if a.info.kind != Kind::Associate {
-        return clean;
+        return;
     }
     let words = inheritance::words_of(a);
     let none = dedup::no_doms();
@@ -100,54 +108,41 @@ fn interpret_own(
         words,
         parents: 0,
     };
-    with_entry(t, place, e, doms, clean, made, out)
+    with_entry(t, place, e, &doms, p, out);
 }
 
 // The type's own associates one after the other, in their order (FORMAT 8.6, 8.7).
 fn interpret_owns(
     t: &Catalogue,
     place: usize,
-    own: OwnAssociates,
-    made: &mut Makings,
+    own: &OwnAssociates,
+    p: &mut Progress,
     out: &mut Writer<'_>,
-) -> bool
+)
     requires place_bound { place < 64 }
-    requires room { made.old.count + 180 ≤ 380 }
-    ensures { Added t.now place (λ ns. own_entries_in own) 180 (type_reached true made.old) out.old (type_reached result made.new) out.new }
+    requires room { p.old.made.count + 180 ≤ 380 }
+    ensures { Added t.now place (λ ns. own_entries_in own.now) 180 p.old out.old p.new out.new }
 {
-    let count = own.count;
-    let items = own.items;
-    let mut clean = true;
-    for i in 0..count {
-        let a = items[i];
-        clean = interpret_own(t, place, a, clean, made, out);
+    for a in own.as_slice() {
+        interpret_own(t, place, *a, p, out);
     }
-    clean
 }
 
 // What the type inherits, in the order in which the dedup left it (FORMAT 8.6, 8.9).
 fn interpret_extra(
     t: &Catalogue,
     place: usize,
-    h: Inherited,
-    clean: bool,
-    made: &mut Makings,
+    h: &Inherited,
+    p: &mut Progress,
     out: &mut Writer<'_>,
-) -> bool
+)
     requires place_bound { place < 64 }
-    requires room { made.old.count + 200 ≤ 380 }
-    ensures { Added t.now place (λ ns. inherited_of ns h) 200 (type_reached clean made.old) out.old (type_reached result made.new) out.new }
+    requires room { p.old.made.count + 200 ≤ 380 }
+    ensures { Added t.now place (λ ns. inherited_of ns h.now) 200 p.old out.old p.new out.new }
 {
-    let list = h.list;
-    let count = list.count;
-    let items = list.items;
-    let doms = h.doms;
-    let mut still = clean;
-    for i in 0..count {
-        let e = items[i];
-        still = with_entry(t, place, e, doms, still, made, out);
+    for e in h.list.as_slice() {
+        with_entry(t, place, *e, &h.doms, p, out);
     }
-    still
 }
 
 // All annotations of the type at a place: its own associates, and what it inherits. Whether they added no row.
@@ -164,7 +159,11 @@ pub fn interpret_inherited_annotations(
     if own.count == 0 && h.list.count == 0 {
         return true;
     }
-    let mut made: Makings = UpTo::new(Making::BLANK);
-    let clean = interpret_owns(t, place, own, &mut made, out);
-    interpret_extra(t, place, h, clean, &mut made, out)
+    let mut p = Progress {
+        clean: true,
+        made: UpTo::new(Making::BLANK),
+    };
+    interpret_owns(t, place, &own, &mut p, out);
+    interpret_extra(t, place, &h, &mut p, out);
+    p.clean
 }

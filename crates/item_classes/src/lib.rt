@@ -1,7 +1,7 @@
 // The classes of a type's annotations, as sets of types: those of its own Associates, and those that it gives at all.
 #![tactic(auto)]
 
-ghost use Rattle.std.specs.Prelude.{true, false, eqb};
+ghost use Rattle.std.specs.Prelude.{true, false};
 ghost use Rattle.item_classes.specs.Classes.{GathersMore};
 
 // The classes found so far. `wrong`: an own class is no declared resource, or stands twice. `missing`: a given class is none.
@@ -13,9 +13,19 @@ pub struct Classes {
     pub missing: bool,
 }
 
+impl Classes {
+    // No class yet.
+    pub const NONE: Classes = Classes {
+        own: 0,
+        given: 0,
+        wrong: false,
+        missing: false,
+    };
+}
+
 // One class more, of an own Associate.
 #[tactic(auto, using(crate::specs::ClassLaws::gathers_own))]
-fn with_own(c: Classes, resources: u64, class: u64) -> Classes
+pub fn with_own(c: Classes, resources: u64, class: u64) -> Classes
     ensures { GathersMore resources true class c result }
 {
     let lost = class & resources == 0;
@@ -30,7 +40,7 @@ fn with_own(c: Classes, resources: u64, class: u64) -> Classes
 
 // One class more, of a nested Associate.
 #[tactic(auto, using(crate::specs::ClassLaws::gathers_nested))]
-fn with_nested(c: Classes, resources: u64, class: u64) -> Classes
+pub fn with_nested(c: Classes, resources: u64, class: u64) -> Classes
     ensures { GathersMore resources false class c result }
 {
     let lost = class & resources == 0;
@@ -39,15 +49,4 @@ fn with_nested(c: Classes, resources: u64, class: u64) -> Classes
         missing: c.missing | lost,
         ..c
     }
-}
-
-// One class more, of an annotation of that kind. The kind is the number that the sheet has: an enum made of it would be asked
-// once, for Associate.
-pub fn with_class(c: Classes, resources: u64, kind: usize, class: u64) -> Classes
-    ensures { GathersMore resources (eqb kind 1) class c result }
-{
-    if kind == 1 {
-        return with_own(c, resources, class);
-    }
-    with_nested(c, resources, class)
 }

@@ -3,6 +3,7 @@ use Rattle.std.specs.Prelude.{Bool, true, false, ◌||◌, not, List, map, ◌�
 use Rattle.std.specs.Int.Bits.{bit_and}
 use Rattle.lists.specs.Lists.{any, sort}
 use Rattle.lists.specs.Tabulating.{tabulate}
+use Rattle.bounded.specs.Items.{items_of}
 use Rattle.rows.specs.Rows.{has_bit}
 use Rattle.definitions.specs.Records.{Sheet, TypeInfo}
 use Rattle.definitions.specs.Records as records
@@ -20,6 +21,7 @@ use Rattle.sheet_draft.specs.declared.Decoding.{Decoding}
 use Rattle.sheet_draft.specs.declared.Draft.{Draft}
 use Rattle.sheet_draft.specs.declared.entry.Entry.{Entry}
 use Rattle.item_spread.specs.Spread.{Ordered}
+use Rattle.order_rounds.specs.declared.sequence.Order.{Order}
 use Rattle.catalogue.specs.Layout as layout
 use Rattle.catalogue.specs.Layout.{parents_at, word_at, mask_at, owner_at, first_at, second_at, extension_key_at}
 use Rattle.catalogue.specs.Catalogue.{name_of_key, parents_in, Catalogued}
@@ -64,23 +66,23 @@ record_in t e = record { name = name_of_key (extension_key_at t e / 256); word =
 
 -- What stands in the catalogue and beside it when it is filled: names, parents, extension records, and an order in which parents
 -- stand before their children (FORMAT 3.2).
-pub record Stands (s : Sheet) (bs : List Bool) (d : Draft) (entries : List Entry) (order : List ℕ) (t : Catalogue) (k : Decoding) (o : Placing) : Type 0 where
+pub record Stands (s : Sheet) (bs : List Bool) (d : Draft) (entries : List Entry) (order : Order) (t : Catalogue) (k : Decoding) (o : Placing) : Type 0 where
   pub drawn : Drawn s bs d entries k.count
   pub wide : k.width ≡ length s.words
   pub word : k.resource ≡ (type_map_of s).resource
   pub names : NamesStand (firsts_of entries) (seconds_of entries) k.count (length s.words) t o.words
   pub parents : ParentsStand (type_map_of s) t o.childed
-  pub ordered : Ordered order k.count t.parents
-  pub placed : (a : ℕ) → a < k.count → elem a (take k.count order) ≡ true
+  pub ordered : Ordered order.types.items order.types.count t.parents
+  pub placed : (a : ℕ) → a < k.count → elem a (items_of order.types) ≡ true
   pub extensions : tabulate (record_in t) k.extensions ≡ s.extensions
 
 -- There is such a sheet.
-pub record Fillable (bs : List Bool) (d : Draft) (entries : List Entry) (order : List ℕ) (t : Catalogue) (k : Decoding) (o : Placing) : Type 0 where
+pub record Fillable (bs : List Bool) (d : Draft) (entries : List Entry) (order : Order) (t : Catalogue) (k : Decoding) (o : Placing) : Type 0 where
   pub sheet : Sheet
   pub stands : Stands sheet bs d entries order t k o
 
 -- It is the catalogue of its map, whichever sheet it is. The answer says whether a class of a type is lost or an own class
 -- stands twice, which is a part of refusal 9 (FORMAT 4.9).
-pub record Fills (bs : List Bool) (d : Draft) (entries : List Entry) (order : List ℕ) (old : Catalogue) (k : Decoding) (o : Placing) (t : Catalogue) (r : Bool) : Type 0 where
+pub record Fills (bs : List Bool) (d : Draft) (entries : List Entry) (order : Order) (old : Catalogue) (k : Decoding) (o : Placing) (t : Catalogue) (r : Bool) : Type 0 where
   pub catalogued : (s : Sheet) → Stands s bs d entries order old k o → Catalogued s t
   pub lost : (s : Sheet) → Stands s bs d entries order old k o → r ≡ (any (lost_class (line_map s)) (line_map s).types || any own_twice (line_map s).types)

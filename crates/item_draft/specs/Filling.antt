@@ -29,9 +29,10 @@ use Rattle.sheet_draft.specs.Draft.{variant_of, type_in}
 use Rattle.sheet_draft.specs.declared.Decoding.{Decoding}
 use Rattle.sheet_draft.specs.declared.Draft.{Draft}
 use Rattle.sheet_draft.specs.declared.entry.Entry.{Entry}
-use Rattle.catalogue.specs.Layout.{head_at, marks_at, tally_at, parents_at, own_at, above_at, passed_at, first_at, second_at}
+use Rattle.catalogue.specs.Layout.{head_at, packed_at, parents_at, own_at, above_at, passed_at, first_at, second_at}
 use Rattle.catalogue.specs.Layout.{extension_key_at, looked}
 use Rattle.catalogue.specs.Catalogue.{is_resource_head, virtual_head, trait_head, Entry as TypeEntry, Listed, Extended, SetsOf, Owned, Catalogued}
+use Rattle.item_heads.specs.declared.packed.Packed.{Packed}
 use Rattle.catalogue.specs.declared.Catalogue.{Catalogue}
 use Rattle.item_names.specs.Names.{second_of}
 use Rattle.item_names.specs.Holding.{Holds, holds-set, holds_fits}
@@ -41,6 +42,7 @@ use Rattle.item_classes.specs.Classed.{own_is, given_is, refused-is}
 use Rattle.item_classes.specs.declared.Classes.{Classes}
 use Rattle.item_entries.specs.Entries.{row_in, firsts_of, seconds_of, RowsThere}
 use Rattle.item_sets.specs.Sets.{SpreadPut, RecordKeysFit, ExtendedIs}
+use Rattle.order_rounds.specs.declared.sequence.Order.{Order}
 use Rattle.item_draft.specs.Parts.{HeadOf, HeadsPut, NotesReady, own_sets, given_sets, lost_at, NotesPut}
 use Rattle.item_draft.specs.PartLaws.{class-same}
 use Rattle.item_draft.specs.Fill.{record_in, Stands, Fillable, Fills}
@@ -63,12 +65,12 @@ numbered k o resources extended t = record t {
 }
 
 -- The catalogue from part to part.
-pub record Steps (bs : List Bool) (d : Draft) (entries : List Entry) (order : List ℕ) (k : Decoding) (o : Placing) (t0 t1 t2 t3 t4 : Catalogue) (given : List ℕ) (resources extended : ℕ) (lost : Bool) : Type 0 where
+pub record Steps (bs : List Bool) (d : Draft) (entries : List Entry) (order : Order) (k : Decoding) (o : Placing) (t0 t1 t2 t3 t4 : Catalogue) (given : List ℕ) (resources extended : ℕ) (lost : Bool) : Type 0 where
   pub heads : HeadsPut d entries k.count t0 t1 resources
   pub extends : ExtendedIs t1 k.extensions extended
   pub numbers : t2 ≡ numbered k o resources extended t1
   pub notes : NotesPut bs d entries k.count t2 t3 given lost
-  pub spread : SpreadPut order k.count given t3 t4
+  pub spread : SpreadPut order.types.items order.types.count given t3 t4
 
 -- a variant is the resource variant exactly if its number is 1
 variant_is : (v : ℕ) → eqb v 1 ≡ is_resource_variant (variant_of v)
@@ -88,13 +90,13 @@ any-or f g (x ∷ l) = ap (λ (b : Bool). (f x || g x) || b) (any-or f g l) ∙ 
     crossed false true false d = refl
     crossed false false c d = refl
 
-module _ (bs : List Bool) (d : Draft) (entries : List Entry) (order : List ℕ) (k : Decoding) (o : Placing) (t0 t1 t2 t3 t4 : Catalogue) (gives : List ℕ) (resources extends : ℕ) (bad : Bool)
+module _ (bs : List Bool) (d : Draft) (entries : List Entry) (order : Order) (k : Decoding) (o : Placing) (t0 t1 t2 t3 t4 : Catalogue) (gives : List ℕ) (resources extends : ℕ) (bad : Bool)
     (st : Steps bs d entries order k o t0 t1 t2 t3 t4 gives resources extends bad) where
   -- ---- each part stays from where it was put
 
   -- a catalogue with the notes of the third, and with the sets of the last
   abbrev noted : Catalogue → Catalogue
-  noted x = record x { marks = t3.marks; tallies = t3.tallies; own = t3.own }
+  noted x = record x { marks = t3.marks; own = t3.own }
 
   abbrev ordered : Catalogue → Catalogue
   ordered x = record x { above = t4.above; passed = t4.passed }
@@ -156,9 +158,7 @@ module _ (bs : List Bool) (d : Draft) (entries : List Entry) (order : List ℕ) 
     records-held : tabulate (record_in t4) k.extensions ≡ s.extensions
     records-held =
         records-stand s t0 t4 k.extensions hs.extensions
-        (ap (λ (x : Catalogue). x.extension_keys) is_whole)
-        (ap (λ (x : Catalogue). x.extension_counts) is_whole)
-        (ap (λ (x : Catalogue). x.extension_parents) is_whole)
+        (ap (λ (x : Catalogue). x.extensions) is_whole)
 
     record-types-stay : (e : ℕ) → looked t1 (extension_key_at t1 e / 256) ≡ looked t4 (extension_key_at t4 e / 256)
     unfolding looked
@@ -205,9 +205,8 @@ module _ (bs : List Bool) (d : Draft) (entries : List Entry) (order : List ℕ) 
         let T = type-is a h in
         let l : a < k.count = omega (arith, count-is) in
         let eh = head-is a h in
-        let em : marks_at t4 a ≡ marks_at t3 a = ap (λ (x : Catalogue). marks_at x a) is_whole in
-        let et : tally_at t4 a ≡ tally_at t3 a = ap (λ (x : Catalogue). tally_at x a) is_whole in
-        let y = subst (λ i. Rattle.item_heads.specs.Heads.Packs (draft.notes_at i bs d (row_in entries a)).marks (record { bits = marks_at t3 a; tally = tally_at t3 a })) width_is (st.notes.marks a l) in
+        let em : packed_at t4 a ≡ packed_at t3 a = ap (λ (x : Catalogue). packed_at x a) is_whole in
+        let y = subst (λ i. Rattle.item_heads.specs.Heads.Packs (draft.notes_at i bs d (row_in entries a)).marks (packed_at t3 a)) width_is (st.notes.marks a l) in
         record {
           key = key-small s (firsts_of entries) (seconds_of entries) t4 nm names_in a h;
           name = key-name s (firsts_of entries) (seconds_of entries) t4 nm names_in a h;
@@ -215,12 +214,11 @@ module _ (bs : List Bool) (d : Draft) (entries : List Entry) (order : List ℕ) 
           is_resource = eh.resource ∙ variant_is (draft.head_at d (row_in entries a) / 64) ∙ sym (ap (λ (D : LineType). is_resource_variant D.variant) T);
           is_virtual = ap (λ (x : ℕ). eqb x 1) eh.virtual ∙ sym (ap (λ (D : LineType). D.virtual) T);
           is_trait = ap (λ (x : ℕ). eqb x 1) eh.trait ∙ sym (ap (λ (D : LineType). D.trait) T);
-          mark_count = ap (λ (x : ℕ). x % 8) et ∙ y.count ∙ sym (ap (λ (D : LineType). length D.marks) T);
+          mark_count = ap (λ (x : Packed). x.count) em ∙ y.count ∙ sym (ap (λ (D : LineType). length D.marks) T);
           mark_bits =
-              ap₂ (λ (x z : ℕ). Rattle.definitions.specs.Bits.to_bits (x / 8) z) et em
+              ap (λ (x : Packed). Rattle.definitions.specs.Bits.to_bits x.width x.bits) em
               ∙ y.bits
               ∙ sym (ap (λ (D : LineType). each Rattle.definitions.specs.Packing.mark_bits D.marks) T);
-          tally = omega (arith, et, y.count, y.size, y.few);
         }
 
     resource-word : k.resource ≡ m.resource
@@ -292,7 +290,7 @@ module _ (bs : List Bool) (d : Draft) (entries : List Entry) (order : List ℕ) 
     -- the sets of words stay from where classes are gathered
     class-stays : (u : Resource) → class_in t2 u ≡ class_in t4 u
     class-stays =
-        let after : t4 ≡ record t2 { own = t3.own; marks = t3.marks; tallies = t3.tallies; above = t4.above; passed = t4.passed } =
+        let after : t4 ≡ record t2 { own = t3.own; marks = t3.marks; above = t4.above; passed = t4.passed } =
         st.spread.kept ∙ ap (λ (x : Catalogue). record x { above = t4.above; passed = t4.passed }) st.notes.kept in
         class-same t4 t2 (sym (ap (λ (x : Catalogue). x.firsts) after)) (sym (ap (λ (x : Catalogue). x.seconds) after))
 
@@ -398,8 +396,8 @@ module _ (bs : List Bool) (d : Draft) (entries : List Entry) (order : List ℕ) 
 
 -- ---- what each part asks follows from what the whole asks
 
-module _ (bs : List Bool) (d : Draft) (entries : List Entry) (order : List ℕ) (t0 : Catalogue) (k : Decoding) (o : Placing) (f : Fillable bs d entries order t0 k o) where
-  pub keys-fit : (t1 : Catalogue) → t1.extension_keys ≡ t0.extension_keys → RecordKeysFit t1 k.extensions
+module _ (bs : List Bool) (d : Draft) (entries : List Entry) (order : Order) (t0 : Catalogue) (k : Decoding) (o : Placing) (f : Fillable bs d entries order t0 k o) where
+  pub keys-fit : (t1 : Catalogue) → t1.extensions ≡ t0.extensions → RecordKeysFit t1 k.extensions
   keys-fit t1 e =
       let q = f.stands in
       record {

@@ -22,7 +22,7 @@ use Rattle.catalogue.specs.Layout.{looked}
 use Rattle.catalogue.specs.declared.Catalogue.{Catalogue}
 use Rattle.item_names.specs.Names.{key_of}
 use Rattle.item_names.specs.NamesLaws as names
-use Rattle.item_heads.specs.Heads.{Packs, WithResource}
+use Rattle.item_heads.specs.Heads.{no_marks, Packs, WithResource}
 use Rattle.item_classes.specs.Classes.{class_by, class_in, meets, lost, Gathers}
 use Rattle.item_entries.specs.Entries.{row_in}
 use Rattle.item_notes.specs.Notes.{DoneAt, NotesGathered}
@@ -112,11 +112,11 @@ module _ (bs : List Bool) (d : Draft) (entries : List Entry) (old : Catalogue) w
       )
 
   pub notes-more : (count n resources childed : ℕ) (t : Catalogue) (given : List ℕ) (r q : Bool) (x : Noted) → n < count → n < length t.own → n < length t.marks
-      → n < length t.tallies → n < length given → NotesReady bs d entries old count → resources ≡ old.resources → childed ≡ old.childed
+      → n < length given → NotesReady bs d entries old count → resources ≡ old.resources → childed ≡ old.childed
       → NotesGathered t resources bs (place_at d (row_in entries n)) x → q ≡ (r || (x.classes.wrong || (has_bit childed n && x.classes.missing)))
       → NotesPut bs d entries n old t given r
-      → NotesPut bs d entries (n + 1) old (record t { own = set t.own n x.classes.own; marks = set t.marks n x.marks.bits; tallies = set t.tallies n x.marks.tally }) (set given n x.classes.given) q
-  notes-more count n resources childed t given r q x h lo lm lt lg k er ec g f p =
+      → NotesPut bs d entries (n + 1) old (record t { own = set t.own n x.classes.own; marks = set t.marks n x.marks }) (set given n x.classes.given) q
+  notes-more count n resources childed t given r q x h lo lm lg k er ec g f p =
       let so = gathered count n resources t x h k p.kept g in
       let os = own_sets old bs d entries old.width n in
       let gs = given_sets old bs d entries old.width n in
@@ -132,12 +132,12 @@ module _ (bs : List Bool) (d : Draft) (entries : List Entry) (old : Catalogue) w
             (λ z. let y = eqb-false a n z in rw (get_or-set_other given n a x.classes.given 0 y) (p.gives a (omega (arith, y)) c));
         marks = λ a b.
             by (eqb a n)
-            (λ z. let y = eqb-true a n z in rw (y, get_or-set_same t.marks n x.marks.bits 0 lm, get_or-set_same t.tallies n x.marks.tally 0 lt) so.1)
-            (λ z. let y = eqb-false a n z in rw (get_or-set_other t.marks n a x.marks.bits 0 y, get_or-set_other t.tallies n a x.marks.tally 0 y) (p.marks a (omega (arith, y))));
+            (λ z. let y = eqb-true a n z in rw (y, get_or-set_same t.marks n x.marks no_marks lm) so.1)
+            (λ z. let y = eqb-false a n z in rw (get_or-set_other t.marks n a x.marks no_marks y) (p.marks a (omega (arith, y))));
         lost =
             f
             ∙ ap₂ (λ (a b : Bool). a || b) p.lost
             (ap₂ (λ (a b : Bool). a || (has_bit childed n && b)) so.0.wrong so.0.missing ∙ ap₂ (λ (i j : ℕ). tested i j) er ec)
             ∙ sym (any-tab-step (λ a. a) (lost_at old bs d entries) n);
-        kept = ap (λ (y : Catalogue). record y { own = set t.own n x.classes.own; marks = set t.marks n x.marks.bits; tallies = set t.tallies n x.marks.tally }) p.kept;
+        kept = ap (λ (y : Catalogue). record y { own = set t.own n x.classes.own; marks = set t.marks n x.marks }) p.kept;
       }

@@ -10,7 +10,7 @@ use Rattle.sheet_draft.specs.Draft as draft
 use Rattle.sheet_draft.specs.Draft.{place_at, notes_at}
 use Rattle.sheet_draft.specs.declared.Draft.{Draft}
 use Rattle.sheet_draft.specs.declared.entry.Entry.{Entry}
-use Rattle.catalogue.specs.Layout.{head_at, marks_at, tally_at, own_at}
+use Rattle.catalogue.specs.Layout.{head_at, packed_at, own_at}
 use Rattle.catalogue.specs.declared.Catalogue.{Catalogue}
 use Rattle.item_heads.specs.Heads.{Packs}
 use Rattle.item_classes.specs.Classes.{class_in, meets, lost}
@@ -30,9 +30,9 @@ pub record HeadsPut (d : Draft) (entries : List Entry) (n : ℕ) (old new : Cata
   pub resources : (b : ℕ) → has_bit r b ≡ (ltb b n && eqb (draft.head_at d (row_in entries b) / 64) 1)
   pub kept : new ≡ record old { heads = new.heads }
 
--- Nothing changed but marks, their tallies and own classes.
+-- Nothing changed but marks and own classes.
 abbrev pub KeptNotes : Catalogue → Catalogue → Type 0
-KeptNotes old new = new ≡ record old { marks = new.marks; tallies = new.tallies; own = new.own }
+KeptNotes old new = new ≡ record old { marks = new.marks; own = new.own }
 
 -- The annotations and marks of each type stand where the draft says (FORMAT 2.6).
 pub record NotesReady (bs : List Bool) (d : Draft) (entries : List Entry) (t : Catalogue) (n : ℕ) : Type 0 where
@@ -61,6 +61,6 @@ lost_at t bs d entries a =
 pub record NotesPut (bs : List Bool) (d : Draft) (entries : List Entry) (n : ℕ) (old new : Catalogue) (given : List ℕ) (r : Bool) : Type 0 where
   pub own : (a : ℕ) → a < n → (b : ℕ) → has_bit (own_at new a) b ≡ any (λ x. has_bit x b) (own_sets old bs d entries old.width a)
   pub gives : (a : ℕ) → a < n → (b : ℕ) → has_bit (get_or given a 0) b ≡ any (λ x. has_bit x b) (given_sets old bs d entries old.width a)
-  pub marks : (a : ℕ) → a < n → Packs (notes_at old.width bs d (row_in entries a)).marks (record { bits = marks_at new a; tally = tally_at new a })
+  pub marks : (a : ℕ) → a < n → Packs (notes_at old.width bs d (row_in entries a)).marks (packed_at new a)
   pub lost : r ≡ any (lost_at old bs d entries) (tab (λ a. a) n)
   pub kept : KeptNotes old new

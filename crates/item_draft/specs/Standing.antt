@@ -17,7 +17,7 @@ use Rattle.sheet_keys.specs.Keys as keys
 use Rattle.sheet_draft.specs.Draft.{parent_count_at, parent_at, type_in}
 use Rattle.sheet_draft.specs.declared.Draft.{Draft}
 use Rattle.sheet_draft.specs.declared.entry.Entry.{Entry}
-use Rattle.catalogue.specs.Layout.{first_at, second_at, extension_key_at, extension_count_at, looked}
+use Rattle.catalogue.specs.Layout.{first_at, second_at, extension_at, extension_key_at, extension_count_at, looked}
 use Rattle.catalogue.specs.Catalogue.{name_of_key, parents_in}
 use Rattle.catalogue.specs.declared.Catalogue.{Catalogue}
 use Rattle.item_names.specs.Names.{second_of, NamesPut}
@@ -32,7 +32,7 @@ use Rattle.item_draft.specs.Records.{same_key}
 
 -- names stand in a catalogue in which nothing of theirs changed
 pub names_stand : (firsts seconds : List ℕ) (n width : ℕ) (t0 t1 t2 : Catalogue) (r : ℕ) → NamesPut firsts seconds n width t0 t1 r
-    → t2 ≡ record t1 { heads = t2.heads; marks = t2.marks; tallies = t2.tallies; parents = t2.parents; own = t2.own; above = t2.above; passed = t2.passed }
+    → t2 ≡ record t1 { heads = t2.heads; marks = t2.marks; parents = t2.parents; own = t2.own; above = t2.above; passed = t2.passed }
     → NamesStand firsts seconds n width t2 r
 names_stand firsts seconds n width t0 t1 t2 r p e =
     rw e (record { key = p.key; first = p.first; second = p.second; owner = p.owner; words = p.words; masks = p.masks })
@@ -43,17 +43,17 @@ names_stand firsts seconds n width t0 t1 t2 r p e =
 pub record-as : (t : Catalogue) (e : ℕ) → record_in t e ≡ record {
   name = keys.name_of_key (extension_key_at t e / 256);
   word = extension_key_at t e % 256;
-  parents = keys.names_in (get_or t.extension_parents e []) (extension_count_at t e);
+  parents = keys.names_in (extension_at t e).parents (extension_count_at t e);
 }
 unfolding record_in parents_in keys.name_of_key name_of_key
 record-as t e = refl
 
 -- records stand in a catalogue in which nothing of theirs changed
 pub records-stand : (s : Sheet) (t u : Catalogue) (n : ℕ) → tabulate (record_in t) n ≡ s.extensions
-    → u.extension_keys ≡ t.extension_keys → u.extension_counts ≡ t.extension_counts → u.extension_parents ≡ t.extension_parents → tabulate (record_in u) n ≡ s.extensions
+    → u.extensions ≡ t.extensions → tabulate (record_in u) n ≡ s.extensions
 unfolding record_in parents_in
-records-stand s t u n held k c p =
-    tabulate-same (record_in u) (record_in t) n (λ e h. rw (k, c, p)) ∙ held
+records-stand s t u n held k =
+    tabulate-same (record_in u) (record_in t) n (λ e h. rw k) ∙ held
 
 -- ---- keys looked up
 

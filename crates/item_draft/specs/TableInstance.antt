@@ -16,8 +16,9 @@ use Rattle.definitions.specs.Map.{number_of, type_map_of}
 use Rattle.ordering.specs.Lists.{elem}
 use Rattle.ordering.specs.Reading.{type_at}
 use Rattle.item_spread.specs.Spread.{Ordered}
-use Rattle.catalogue.specs.Layout.{blank, parents_at, first_at, second_at}
+use Rattle.catalogue.specs.Layout.{no_word, blank, parents_at, first_at, second_at}
 use Rattle.catalogue.specs.declared.Catalogue.{Catalogue}
+use Rattle.catalogue.specs.declared.Word.{Word}
 use Rattle.sheet_draft.specs.declared.entry.Entry.{Entry}
 use Rattle.item_names.specs.Names.{second_of, NoSets, KeysPut, SetsPut, OwnersPut, WordsPut, WordPut, FewWords, mask_of, NamesPut}
 use Rattle.item_names.specs.NamesLaws.{keys_none, keys-more, sets-none, sets_more, sets-kept, owners-none, owners-more, words-none, words_more, words-few, names-put}
@@ -25,6 +26,7 @@ use Rattle.item_names.specs.Holding.{Holds}
 use Rattle.item_names.specs.Instance.{blank-sets}
 use Rattle.item_entries.specs.Entries.{key_in, firsts_of, seconds_of, KeysFit}
 use Rattle.item_entries.specs.EntryLaws.{first-at, key-at}
+use Rattle.order_rounds.specs.declared.sequence.Order.{Order}
 use Rattle.item_draft.specs.Fill.{NamesStand, ParentsStand, Stands, Fillable}
 use Rattle.item_draft.specs.Instance.{small, small_bits, small_draft, small_entries, small-drawn}
 use Rattle.sheet_draft.specs.declared.Decoding.{Decoding}
@@ -46,11 +48,7 @@ module _ (t : Catalogue) (k : t ≡ record blank { keys = t.keys }) where
 
   blank-words : length t.words ≡ 64
   unfolding blank
-  blank-words = ap (λ (c : Catalogue). length c.words) k ∙ length-replicate {A = ℕ} 64 0
-
-  blank-masks : length t.masks ≡ 64
-  unfolding blank
-  blank-masks = ap (λ (c : Catalogue). length c.masks) k ∙ length-replicate {A = ℕ} 64 0
+  blank-words = ap (λ (c : Catalogue). length c.words) k ∙ length-replicate {A = Word} 64 no_word
 
 -- ---- names that were put, out of any two entries
 
@@ -82,24 +80,23 @@ module _ (entries : List Entry) (fit : KeysFit entries 2) where
       (_, owners-more 1 t _ _ (omega arith) (length-set t.owners _ _ ∙ l) refl refl a)
 
   -- a word is put or not
-  word-put : (n w mask : ℕ) (t : Catalogue) → (u : Catalogue) × (r : ℕ) × WordPut n w mask t u r × (length u.words ≡ length t.words) × (length u.masks ≡ length t.masks)
+  word-put : (n w mask : ℕ) (t : Catalogue) → (u : Catalogue) × (r : ℕ) × WordPut n w mask t u r × (length u.words ≡ length t.words)
   word-put n w mask t =
       by (eqb mask 0)
-      (λ e. (t, n, record { none = λ z. (refl, refl); some = λ z. absurd (z (eqb-true mask 0 e)) }, refl, refl))
+      (λ e. (t, n, record { none = λ z. (refl, refl); some = λ z. absurd (z (eqb-true mask 0 e)) }, refl))
       (λ e. (
-        record t { words = set t.words n w; masks = set t.masks n mask },
+        record t { words = set t.words n (record { word = w; types = mask }) },
         n + 1,
         record { none = λ z. absurd (eqb-false mask 0 e z); some = λ z. (refl, refl) },
-        length-set t.words n w,
-        length-set t.masks n mask,
+        length-set t.words n _,
       ))
 
-  with-words : (t : Catalogue) → (length t.words ≡ 64) × (length t.masks ≡ 64) → FewWords 2 t → (u : Catalogue) × (r : ℕ) × WordsPut 2 t u r
+  with-words : (t : Catalogue) → length t.words ≡ 64 → FewWords 2 t → (u : Catalogue) × (r : ℕ) × WordsPut 2 t u r
   with-words t l f =
       let x = word-put 0 0 (mask_of t 0) t in
       let a = words_more 2 0 0 t t f (omega arith) (words-none t) l x.0 x.1 x.2 in
       let y = word-put x.1 1 (mask_of t 1) x.0 in
-      (y.0, y.1, words_more 2 1 x.1 t x.0 f (omega arith) a (x.3 ∙ l.0, x.4 ∙ l.1) y.0 y.1 y.2)
+      (y.0, y.1, words_more 2 1 x.1 t x.0 f (omega arith) a (x.3 ∙ l) y.0 y.1 y.2)
 
   pub names-exist : (t : Catalogue) × (r : ℕ) × NamesPut F S 2 2 blank t r
   names-exist =
@@ -107,10 +104,7 @@ module _ (entries : List Entry) (fit : KeysFit entries 2) where
       let b = in-sets a.0 (blank-firsts a.0 a.1.kept, blank-seconds a.0 a.1.kept) (sets-kept blank a.0 blank-sets a.1.kept) in
       let c = with-owners b.0 (ap (λ (t : Catalogue). length t.owners) b.1.kept ∙ blank-owners a.0 a.1.kept) in
       let f = words-few F S 2 2 a.0 b.0 c.0 (omega arith) (omega arith) b.1 c.1 in
-      let d = with-words c.0 (
-        ap (λ (t : Catalogue). length t.words) c.1.kept ∙ ap (λ (t : Catalogue). length t.words) b.1.kept ∙ blank-words a.0 a.1.kept,
-        ap (λ (t : Catalogue). length t.masks) c.1.kept ∙ ap (λ (t : Catalogue). length t.masks) b.1.kept ∙ blank-masks a.0 a.1.kept,
-      ) f in
+      let d = with-words c.0 (ap (λ (t : Catalogue). length t.words) c.1.kept ∙ ap (λ (t : Catalogue). length t.words) b.1.kept ∙ blank-words a.0 a.1.kept) f in
       (d.0, d.1, names-put F S 2 2 blank a.0 b.0 c.0 d.0 d.1 a.1 b.1 c.1 d.2)
 
 -- ---- the table
@@ -121,8 +115,7 @@ small_table = record blank {
   keys = 0 ∷ 2 ∷ replicate 62 0;
   parents = 0 ∷ 1 ∷ replicate 62 0;
   owners = 64 ∷ 0 ∷ replicate 62 0;
-  words = 0 ∷ 1 ∷ replicate 62 0;
-  masks = 1 ∷ 2 ∷ replicate 62 0;
+  words = record { word = 0; types = 1 } ∷ record { word = 1; types = 2 } ∷ replicate 62 no_word;
   firsts = 3 ∷ replicate 255 0;
   seconds = 1 ∷ 0 ∷ 2 ∷ replicate 253 0;
 }
@@ -133,14 +126,23 @@ small_known = record { width = 2; count = 2; extensions = 0; resource = 0; own =
 pub small_placing : Placing
 small_placing = record { words = 2; childed = 1 }
 
-abbrev pub small_order : List ℕ
-small_order = 0 ∷ 1 ∷ replicate 62 0
-
 -- a fact of both places
 below_two : (P : ℕ → Type 0) → P 0 → P 1 → (a : ℕ) → a < 2 → P a
 below_two P p q zero h = p
 below_two P p q (suc zero) h = q
 below_two P p q (suc (suc a)) h = absurd (omega arith)
+
+abbrev pub small_places : List ℕ
+small_places = 0 ∷ 1 ∷ replicate 62 0
+
+pub small-within : (i : ℕ) → i < 2 → get_or small_places i 0 < 64
+small-within = below_two (λ i. get_or small_places i 0 < 64) (omega arith) (omega arith)
+
+pub small-few : 2 ≤ 64
+small-few = omega arith
+
+abbrev pub small_order : Order
+small_order = record { types = record { count = 2; items = small_places; few = small-few; long = refl }; within = small-within }
 
 -- a set of the two types has no other
 few-bits : (x a : ℕ) → x < 4 → 2 ≤ a → has_bit x a ≡ false
@@ -218,18 +220,18 @@ parents-stand = record {
 
 -- ---- the order
 
-order-right : Ordered small_order 2 small_table.parents
+order-right : Ordered small_places 2 small_table.parents
 unfolding small_table
 order-right = record {
   room = omega arith;
   few = omega arith;
-  place = below_two (λ i. get_or small_order i 0 < 64) (omega arith) (omega arith);
+  place = small-within;
   before = λ i p h l e. earlier i p h e;
 }
   where
-    earlier : (i p : ℕ) → i < 2 → has_bit (get_or (0 ∷ 1 ∷ replicate 62 0) (get_or small_order i 0) 0) p ≡ true → elem p (take i small_order) ≡ true
+    earlier : (i p : ℕ) → i < 2 → has_bit (get_or (0 ∷ 1 ∷ replicate 62 0) (get_or small_places i 0) 0) p ≡ true → elem p (take i small_places) ≡ true
     earlier zero p h e = never e (bit-none p)
-    earlier (suc zero) p h e = let z : 0 ≡ p = eqb-true 0 p (sym (bit-one 0 p) ∙ e) in subst (λ q. elem q (take 1 small_order) ≡ true) z refl
+    earlier (suc zero) p h e = let z : 0 ≡ p = eqb-true 0 p (sym (bit-one 0 p) ∙ e) in subst (λ q. elem q (take 1 small_places) ≡ true) z refl
     earlier (suc (suc i)) p h e = absurd (omega arith)
 
 resource-number : 0 ≡ (type_map_of small).resource
@@ -245,7 +247,7 @@ small-stands = record {
   names = names-right;
   parents = parents-stand;
   ordered = order-right;
-  placed = below_two (λ a. elem a (take 2 small_order) ≡ true) refl refl;
+  placed = below_two (λ a. elem a (take 2 small_places) ≡ true) refl refl;
   extensions = refl;
 }
 

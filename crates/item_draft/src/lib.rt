@@ -10,7 +10,8 @@ ghost use Rattle.item_draft.specs.Parts.{HeadOf, HeadsPut, NotesReady, NotesPut}
 ghost use Rattle.item_draft.specs.Fill.{Fillable, Fills};
 
 use catalogue::Catalogue;
-use sheet_draft::{Decoding, Draft, Entry};
+use order_rounds::Order;
+use sheet_order::ByName;
 
 // What is known where there is an order: how many words are the last of a name, and the types that are a parent.
 #[derive(Clone, Copy)]
@@ -31,13 +32,13 @@ fn head_in_bits(h: u64) -> u64
 }
 
 // The head of each type. The answer has the types of the resource variant.
-fn put_heads(t: &mut Catalogue, d: &Draft, entries: &[Entry; 64], count: usize) -> u64
-    requires { (count ≤ 64) × RowsThere entries.now count }
-    ensures { HeadsPut d.now entries.now count t.old t.new result }
+fn put_heads(t: &mut Catalogue, x: ByName) -> u64
+    requires { (x.read.count ≤ 64) × RowsThere x.entries.now x.read.count }
+    ensures { HeadsPut x.entry.draft.now x.entry.entries.now x.entry.read.count t.old t.new result }
 {
     let mut resources: u64 = 0;
-    for a in 0..count {
-        let head = head_in_bits(d.rows[entries[a].row].head);
+    for a in 0..x.read.count {
+        let head = head_in_bits(x.row(a).head);
         t.heads[a] = head;
         resources = item_heads::with_resource(resources, a, (head / 64) as usize);
     }
@@ -46,27 +47,19 @@ fn put_heads(t: &mut Catalogue, d: &Draft, entries: &[Entry; 64], count: usize) 
 
 // The own classes and the marks of each type; the classes that it gives go into `given`. The answer says whether a class of a
 // type is lost, or an own class stands twice.
-fn put_notes(
-    t: &mut Catalogue,
-    s: &[u8],
-    d: &Draft,
-    entries: &[Entry; 64],
-    given: &mut [u64; 64],
-    count: usize,
-) -> bool
+fn put_notes(t: &mut Catalogue, s: &[u8], x: ByName, given: &mut [u64; 64]) -> bool
     requires addressable { Addressable s.now }
-    requires notes_ready { NotesReady (bits_of s.now) d.now entries.now t.old count }
-    ensures { NotesPut (bits_of s.now) d.now entries.now count t.old t.new given.new result }
+    requires notes_ready { NotesReady (bits_of s.now) x.draft.now x.entries.now t.old x.read.count }
+    ensures { NotesPut (bits_of s.now) x.entry.draft.now x.entry.entries.now x.entry.read.count t.old t.new given.new result }
 {
     let resources = t.resources;
     let childed = t.childed;
     let mut lost = false;
-    for a in 0..count {
-        let x = item_notes::gather_notes(s, t, d.rows[entries[a].row].place, resources);
-        let classes = x.classes;
+    for a in 0..x.read.count {
+        let notes = item_notes::gather_notes(s, t, x.row(a).place, resources);
+        let classes = notes.classes;
         t.own[a] = classes.own;
-        t.marks[a] = x.marks.bits;
-        t.tallies[a] = x.marks.tally;
+        t.marks[a] = notes.marks;
         given[a] = classes.given;
         lost = item_sets::is_lost(lost, classes, childed, a);
     }
@@ -74,23 +67,15 @@ fn put_notes(
 }
 
 // The whole catalogue. The answer says whether a class of a type is lost, or an own class stands twice: then a type is refused.
-pub fn fill(
-    t: &mut Catalogue,
-    s: &[u8],
-    d: &Draft,
-    entries: &[Entry; 64],
-    order: &[u64; 64],
-    n: Decoding,
-    o: Placing,
-) -> bool
+pub fn fill(t: &mut Catalogue, s: &[u8], x: ByName, order: &Order, o: Placing) -> bool
     requires addressable { Addressable s.now }
-    requires fillable { Fillable (bits_of s.now) d.now entries.now order.now t.old n o }
-    ensures { Fills (bits_of s.now) d.now entries.now order.now t.old n o t.new result }
+    requires fillable { Fillable (bits_of s.now) x.draft.now x.entries.now order.now t.old x.read o }
+    ensures { Fills (bits_of s.now) x.entry.draft.now x.entry.entries.now order.now t.old x.entry.read o t.new result }
 {
-    let count = n.count;
-    let resources = put_heads(t, d, entries, count);
+    let n = x.read;
+    let resources = put_heads(t, x);
     let extended = item_sets::extended_by(t, n.extensions);
-    t.count = count;
+    t.count = n.count;
     t.word_count = o.words;
     t.extension_count = n.extensions;
     t.extended = extended;
@@ -99,7 +84,7 @@ pub fn fill(
     t.childed = o.childed;
     t.width = n.width;
     let mut given = [0u64; 64];
-    let lost = put_notes(t, s, d, entries, &mut given, count);
-    item_sets::spread(t, &given, order, count);
+    let lost = put_notes(t, s, x, &mut given);
+    item_sets::spread(t, &given, order);
     lost
 }

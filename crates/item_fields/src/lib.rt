@@ -1,4 +1,5 @@
 // The fields of an item that stand together, each made as one number out of keys of names (FORMAT 2.5, 6.2, 6.3).
+// Keys are taken apart by hand: the second word is one more than the word, 0 for none, and one test of it decides both.
 #![tactic(auto)]
 
 ghost use Rattle.std.specs.Prelude.{◌∷◌, [], ◌++◌, ◌≡◌, ◌+◌, ◌*◌, ◌/◌, ◌≤◌, length};

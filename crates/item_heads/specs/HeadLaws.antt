@@ -1,18 +1,18 @@
 -- Laws of the set of resources and of packed marks.
-use Rattle.std.specs.Prelude.{Bool, true, false, ◌||◌, List, [], ◌∷◌, ◌++◌, ◌≡◌, refl, ℕ, ◌+◌, ◌*◌, ◌/◌, ◌%◌, ◌^◌, ◌≤◌, ◌<◌, eqb, length}
+use Rattle.std.specs.Prelude.{Bool, true, false, ◌||◌, List, [], ◌∷◌, ◌++◌, ◌≡◌, refl, ℕ, ◌+◌, ◌*◌, ◌/◌, ◌%◌, ◌^◌, ◌≤◌, ◌<◌, eqb}
 use Rattle.std.proofs.Math.Bool.{or-false, and-true, and-false}
 use Rattle.std.proofs.Common.{sym, ap, ap₂, ◌∙◌, arith, eq-eqb, ne_eqb, length-append}
 use Rattle.std.proofs.Math.Pow
 use Rattle.lists.specs.Appending.{each_snoc}
 use Rattle.rows.specs.Rows.{has_bit}
 use Rattle.definitions.specs.Bits.{odd, to_bits}
-use Rattle.definitions.specs.Records.{Mark, makelist_mark, derive_mark}
+use Rattle.definitions.specs.Records.{makelist_mark, derive_mark}
 use Rattle.definitions.specs.Packing as packing
 use Rattle.bits.specs.NumberLaws.{to_bits-split, to_bits-low}
 use Rattle.bitsets.specs.Bitsets.{more}
 use Rattle.bitsets.specs.BitLaws.{bit-more}
-use Rattle.item_heads.specs.Heads.{WithResource, Packs, WithMark, mark_as}
-use Rattle.item_heads.specs.declared.Packed.{Packed}
+use Rattle.item_heads.specs.Heads.{WithResource, no_marks, Packs, WithMark, mark_as}
+use Rattle.item_heads.specs.declared.packed.Packed.{Packed}
 
 -- ---- resources
 
@@ -25,15 +25,20 @@ resource-not types a variant n = record { bits = λ b. sym (rw (ne_eqb variant 1
 
 -- ---- marks
 
-pub packs-none : Packs [] (record { bits = 0; tally = 0 })
+pub packs-none : Packs [] no_marks
 unfolding to_bits
-packs-none = record { few = omega arith; count = refl; size = omega arith; less = omega arith; bits = refl }
+packs-none = record { count = refl; bits = refl }
 
 -- there is room for one more while there are less than 7
-pub packs-room : (ms : List Mark) (p : Packed) → length ms < 7 → Packs ms p → (p.bits < 2 ^ 54) × (p.tally < 440)
-packs-room ms p h k =
-    let s : p.tally / 8 ≤ 54 = omega (arith, k.size) in
-    (omega (arith, k.less, Pow.pow_mono {i = p.tally / 8} {j = 54} s), omega (arith, k.count, s))
+pub mark-room : (p : Packed) → (p.count ≡ 7 → ⊥) → p.bits < 2 ^ 54
+mark-room p n = omega (arith, p.less, Pow.pow_mono {i = p.width} {j = 54} (omega (arith, n, p.few, p.narrow)))
+
+-- and for the bits of one more behind the others
+pub derive-room : (p : Packed) → (p.bits + 1) * 512 ≤ 2 ^ (p.width + 9)
+derive-room p = omega (arith, p.less, Pow.pow-add 2 p.width 9)
+
+pub list_less : (p : Packed) → p.bits * 2 < 2 ^ (p.width + 1)
+list_less p = omega (arith, p.less, Pow.pow-add 2 p.width 1)
 
 -- n bits behind the others
 behind : (b s n v : ℕ) → v < 2 ^ n → to_bits (s + n) (b * 2 ^ n + v) ≡ to_bits s b ++ to_bits n v
@@ -57,52 +62,39 @@ mark-lists : packing.mark_bits makelist_mark ≡ false ∷ []
 unfolding packing.mark_bits
 mark-lists = refl
 
-pub packs-derive : (p : Packed) (derive tag : ℕ) → derive ≡ 1 → tag < 256 → WithMark p derive tag (record { bits = p.bits * 512 + 256 + tag; tally = p.tally + 73 })
-packs-derive p derive tag e h =
-    record {
-      more = λ ms l k.
-          let s = p.tally / 8 in
-          let c : (p.tally + 73) / 8 ≡ s + 9 = omega (arith, k.count) in
-          let d : (p.tally + 73) % 8 ≡ length ms + 1 = omega (arith, k.count) in
-          let v : p.bits * 512 + 256 + tag ≡ p.bits * 2 ^ 9 + (256 + tag) = omega arith in
-          let n = length-append ms (mark_as derive tag ∷ []) in
-          record {
-            few = omega (arith, n);
-            count = d ∙ sym n;
-            size = omega (arith, c, n, k.size);
-            less = rw c (omega (arith, k.less, Pow.pow-add 2 s 9));
-            bits =
-                ap₂ to_bits c v
-                ∙ behind p.bits s 9 (256 + tag) (omega arith)
-                ∙ ap₂ (λ (a b : List Bool). a ++ b) k.bits (derive-bits tag h ∙ sym (ap packing.mark_bits (marked e) ∙ mark-derives tag))
-                ∙ sym (each_snoc packing.mark_bits ms (mark_as derive tag));
-          };
-    }
-  where
-    marked : derive ≡ 1 → mark_as derive tag ≡ derive_mark tag
-    marked e = rw (eq-eqb derive 1 e)
+-- of 7 marks and one more nothing is said
+pub packs_full : (p : Packed) (derive tag : ℕ) → p.count ≡ 7 → WithMark p derive tag p
+packs_full p derive tag h = record { more = λ ms l k. absurd (omega (arith, l, k.count, h)) }
 
-pub packs-list : (p : Packed) (derive tag : ℕ) → (derive ≡ 1 → ⊥) → WithMark p derive tag (record { bits = p.bits * 2; tally = p.tally + 9 })
-packs-list p derive tag e =
-    record {
-      more = λ ms l k.
-          let s = p.tally / 8 in
-          let c : (p.tally + 9) / 8 ≡ s + 1 = omega (arith, k.count) in
-          let d : (p.tally + 9) % 8 ≡ length ms + 1 = omega (arith, k.count) in
-          let v : p.bits * 2 ≡ p.bits * 2 ^ 1 + 0 = omega arith in
-          let n = length-append ms (mark_as derive tag ∷ []) in
-          record {
-            few = omega (arith, n);
-            count = d ∙ sym n;
-            size = omega (arith, c, n, k.size);
-            less = rw c (omega (arith, k.less, Pow.pow-add 2 s 1));
-            bits =
-                ap₂ to_bits c v
-                ∙ behind p.bits s 1 0 (omega arith)
-                ∙ ap₂ (λ (a b : List Bool). a ++ b) k.bits (list-bits ∙ sym (ap packing.mark_bits (marked e) ∙ mark-lists))
-                ∙ sym (each_snoc packing.mark_bits ms (mark_as derive tag));
-          };
-    }
-  where
-    marked : (derive ≡ 1 → ⊥) → mark_as derive tag ≡ makelist_mark
-    marked e = rw (ne_eqb derive 1 e)
+module _ (p r : Packed) (derive tag : ℕ) (one : r.count ≡ p.count + 1) where
+  pub packs_derive : derive ≡ 1 → tag < 256 → r.bits ≡ p.bits * 512 + 256 + tag → r.width ≡ p.width + 9 → WithMark p derive tag r
+  packs_derive e h b w =
+      record {
+        more = λ ms l k.
+            let v : r.bits ≡ p.bits * 2 ^ 9 + (256 + tag) = omega (arith, b) in
+            let marked : mark_as derive tag ≡ derive_mark tag = rw (eq-eqb derive 1 e) in
+            record {
+              count = omega (arith, one, k.count, length-append ms (mark_as derive tag ∷ []));
+              bits =
+                  ap₂ to_bits w v
+                  ∙ behind p.bits p.width 9 (256 + tag) (omega arith)
+                  ∙ ap₂ (λ (x y : List Bool). x ++ y) k.bits (derive-bits tag h ∙ sym (ap packing.mark_bits marked ∙ mark-derives tag))
+                  ∙ sym (each_snoc packing.mark_bits ms (mark_as derive tag));
+            };
+      }
+
+  pub packs_list : (derive ≡ 1 → ⊥) → r.bits ≡ p.bits * 2 → r.width ≡ p.width + 1 → WithMark p derive tag r
+  packs_list e b w =
+      record {
+        more = λ ms l k.
+            let v : r.bits ≡ p.bits * 2 ^ 1 + 0 = omega (arith, b) in
+            let marked : mark_as derive tag ≡ makelist_mark = rw (ne_eqb derive 1 e) in
+            record {
+              count = omega (arith, one, k.count, length-append ms (mark_as derive tag ∷ []));
+              bits =
+                  ap₂ to_bits w v
+                  ∙ behind p.bits p.width 1 0 (omega arith)
+                  ∙ ap₂ (λ (x y : List Bool). x ++ y) k.bits (list-bits ∙ sym (ap packing.mark_bits marked ∙ mark-lists))
+                  ∙ sym (each_snoc packing.mark_bits ms (mark_as derive tag));
+            };
+      }

@@ -5,7 +5,11 @@ use Rattle.definitions.specs.Bits.{to_bits, odd}
 use Rattle.definitions.specs.Records.{derive_mark}
 use Rattle.definitions.specs.Packing as packing
 use Rattle.item_heads.specs.Heads.{Packs}
+use Rattle.item_heads.specs.declared.packed.Packed.{Packed}
 
-pub seven-marks : Packs (replicate 7 (derive_mark 255)) (record { bits = 2 ^ 63 - 1; tally = 511 })
+abbrev seven : Packed
+seven = record { bits = 2 ^ 63 - 1; width = 63; count = 7; few = omega arith; narrow = omega arith; less = omega arith }
+
+pub seven-marks : Packs (replicate 7 (derive_mark 255)) seven
 unfolding to_bits odd packing.mark_bits
-seven-marks = record { few = omega arith; count = refl; size = omega arith; less = omega arith; bits = refl }
+seven-marks = record { count = refl; bits = refl }

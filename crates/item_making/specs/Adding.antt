@@ -4,7 +4,7 @@ use Rattle.std.specs.Prelude.{Bool, List, [], ◌++◌, ◌≡◌, refl, ℕ}
 use Rattle.std.proofs.Common.{sym}
 use Rattle.item_pen.specs.declared.field.Field.{Field}
 use Rattle.item_pen.specs.declared.Pen.{Pen}
-use Rattle.item_pen.specs.Pen.{field_bits, Holds, RoomFor, Adds, Counted}
+use Rattle.item_pen.specs.Pen.{field_bits, Holds, RoomFor, Adds}
 use Rattle.item_pen.specs.PenLaws.{adds-as, adds_then, room_as, room-head, room-tail, Pending, pending-room, pending-less, pending-none}
 use Rattle.bitsets.specs.Bitsets.{Lowest, Rest}
 use Rattle.item_making.specs.Making.{each_of}
@@ -12,31 +12,31 @@ use Rattle.item_making.specs.Walks.{each_next, each_none}
 
 -- ---- a field, and the rest
 
-pub room-field : {a : List ℕ} {P : Pen} {f : Field} {n : ℕ} {xs : List Bool} (ys : List Bool) → Holds f n xs → RoomFor a P 0 (xs ++ ys) → RoomFor a P 0 (field_bits f)
-room-field {a} {P} {f} {n} {xs} ys h r = room_as (sym h.bits) (room-head 0 0 xs ys r)
+pub room-field : {P : Pen} {f : Field} {n : ℕ} {xs : List Bool} (ys : List Bool) → Holds f n xs → RoomFor P 0 (xs ++ ys) → RoomFor P 0 (field_bits f)
+room-field {P} {f} {n} {xs} ys h r = room_as (sym h.bits) (room-head 0 0 xs ys r)
 
-pub room-behind : {a b : List ℕ} {P Q : Pen} {f : Field} {n : ℕ} {xs : List Bool} (ys : List Bool) → Holds f n xs → Adds a b P Q 0 (field_bits f) → RoomFor a P 0 (xs ++ ys) → RoomFor b Q 0 ys
-room-behind {a} {b} {P} {Q} {f} {n} {xs} ys h w r = room-tail 0 0 xs ys (adds-as h.bits w) r
+pub room-behind : {P Q : Pen} {f : Field} {n : ℕ} {xs : List Bool} (ys : List Bool) → Holds f n xs → Adds P Q 0 (field_bits f) → RoomFor P 0 (xs ++ ys) → RoomFor Q 0 ys
+room-behind {P} {Q} {f} {n} {xs} ys h w r = room-tail 0 0 xs ys (adds-as h.bits w) r
 
-pub adds-behind : {a b c : List ℕ} {P Q R : Pen} {f : Field} {n : ℕ} {xs ys : List Bool} → Holds f n xs → Adds a b P Q 0 (field_bits f) → Adds b c Q R 0 ys → Adds a c P R 0 (xs ++ ys)
+pub adds-behind : {P Q R : Pen} {f : Field} {n : ℕ} {xs ys : List Bool} → Holds f n xs → Adds P Q 0 (field_bits f) → Adds Q R 0 ys → Adds P R 0 (xs ++ ys)
 adds-behind h w v = adds_then (adds-as h.bits w) v
 
 -- ---- an item is counted, and then its bits are added
 
-pub room-counted : {b : List ℕ} {P Q : Pen} {xs : List Bool} → Counted P Q → RoomFor b P 1 xs → RoomFor b Q 0 xs
-room-counted {b} {P} {Q} {xs} c r = room-tail 1 0 [] xs (c.adds b) r
+pub room-counted : {P Q : Pen} {xs : List Bool} → Adds P Q 1 [] → RoomFor P 1 xs → RoomFor Q 0 xs
+room-counted {P} {Q} {xs} c r = room-tail 1 0 [] xs c r
 
-pub adds-counted : {a b : List ℕ} {P Q R : Pen} {xs : List Bool} → Counted P Q → Adds a b Q R 0 xs → Adds a b P R 1 xs
-adds-counted {a} c w = adds_then (c.adds a) w
+pub adds-counted : {P Q R : Pen} {xs : List Bool} → Adds P Q 1 [] → Adds Q R 0 xs → Adds P R 1 xs
+adds-counted c w = adds_then c w
 
 -- ---- a walk over a set
 
-module _ (g : ℕ → List Bool) {a b : List ℕ} {P Q : Pen} {n : ℕ} {bs : List Bool} {left : ℕ} where
-  pub walk-room : {k r : ℕ} → Lowest left k → Rest left r → Pending a P n bs b Q 0 (each_of g left) → RoomFor a P n bs → RoomFor b Q 0 (g k)
+module _ (g : ℕ → List Bool) {P Q : Pen} {n : ℕ} {bs : List Bool} {left : ℕ} where
+  pub walk-room : {k r : ℕ} → Lowest left k → Rest left r → Pending P n bs Q 0 (each_of g left) → RoomFor P n bs → RoomFor Q 0 (g k)
   walk-room {k} {r} l d p w = pending-room 0 0 (g k) (each_of g r) (each_next g left k r l d) refl p w
 
-  pub walk-less : {k r : ℕ} {c : List ℕ} {R : Pen} → Lowest left k → Rest left r → Pending a P n bs b Q 0 (each_of g left) → Adds b c Q R 0 (g k) → Pending a P n bs c R 0 (each_of g r)
+  pub walk-less : {k r : ℕ} {R : Pen} → Lowest left k → Rest left r → Pending P n bs Q 0 (each_of g left) → Adds Q R 0 (g k) → Pending P n bs R 0 (each_of g r)
   walk-less {k} {r} l d p w = pending-less 0 0 (g k) (each_of g r) (each_next g left k r l d) refl p w
 
-  pub walk-end : left ≡ 0 → Pending a P n bs b Q 0 (each_of g left) → Adds a b P Q n bs
+  pub walk-end : left ≡ 0 → Pending P n bs Q 0 (each_of g left) → Adds P Q n bs
   walk-end e p = pending-none refl (each_none g left e) p

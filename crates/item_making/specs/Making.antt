@@ -1,5 +1,5 @@
 -- What is made for a type and a word, as the catalogue has it.
-use Rattle.std.specs.Prelude.{Bool, true, false, cond, ◌&&◌, List, [], ◌∷◌, ◌++◌, map, ◌≡◌, ℕ, ◌+◌, ◌%◌, ◌≤◌, ◌<◌}
+use Rattle.std.specs.Prelude.{Bool, true, false, cond, ◌&&◌, List, [], ◌∷◌, ◌++◌, map, ◌≡◌, ℕ, ◌+◌, ◌≤◌, ◌<◌}
 use Rattle.std.specs.Int.Bits.{bit_and, bit_xor}
 use Rattle.lists.specs.Lists.{all, each}
 use Rattle.definitions.specs.Bits.{odd, to_bits}
@@ -9,7 +9,7 @@ use Rattle.definitions.specs.Comparisons.{dotted}
 use Rattle.definitions.specs.LegalSchedule.{most_marks}
 use Rattle.rows.specs.Rows.{has_bit}
 use Rattle.bitsets.specs.Bitsets.{members, Rest}
-use Rattle.catalogue.specs.Layout.{key_at, head_at, marks_at, tally_at, mark_width, extension_count_at, second_at}
+use Rattle.catalogue.specs.Layout.{key_at, head_at, marks_at, mark_width, mark_count, extension_count_at, second_at}
 use Rattle.catalogue.specs.Catalogue.{name_of_key, virtual_head, parents_in}
 use Rattle.catalogue.specs.declared.Catalogue.{Catalogue}
 use Rattle.item_making.specs.declared.Making.{Making}
@@ -79,7 +79,7 @@ marks_bits t c = to_bits (mark_width t c) (marks_at t c)
 
 -- How many marks classes have.
 unfoldable pub marks_in : Catalogue → List ℕ → ℕ
-marks_in t cs = total (λ c. tally_at t c % 8) cs
+marks_in t cs = total (mark_count t) cs
 
 -- Whether classes are all virtual (FORMAT 4.6).
 unfoldable pub all_virtual : Catalogue → List ℕ → Bool
@@ -128,4 +128,4 @@ pub record Alone (m : Making) : Type 0 where
 
 -- What stands behind its first parents: `resource`, the number of marks, the marks (FORMAT 6.2).
 unfoldable pub tail_bits : Catalogue → ℕ → List Bool
-tail_bits t c = (parent_bits (t.resource ∷ []) ++ to_bits 9 (tally_at t c % 8)) ++ marks_bits t c
+tail_bits t c = (parent_bits (t.resource ∷ []) ++ to_bits 9 (mark_count t c)) ++ marks_bits t c

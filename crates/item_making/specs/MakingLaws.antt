@@ -21,13 +21,14 @@ use Rattle.bits.specs.NumberLaws.{length-to_bits, to_bits-split}
 use Rattle.ordering.specs.Lists.{below-same, below_none, below_one}
 use Rattle.rows.specs.Rows.{has_bit}
 use Rattle.rows.specs.RowLaws.{bit-without, bit-none}
-use Rattle.catalogue.specs.Layout.{key_at, head_at, marks_at, tally_at, mark_width, extension_count_at, extension_parent_at, second_at}
+use Rattle.catalogue.specs.Layout.{key_at, head_at, packed_at, marks_at, mark_width, mark_count, extension_count_at, extension_parent_at, second_at}
 use Rattle.catalogue.specs.Catalogue.{name_of_key, virtual_head, parents_in}
 use Rattle.bitsets.specs.Bitsets.{members, Lowest, Rest}
 use Rattle.bitsets.specs.BitLaws.{bit-both, members-of, members-next, members-none}
 use Rattle.item_pen.specs.declared.field.Field.{Field}
 use Rattle.item_pen.specs.Pen.{field_bits, Holds, flushed, TakesIn}
 use Rattle.item_fields.specs.Fields.{head_bits}
+use Rattle.item_heads.specs.declared.packed.Packed.{Packed}
 use Rattle.catalogue.specs.declared.Catalogue.{Catalogue}
 use Rattle.item_making.specs.declared.Making.{Making}
 use Rattle.item_making.specs.declared.Gathered.{Gathered}
@@ -69,17 +70,17 @@ odd-and a b = bit-both a b 0
 pub marks_most : (t : Catalogue) (set : ℕ) → marks_in t (members set) ≤ most_marks
 unfolding marks_in
 marks_most t set =
-    let m = total-most (λ c. tally_at t c % 8) 7 (members set) (λ e i. omega arith) in
+    let m = total-most (mark_count t) 7 (members set) (λ e i. (packed_at t e).few) in
     omega (arith, m, members_most set)
 
 -- what the lowest place of a set has, and the rest
-pub marks_next : (t : Catalogue) (left k r : ℕ) → Lowest left k → Rest left r → marks_in t (members left) ≡ tally_at t k % 8 + marks_in t (members r)
+pub marks_next : (t : Catalogue) (left k r : ℕ) → Lowest left k → Rest left r → marks_in t (members left) ≡ mark_count t k + marks_in t (members r)
 unfolding marks_in
-marks_next t left k r w d = total_next (λ c. tally_at t c % 8) left k r w d
+marks_next t left k r w d = total_next (mark_count t) left k r w d
 
 pub marks_none : (t : Catalogue) (left : ℕ) → left ≡ 0 → marks_in t (members left) ≡ 0
 unfolding marks_in
-marks_none t left e = total_none (λ c. tally_at t c % 8) left e
+marks_none t left e = total_none (mark_count t) left e
 
 pub flag_next : (t : Catalogue) (flag left k r : ℕ) → Lowest left k → Rest left r
     → (odd (bit_and flag (head_at t k / 32)) && all_virtual t (members r)) ≡ (odd flag && all_virtual t (members left))
@@ -104,13 +105,13 @@ marks_long t c = length-to_bits (mark_width t c) (marks_at t c)
 pub marks-parts : (w v : ℕ) → 32 ≤ w → to_bits (w - 32) (v / 4294967296) ++ to_bits 32 v ≡ to_bits w v
 marks-parts w v h = let e : w - 32 + 32 ≡ w = omega arith in sym (to_bits-split (w - 32) 32 v) ∙ ap (λ (n : ℕ). to_bits n v) e
 
-module _ (t : Catalogue) (c w : ℕ) (e : w ≡ mark_width t c) where
-  pub marks-are : to_bits w (marks_at t c) ≡ marks_bits t c
+module _ (t : Catalogue) (c : ℕ) (p : Packed) (e : p ≡ packed_at t c) where
+  pub marks-are : to_bits p.width p.bits ≡ marks_bits t c
   unfolding marks_bits
-  marks-are = ap (λ (n : ℕ). to_bits n (marks_at t c)) e
+  marks-are = ap (λ (q : Packed). to_bits q.width q.bits) e
 
-  pub marks-parted : 32 ≤ w → to_bits (w - 32) (marks_at t c / 4294967296) ++ to_bits 32 (marks_at t c) ≡ marks_bits t c
-  marks-parted h = marks-parts w (marks_at t c) h ∙ marks-are
+  pub marks-parted : 32 ≤ p.width → to_bits (p.width - 32) (p.bits / 4294967296) ++ to_bits 32 p.bits ≡ marks_bits t c
+  marks-parted h = marks-parts p.width p.bits h ∙ marks-are
 
 -- ---- the parents of a record, one after the other
 
@@ -160,7 +161,7 @@ mark-bits-both t classes marks = ap (λ (l : List Bool). to_bits 9 marks ++ l) (
 
 pub marks_both : (t : Catalogue) (classes : ℕ) → marks_in t (classes_of t classes) ≡ marks_in t (members (ones t classes)) + marks_in t (members (others t classes))
 unfolding marks_in classes_of
-marks_both t classes = total-append (λ c. tally_at t c % 8) (members (ones t classes)) (members (others t classes))
+marks_both t classes = total-append (mark_count t) (members (ones t classes)) (members (others t classes))
 
 pub flag_both : (t : Catalogue) (a classes : ℕ)
     → (virtual_head (head_at t a) && all_virtual t (classes_of t classes))
@@ -260,7 +261,7 @@ pub mark_bits_next : (t : Catalogue) (left k r : ℕ) → Lowest left k → Rest
 mark_bits_next t left k r l d = omega (arith, long_next (marks_bits t) left k r l d, marks_long t k)
 
 pub mark_bits_most : (t : Catalogue) (set : ℕ) → length (each_of (marks_bits t) set) ≤ 4032
-mark_bits_most t set = omega (arith, each-most (marks_bits t) 63 set (λ c. omega (arith, marks_long t c)), members_most set)
+mark_bits_most t set = omega (arith, each-most (marks_bits t) 63 set (λ c. omega (arith, marks_long t c, (packed_at t c).few, (packed_at t c).narrow)), members_most set)
 
 -- the parts of a making whose parents no extension adds to
 pub made_long : (t : Catalogue) (a : ℕ) (m : Making) → m.records ≡ 0
@@ -344,22 +345,22 @@ module _ (t : Catalogue) (m : Making) (l : Alone m) (c : ℕ) (w : Lowest m.clas
   unfolding tail_bits behind_bits others_bits all_marks_bits marks_in
   alone-behind marks e =
       let R = parent_bits (t.resource ∷ []) in
-      let C = to_bits 9 (tally_at t c % 8) in
+      let C = to_bits 9 (mark_count t c) in
       let none : each_of (record_bits t) m.records ≡ [] = each_none (record_bits t) m.records l.records in
-      let count : tally_at t c % 8 ≡ marks = omega arith ∙ ap (total (λ c. tally_at t c % 8)) (sym class-is) ∙ sym e in
+      let count : mark_count t c ≡ marks = omega arith ∙ ap (total (mark_count t)) (sym class-is) ∙ sym e in
       append_assoc R C (marks_bits t c)
       ∙ ap₂ (λ (x y : List Bool). x ++ (C ++ y)) (sym (append-nil R) ∙ ap (λ (x : List Bool). R ++ x) (sym none)) (sym (append-nil (marks_bits t c)) ∙ ap (each (marks_bits t)) (sym class-is))
       ∙ ap (λ (x : ℕ). (R ++ each_of (record_bits t) m.records) ++ (to_bits 9 x ++ each (marks_bits t) (classes_of t m.classes))) count
 
 -- what stands behind the first parents, as it is added
-module _ (t : Catalogue) (c w : ℕ) (e : w ≡ mark_width t c) where
+module _ (t : Catalogue) (c : ℕ) (p : Packed) (e : p ≡ packed_at t c) where
   abbrev start : List Bool
-  start = parent_bits (t.resource ∷ []) ++ to_bits 9 (tally_at t c % 8)
+  start = parent_bits (t.resource ∷ []) ++ to_bits 9 (mark_count t c)
 
-  pub tail-short : start ++ to_bits w (marks_at t c) ≡ tail_bits t c
+  pub tail-short : start ++ to_bits p.width p.bits ≡ tail_bits t c
   unfolding tail_bits
-  tail-short = ap (λ (l : List Bool). start ++ l) (marks-are t c w e)
+  tail-short = ap (λ (l : List Bool). start ++ l) (marks-are t c p e)
 
-  pub tail-long : 32 ≤ w → (start ++ to_bits (w - 32) (marks_at t c / 4294967296)) ++ to_bits 32 (marks_at t c) ≡ tail_bits t c
+  pub tail-long : 32 ≤ p.width → (start ++ to_bits (p.width - 32) (p.bits / 4294967296)) ++ to_bits 32 p.bits ≡ tail_bits t c
   unfolding tail_bits
-  tail-long h = append_assoc start (to_bits (w - 32) (marks_at t c / 4294967296)) (to_bits 32 (marks_at t c)) ∙ ap (λ (l : List Bool). start ++ l) (marks-parted t c w e h)
+  tail-long h = append_assoc start (to_bits (p.width - 32) (p.bits / 4294967296)) (to_bits 32 p.bits) ∙ ap (λ (l : List Bool). start ++ l) (marks-parted t c p e h)

@@ -6,7 +6,7 @@ ghost use Rattle.std.specs.Prelude.{true, [], ◌∷◌, ◌++◌, ◌≡◌, �
 ghost use Rattle.definitions.specs.Bits.{to_bits};
 ghost use Rattle.definitions.specs.LegalSchedule.{most_marks};
 ghost use Rattle.definitions.specs.Packing.{parent_bits};
-ghost use Rattle.catalogue.specs.Layout.{key_at, head_at, tally_at, extension_count_at};
+ghost use Rattle.catalogue.specs.Layout.{key_at, head_at, mark_count, extension_count_at};
 ghost use Rattle.bitsets.specs.Bitsets.{members};
 ghost use Rattle.item_pen.specs.Pen.{field_bits, Holds, RoomFor, Adds};
 ghost use Rattle.item_fields.specs.Fields.{line_bits};
@@ -55,7 +55,7 @@ fn count_added(t: &Catalogue, records: u64) -> u64
 {
     let mut n: u64 = 0;
     for e in bitsets::members(records) {
-        n += t.extension_counts[e];
+        n += t.extensions[e].count;
     }
     n
 }
@@ -69,7 +69,7 @@ fn gather(t: &Catalogue, g: Gathered, set: u64) -> Gathered
     let mut marks = g.marks;
     let mut flag = g.flag;
     for c in bitsets::members(set) {
-        marks += t.tallies[c] % 8;
+        marks += t.marks_of(c).count;
         flag &= t.heads[c] >> 5;
     }
     Gathered { marks, flag }
@@ -89,47 +89,42 @@ fn first_field(t: &Catalogue, m: Making, p: usize) -> Field
 }
 
 // The head and the first parents, several written together.
-fn add_firsts(buf: &mut [u8], pen: Pen, t: &Catalogue, m: Making, head: Field) -> Pen
-    requires { RoomFor buf.old pen 0 (field_bits head ++ each_of (first_bits t.now m) m.firsts) }
-    ensures { Adds buf.old buf.new pen result 0 (field_bits head ++ each_of (first_bits t.now m) m.firsts) }
+fn add_firsts(pen: &mut Pen<'_>, t: &Catalogue, m: Making, head: Field)
+    requires { RoomFor pen.old 0 (field_bits head ++ each_of (first_bits t.now m) m.firsts) }
+    ensures { Adds pen.old pen.new 0 (field_bits head ++ each_of (first_bits t.now m) m.firsts) }
 {
-    let mut to = pen;
     let mut held = head;
     for p in bitsets::members(m.firsts) {
         let f = first_field(t, m, p);
-        to = item_pen::make_room(buf, to, held, f);
+        pen.make_room(held, f);
         held = item_pen::take_in(held, f);
     }
-    item_pen::add(buf, to, held)
+    pen.add(held);
 }
 
 // The parents of an extension record (FORMAT 4.5).
-fn add_record(buf: &mut [u8], pen: Pen, t: &Catalogue, e: usize) -> Pen
+fn add_record(pen: &mut Pen<'_>, t: &Catalogue, e: usize)
     requires e_bound { (e < 32) × (extension_count_at t.now e ≤ 8) }
-    requires room_for { RoomFor buf.old pen 0 (record_bits t.now e) }
-    ensures { Adds buf.old buf.new pen result 0 (record_bits t.now e) }
+    requires room_for { RoomFor pen.old 0 (record_bits t.now e) }
+    ensures { Adds pen.old pen.new 0 (record_bits t.now e) }
 {
-    let count = t.extension_counts[e];
-    let mut to = pen;
+    let count = t.extensions[e].count;
     for j in 0..count as usize {
-        let key = t.extension_parents[e][j];
-        to = item_pen::add(buf, to, item_fields::parent_field(key));
+        let key = t.extensions[e].parents[j];
+        pen.add(item_fields::parent_field(key));
     }
-    to
 }
 
-// The parents of some records. This loop and that of `add_classes` stay apart: one over a closure needs a contract that is longer
-// than they are.
-fn add_records(buf: &mut [u8], pen: Pen, t: &Catalogue, records: u64) -> Pen
+// The parents of some records. This loop and that of `add_classes` stay apart: a closure for both would hold the pen, whose bytes
+// and place it would owe at each turn.
+fn add_records(pen: &mut Pen<'_>, t: &Catalogue, records: u64)
     requires recorded { Recorded t.now records }
-    requires room_for { RoomFor buf.old pen 0 (each_of (record_bits t.now) records) }
-    ensures { Adds buf.old buf.new pen result 0 (each_of (record_bits t.now) records) }
+    requires room_for { RoomFor pen.old 0 (each_of (record_bits t.now) records) }
+    ensures { Adds pen.old pen.new 0 (each_of (record_bits t.now) records) }
 {
-    let mut to = pen;
     for e in bitsets::members(records) {
-        to = add_record(buf, to, t, e);
+        add_record(pen, t, e);
     }
-    to
 }
 
 // The parent `resource` (FORMAT 4.5).
@@ -140,51 +135,50 @@ fn resource_field(t: &Catalogue) -> Field
 }
 
 // The parents behind the first ones: `resource`, those of the extension (FORMAT 4.5).
-fn add_others(buf: &mut [u8], pen: Pen, t: &Catalogue, records: u64) -> Pen
+fn add_others(pen: &mut Pen<'_>, t: &Catalogue, records: u64)
     requires recorded { Recorded t.now records }
-    requires room_for { RoomFor buf.old pen 0 (others_bits t.now records) }
-    ensures { Adds buf.old buf.new pen result 0 (others_bits t.now records) }
+    requires room_for { RoomFor pen.old 0 (others_bits t.now records) }
+    ensures { Adds pen.old pen.new 0 (others_bits t.now records) }
 {
-    let to = item_pen::add(buf, pen, resource_field(t));
-    add_records(buf, to, t, records)
+    pen.add(resource_field(t));
+    add_records(pen, t, records);
 }
 
 // The marks of a class, up to 63 bits: more than 56 in two parts.
-fn add_class(buf: &mut [u8], pen: Pen, t: &Catalogue, c: usize) -> Pen
+fn add_class(pen: &mut Pen<'_>, t: &Catalogue, c: usize)
     requires c_bound { c < 64 }
-    requires room_for { RoomFor buf.old pen 0 (marks_bits t.now c) }
-    ensures { Adds buf.old buf.new pen result 0 (marks_bits t.now c) }
+    requires room_for { RoomFor pen.old 0 (marks_bits t.now c) }
+    ensures { Adds pen.old pen.new 0 (marks_bits t.now c) }
 {
-    let width = t.mark_width(c);
-    let marks = t.marks[c];
+    let marks = t.marks_of(c);
+    let width = marks.width as usize;
     if width <= 56 {
-        return item_pen::add(buf, pen, item_pen::number(width, marks));
+        pen.add(item_pen::number(width, marks.bits));
+        return;
     }
-    let to = item_pen::add(buf, pen, item_pen::number(width - 32, marks >> 32));
-    item_pen::add(buf, to, item_pen::number(32, marks))
+    pen.add(item_pen::number(width - 32, marks.bits >> 32));
+    pen.add(item_pen::number(32, marks.bits));
 }
 
 // The marks of the classes of a set (FORMAT 4.7).
-fn add_classes(buf: &mut [u8], pen: Pen, t: &Catalogue, set: u64) -> Pen
-    requires { RoomFor buf.old pen 0 (each_of (marks_bits t.now) set) }
-    ensures { Adds buf.old buf.new pen result 0 (each_of (marks_bits t.now) set) }
+fn add_classes(pen: &mut Pen<'_>, t: &Catalogue, set: u64)
+    requires { RoomFor pen.old 0 (each_of (marks_bits t.now) set) }
+    ensures { Adds pen.old pen.new 0 (each_of (marks_bits t.now) set) }
 {
-    let mut to = pen;
     for c in bitsets::members(set) {
-        to = add_class(buf, to, t, c);
+        add_class(pen, t, c);
     }
-    to
 }
 
 // The number of marks, and the marks of the classes, no dom first (FORMAT 4.7, 6.2).
-fn add_marks(buf: &mut [u8], pen: Pen, t: &Catalogue, marks: u64, classes: u64) -> Pen
-    requires { RoomFor buf.old pen 0 (all_marks_bits t.now marks classes) }
-    ensures { Adds buf.old buf.new pen result 0 (all_marks_bits t.now marks classes) }
+fn add_marks(pen: &mut Pen<'_>, t: &Catalogue, marks: u64, classes: u64)
+    requires { RoomFor pen.old 0 (all_marks_bits t.now marks classes) }
+    ensures { Adds pen.old pen.new 0 (all_marks_bits t.now marks classes) }
 {
     let alone = classes & t.seconds[0];
-    let to = item_pen::add(buf, pen, item_pen::number(9, marks));
-    let then = add_classes(buf, to, t, alone);
-    add_classes(buf, then, t, classes ^ alone)
+    pen.add(item_pen::number(9, marks));
+    add_classes(pen, t, alone);
+    add_classes(pen, t, classes ^ alone);
 }
 
 // What the type and its classes give: how many marks, and whether all are virtual (FORMAT 4.6, 4.7).
@@ -214,29 +208,30 @@ fn count_parents(t: &Catalogue, m: Making) -> u64
 // `resource`, and the number of marks of a class.
 fn tail_start(t: &Catalogue, c: usize) -> Field
     requires { c < 64 }
-    ensures { Holds result 19 (parent_bits (t.now.resource ∷ []) ++ to_bits 9 (tally_at t.now c % 8)) }
+    ensures { Holds result 19 (parent_bits (t.now.resource ∷ []) ++ to_bits 9 (mark_count t.now c)) }
 {
-    let count = t.tallies[c] % 8;
+    let count = t.marks_of(c).count;
     item_pen::join(resource_field(t), item_pen::number(9, count))
 }
 
 // What stands behind the first parents where a class is the only one and no extension adds parents: `resource`, the number of its
 // marks, the marks (FORMAT 6.2). More than 56 bits go in two parts.
-fn add_tail(buf: &mut [u8], pen: Pen, t: &Catalogue, c: usize) -> Pen
+fn add_tail(pen: &mut Pen<'_>, t: &Catalogue, c: usize)
     requires c_bound { c < 64 }
-    requires room_for { RoomFor buf.old pen 0 (tail_bits t.now c) }
-    ensures { Adds buf.old buf.new pen result 0 (tail_bits t.now c) }
+    requires room_for { RoomFor pen.old 0 (tail_bits t.now c) }
+    ensures { Adds pen.old pen.new 0 (tail_bits t.now c) }
 {
     let start = tail_start(t, c);
-    let width = t.mark_width(c);
-    let marks = t.marks[c];
+    let marks = t.marks_of(c);
+    let width = marks.width as usize;
     if width <= 37 {
-        let f = item_pen::join(start, item_pen::number(width, marks));
-        return item_pen::add(buf, pen, f);
+        let f = item_pen::join(start, item_pen::number(width, marks.bits));
+        pen.add(f);
+        return;
     }
-    let f = item_pen::join(start, item_pen::number(width - 32, marks >> 32));
-    let to = item_pen::add(buf, pen, f);
-    item_pen::add(buf, to, item_pen::number(32, marks))
+    let f = item_pen::join(start, item_pen::number(width - 32, marks.bits >> 32));
+    pen.add(f);
+    pen.add(item_pen::number(32, marks.bits));
 }
 
 // Whether a making has one class, and no extension adds parents to it.
@@ -253,29 +248,31 @@ fn is_alone(m: Making) -> bool
 }
 
 // What stands behind the first parents: the others, the number of marks, the marks.
-fn add_behind(buf: &mut [u8], pen: Pen, t: &Catalogue, m: Making, marks: u64) -> Pen
+fn add_behind(pen: &mut Pen<'_>, t: &Catalogue, m: Making, marks: u64)
     requires recorded { Recorded t.now m.records × (marks ≡ marks_in t.now (classes_of t.now m.classes)) }
-    requires room_for { RoomFor buf.old pen 0 (behind_bits t.now m marks) }
-    ensures { Adds buf.old buf.new pen result 0 (behind_bits t.now m marks) }
+    requires room_for { RoomFor pen.old 0 (behind_bits t.now m marks) }
+    ensures { Adds pen.old pen.new 0 (behind_bits t.now m marks) }
 {
     if is_alone(m) {
-        return add_tail(buf, pen, t, bitsets::lowest(m.classes));
+        add_tail(pen, t, bitsets::lowest(m.classes));
+        return;
     }
-    let to = add_others(buf, pen, t, m.records);
-    add_marks(buf, to, t, marks, m.classes)
+    add_others(pen, t, m.records);
+    add_marks(pen, t, marks, m.classes);
 }
 
 // A synthesized resource, field by field.
-fn add_resource(buf: &mut [u8], pen: Pen, t: &Catalogue, a: usize, m: Making) -> Pen
+fn add_resource(pen: &mut Pen<'_>, t: &Catalogue, a: usize, m: Making)
     requires a_bound { (a < 64) × Recorded t.now m.records }
-    requires room_for { RoomFor buf.old pen 1 (made_bits t.now a m) }
-    ensures { Adds buf.old buf.new pen result 1 (made_bits t.now a m) }
+    requires room_for { RoomFor pen.old 1 (made_bits t.now a m) }
+    ensures { Adds pen.old pen.new 1 (made_bits t.now a m) }
 {
     let g = gather_all(t, a, m.classes);
     let parents = count_parents(t, m);
     let head = item_fields::head_field(t.keys[a], m.word, g.flag, parents);
-    let to = add_firsts(buf, item_pen::counted(pen), t, m, head);
-    add_behind(buf, to, t, m, g.marks)
+    pen.count_item();
+    add_firsts(pen, t, m, head);
+    add_behind(pen, t, m, g.marks);
 }
 
 // How many bits a first parent has.
@@ -325,35 +322,25 @@ fn width_of(t: &Catalogue, a: usize, m: Making) -> usize
 
 // A synthesized resource T.r, after the Rust's function of that name (FORMAT 4, 6.2). With the pen up its bits are counted and
 // not made.
-pub fn create_synthetic_resource(
-    buf: &mut [u8],
-    pen: Pen,
-    t: &Catalogue,
-    a: usize,
-    m: Making,
-) -> Pen
+pub fn create_synthetic_resource(pen: &mut Pen<'_>, t: &Catalogue, a: usize, m: Making)
     requires a_bound { (a < 64) × Recorded t.now m.records }
-    requires room_for { RoomFor buf.old pen 1 (made_bits t.now a m) }
-    ensures { Adds buf.old buf.new pen result 1 (made_bits t.now a m) }
+    requires room_for { RoomFor pen.old 1 (made_bits t.now a m) }
+    ensures { Adds pen.old pen.new 1 (made_bits t.now a m) }
 {
-    if !item_pen::is_down(pen) {
-        if m.records == 0 {
-            return item_pen::pass_over(item_pen::counted(pen), width_of(t, a, m));
-        }
+    if !pen.down && m.records == 0 {
+        pen.count_item();
+        pen.pass_over(width_of(t, a, m));
+        return;
     }
-    add_resource(buf, pen, t, a, m)
+    add_resource(pen, t, a, m);
 }
 
 // The extension line of a type and a word (FORMAT 4.8, 6.3).
-pub fn extension_line(buf: &mut [u8], pen: Pen, t: &Catalogue, a: usize, word: u64) -> Pen
+pub fn extension_line(pen: &mut Pen<'_>, t: &Catalogue, a: usize, word: u64)
     requires a_bound { a < 64 }
-    requires room_for { RoomFor buf.old pen 1 (line_bits (key_at t.now a) (head_at t.now a) word) }
-    ensures { Adds buf.old buf.new pen result 1 (line_bits (key_at t.now a) (head_at t.now a) word) }
+    requires room_for { RoomFor pen.old 1 (line_bits (key_at t.now a) (head_at t.now a) word) }
+    ensures { Adds pen.old pen.new 1 (line_bits (key_at t.now a) (head_at t.now a) word) }
 {
-    let line = item_fields::line_field(t.keys[a], t.heads[a], word);
-    let then = item_pen::counted(pen);
-    if !item_pen::is_down(then) {
-        return item_pen::pass_over(then, line.width);
-    }
-    item_pen::add(buf, then, line)
+    pen.count_item();
+    pen.add(item_fields::line_field(t.keys[a], t.heads[a], word));
 }

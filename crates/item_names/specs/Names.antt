@@ -1,10 +1,11 @@
 -- What the code puts into the catalogue of the names of the types. A name is two bytes, 255 for no second word.
-use Rattle.std.specs.Prelude.{cond, not, ◌&&◌, List, ◌≡◌, ℕ, ◌+◌, ◌*◌, ◌%◌, ◌/◌, ◌^◌, ◌≤◌, ◌<◌, eqb, ltb, length, get_or, set}
+use Rattle.std.specs.Prelude.{cond, not, ◌&&◌, List, ◌≡◌, ℕ, ◌+◌, ◌*◌, ◌%◌, ◌/◌, ◌≤◌, ◌<◌, eqb, ltb, length, get_or, set}
 use Rattle.std.specs.Int.Bits.{bit_and, bit_or}
 use Rattle.std.specs.Int.Count.{count_trailing_zeros}
 use Rattle.lists.specs.Tabulating.{tabulate}
 use Rattle.rows.specs.Rows.{has_bit}
 use Rattle.ordering.specs.Lists.{below}
+use Rattle.bitsets.specs.Bitsets.{more}
 use Rattle.catalogue.specs.Layout.{key_at, word_at, mask_at, owner_at, first_at, second_at}
 use Rattle.catalogue.specs.declared.Catalogue.{Catalogue}
 
@@ -29,8 +30,8 @@ pub record KeysPut (firsts seconds : List ℕ) (n : ℕ) (old new : Catalogue) :
 -- Type a joins the set of its first word, and that of its second or of the names of one word.
 abbrev pub name_marked : Catalogue → ℕ → ℕ → ℕ → Catalogue
 name_marked t a first second = record t {
-  firsts = set t.firsts first (bit_or (first_at t first) (1 * 2 ^ a % 2 ^ 64));
-  seconds = set t.seconds (second_of second) (bit_or (second_at t (second_of second)) (1 * 2 ^ a % 2 ^ 64));
+  firsts = set t.firsts first (more (first_at t first) a);
+  seconds = set t.seconds (second_of second) (more (second_at t (second_of second)) a);
 }
 
 -- One type was put into its sets. That the columns are long enough is said for a caller that reads none of them.
@@ -59,7 +60,7 @@ mask_of t w = bit_or (bit_and (first_at t w) (second_at t 0)) (second_at t (w + 
 -- One word with its set behind the first n, if the set is not empty.
 pub record WordPut (n w mask : ℕ) (old new : Catalogue) (r : ℕ) : Type 0 where
   pub none : mask ≡ 0 → (r ≡ n) × (new ≡ old)
-  pub some : (mask ≡ 0 → ⊥) → (r ≡ n + 1) × (new ≡ record old { words = set old.words n w; masks = set old.masks n mask })
+  pub some : (mask ≡ 0 → ⊥) → (r ≡ n + 1) × (new ≡ record old { words = set old.words n (record { word = w; types = mask }) })
 
 -- There is room for the words with a set that is not empty.
 pub record FewWords (width : ℕ) (t : Catalogue) : Type 0 where
@@ -70,7 +71,7 @@ pub record FewWords (width : ℕ) (t : Catalogue) : Type 0 where
 pub record WordsPut (width : ℕ) (old new : Catalogue) (n : ℕ) : Type 0 where
   pub words : tabulate (word_at new) n ≡ below (λ w. not (eqb (mask_of old w) 0)) width
   pub masks : (k : ℕ) → k < n → mask_at new k ≡ mask_of old (word_at new k)
-  pub kept : new ≡ record old { words = new.words; masks = new.masks }
+  pub kept : new ≡ record old { words = new.words }
 
 -- ---- owners
 
@@ -104,5 +105,4 @@ pub record NamesPut (firsts seconds : List ℕ) (n width : ℕ) (old new : Catal
     seconds = new.seconds;
     owners = new.owners;
     words = new.words;
-    masks = new.masks;
   }

@@ -1,6 +1,6 @@
 -- The steps of the loops over the names and the words.
 use mathlib.Core.Bool.{Bool, true, ◌&&◌, ◌||◌, not, cond, or-false}
-use Rattle.std.specs.Prelude.{List, [], ◌∷◌, ◌++◌, ◌≡◌, refl, ℕ, ◌+◌, ◌-◌, ◌*◌, ◌%◌, ◌/◌, ◌^◌, ◌≤◌, ◌<◌, eqb, ltb, length, get_or, set}
+use Rattle.std.specs.Prelude.{List, [], ◌∷◌, ◌++◌, ◌≡◌, refl, ℕ, ◌+◌, ◌-◌, ◌*◌, ◌%◌, ◌/◌, ◌≤◌, ◌<◌, eqb, ltb, length, get_or, set}
 use Rattle.std.proofs.Common.{sym, ap, ap₂, ◌∙◌, subst, arith, eq-eqb, ne_eqb, eqb-true, lt-ltb, le-ltb, ltb-true, ltb-false, get_or-set_same, get_or-set_other}
 use Rattle.std.proofs.lemmas.Bool.{eqb-false, not-true}
 use Rattle.std.specs.Int.Bits.{bit_and, bit_or}
@@ -11,11 +11,14 @@ use Rattle.lists.specs.Places.{stored}
 use Rattle.lists.specs.Sorting.{Distinct, sorted-imp}
 use Rattle.lists.specs.Tabulating.{tabulate, tabulate-set, tabulate-in, length-tabulate}
 use Rattle.rows.specs.Rows.{has_bit}
-use Rattle.rows.specs.RowLaws.{bit-either, bit-none, bit-one, one_shifted}
+use Rattle.rows.specs.RowLaws.{bit-none}
 use Rattle.ordering.specs.Lists.{below, below-yes, below-no, below-same, below-lt}
 use Rattle.law_classes.proofs.SetLaws.{below_of, below-ascends}
-use Rattle.catalogue.specs.Layout.{key_at, word_at, owner_at, first_at, second_at, looked}
+use Rattle.catalogue.specs.Layout.{no_word, key_at, word_at, owner_at, first_at, second_at, looked}
 use Rattle.catalogue.specs.declared.Catalogue.{Catalogue}
+use Rattle.catalogue.specs.declared.Word.{Word}
+use Rattle.bitsets.specs.Bitsets.{more}
+use Rattle.bitsets.specs.BitLaws.{bit-more}
 use Rattle.item_names.specs.Holding.{Holds, nonzero-bit, holds-and, holds-or}
 use Rattle.item_names.specs.Names.{second_of, key_of, KeysPut, name_marked, NoSets, SetsPut, mask_of, WordPut, FewWords, WordsPut, owner_of, OwnersPut, NamesPut}
 
@@ -50,11 +53,6 @@ one_more f n a =
     (λ l. let k = ltb-true a n l in rw (l, lt-ltb a (n + 1) (omega arith)))
     (λ l. let k = ltb-false a n l in rw (l, le-ltb a (n + 1) (omega (arith, z))))))
 
--- a set with one type more
-pub with-bit : (x n a : ℕ) → n < 64 → has_bit (bit_or x (1 * 2 ^ n % 2 ^ 64)) a ≡ (has_bit x a || eqb n a)
-with-bit x n a h =
-    bit-either x (1 * 2 ^ n % 2 ^ 64) a ∙ ap (λ (b : Bool). has_bit x a || b) (ap (λ (y : ℕ). has_bit y a) (one_shifted n h) ∙ bit-one n a)
-
 pub sets-none : (firsts seconds : List ℕ) (t : Catalogue) → NoSets t → SetsPut firsts seconds 0 t t
 sets-none firsts seconds t z =
     record {
@@ -73,17 +71,17 @@ module _ (firsts seconds : List ℕ) (n : ℕ) (old t : Catalogue) (small : n < 
   g = second_of (get_or seconds n 0)
 
   abbrev x : ℕ
-  x = bit_or (first_at t f) (1 * 2 ^ n % 2 ^ 64)
+  x = more (first_at t f) n
 
   abbrev y : ℕ
-  y = bit_or (second_at t g) (1 * 2 ^ n % 2 ^ 64)
+  y = more (second_at t g) n
 
   -- in the set of a word stand those that stood there, and the type if it has the word
   joined : (s w v : ℕ) (h : ℕ → ℕ) (a : ℕ) → ((a : ℕ) → has_bit s a ≡ (ltb a n && eqb (h a) w)) → v ≡ h n
-      → (w ≡ v → has_bit (bit_or s (1 * 2 ^ n % 2 ^ 64)) a ≡ (ltb a (n + 1) && eqb (h a) w)) × ((w ≡ v → ⊥) → has_bit s a ≡ (ltb a (n + 1) && eqb (h a) w))
+      → (w ≡ v → has_bit (more s n) a ≡ (ltb a (n + 1) && eqb (h a) w)) × ((w ≡ v → ⊥) → has_bit s a ≡ (ltb a (n + 1) && eqb (h a) w))
   joined s w v h a e z = (
     λ q.
-        with-bit s n a small
+        bit-more s n a
         ∙ ap₂ (λ (b c : Bool). b || c) (e a) (sym (rw (eq-eqb (h n) w (sym z ∙ sym q)) (mathlib.Core.Bool.and-true (eqb n a))))
         ∙ one_more (λ b. eqb (h b) w) n a,
     λ q.
@@ -94,13 +92,13 @@ module _ (firsts seconds : List ℕ) (n : ℕ) (old t : Catalogue) (small : n < 
 
   -- what stands in the sets of a column, after one of them was written
   in_column : (l : List ℕ) (h : ℕ → ℕ) → h n < length l → ((w : ℕ) → w < 256 → (a : ℕ) → has_bit (get_or l w 0) a ≡ (ltb a n && eqb (h a) w))
-      → (w : ℕ) → w < 256 → (a : ℕ) → has_bit (get_or (set l (h n) (bit_or (get_or l (h n) 0) (1 * 2 ^ n % 2 ^ 64))) w 0) a ≡ (ltb a (n + 1) && eqb (h a) w)
+      → (w : ℕ) → w < 256 → (a : ℕ) → has_bit (get_or (set l (h n) (more (get_or l (h n) 0) n)) w 0) a ≡ (ltb a (n + 1) && eqb (h a) w)
   in_column l h b e w k a =
       let v = h n in
-      let z = bit_or (get_or l v 0) (1 * 2 ^ n % 2 ^ 64) in
+      let z = more (get_or l v 0) n in
       let j = joined (get_or l w 0) w v h a (e w k) refl in
       by (eqb w v)
-      (λ q. let y = eqb-true w v q in ap (λ (i : ℕ). has_bit (get_or (set l v z) i 0) a) y ∙ ap (λ (i : ℕ). has_bit i a) (get_or-set_same l v z 0 b) ∙ ap (λ (i : ℕ). has_bit (bit_or (get_or l i 0) (1 * 2 ^ n % 2 ^ 64)) a) (sym y) ∙ j.0 y)
+      (λ q. let y = eqb-true w v q in ap (λ (i : ℕ). has_bit (get_or (set l v z) i 0) a) y ∙ ap (λ (i : ℕ). has_bit i a) (get_or-set_same l v z 0 b) ∙ ap (λ (i : ℕ). has_bit (more (get_or l i 0) n) a) (sym y) ∙ j.0 y)
       (λ q. let y = eqb-false w v q in ap (λ (i : ℕ). has_bit i a) (get_or-set_other l v w z 0 y) ∙ j.1 y)
 
   pub sets_more : {new : Catalogue} → new ≡ name_marked t n f (get_or seconds n 0) → SetsPut firsts seconds (n + 1) old new
@@ -172,7 +170,7 @@ module _ (width w n : ℕ) (old t : Catalogue) (few : FewWords width old) (withi
   pub room : (mask_of old w ≡ 0 → ⊥) → n < 64
   room q = omega (arith, count-is, few.few, below-lt stands w width within (ap not (ne_eqb (mask_of old w) 0 q)))
 
-  pub words_more : (length t.words ≡ 64) × (length t.masks ≡ 64) → (new : Catalogue) (r : ℕ) → WordPut n w (mask_of old w) t new r → WordsPut (w + 1) old new r
+  pub words_more : length t.words ≡ 64 → (new : Catalogue) (r : ℕ) → WordPut n w (mask_of old w) t new r → WordsPut (w + 1) old new r
   words_more long new r q =
       by (eqb (mask_of old w) 0)
       (λ e.
@@ -182,17 +180,16 @@ module _ (width w n : ℕ) (old t : Catalogue) (few : FewWords width old) (withi
       let ne = eqb-false (mask_of old w) 0 e in
       let z = q.some ne in
       let h = room ne in
-      let u = set t.words n w in
-      let v = set t.masks n (mask_of old w) in
-      let last : get_or u n 0 ≡ w = get_or-set_same t.words n w 0 (omega arith) in
-      let keep : (k : ℕ) → k < n → get_or u k 0 ≡ word_at t k = λ k l. get_or-set_other t.words n k w 0 (λ d. omega arith) in
+      let x : Word = record { word = w; types = mask_of old w } in
+      let u = set t.words n x in
+      let last : get_or u n no_word ≡ x = get_or-set_same t.words n x no_word (omega arith) in
+      let keep : (k : ℕ) → k < n → get_or u k no_word ≡ get_or t.words k no_word = λ k l. get_or-set_other t.words n k x no_word (λ d. omega arith) in
+      let word : Word → ℕ = λ y. y.word in
       rw (z.0, z.1)
       (record {
-        words = tabulate-set (word_at t) (λ k. get_or u k 0) n w keep last ∙ ap (λ (l : List ℕ). l ++ (w ∷ [])) p.words ∙ sym (below-yes stands w (ap not e));
-        masks =
-            stored 0 (λ k m. m ≡ mask_of old (get_or u k 0)) t.masks n (mask_of old w) (omega arith) (λ k l. p.masks k l ∙ ap (mask_of old) (sym (keep k l)))
-            (ap (mask_of old) (sym last));
-        kept = ap (λ (c : Catalogue). record c { words = u; masks = v }) p.kept;
+        words = tabulate-set (word_at t) (λ k. word (get_or u k no_word)) n w (λ k l. ap word (keep k l)) (ap word last) ∙ ap (λ (l : List ℕ). l ++ (w ∷ [])) p.words ∙ sym (below-yes stands w (ap not e));
+        masks = stored no_word (λ k (y : Word). y.types ≡ mask_of old y.word) t.words n x (omega arith) p.masks refl;
+        kept = ap (λ (c : Catalogue). record c { words = u }) p.kept;
       }))
 
 -- ---- look-up by name
@@ -244,9 +241,9 @@ names-put firsts seconds n width t0 t1 t2 t3 t4 r k s o w =
     let mask : (i : ℕ) → mask_of t4 i ≡ mask_of t3 i = λ i. ap (λ (c : Catalogue). mask_of c i) w.kept in
     let all =
     w.kept
-    ∙ ap (λ (c : Catalogue). record c { words = t4.words; masks = t4.masks }) o.kept
-    ∙ ap (λ (c : Catalogue). record c { owners = t3.owners; words = t4.words; masks = t4.masks }) s.kept
-    ∙ ap (λ (c : Catalogue). record c { firsts = t2.firsts; seconds = t2.seconds; owners = t3.owners; words = t4.words; masks = t4.masks }) k.kept in
+    ∙ ap (λ (c : Catalogue). record c { words = t4.words }) o.kept
+    ∙ ap (λ (c : Catalogue). record c { owners = t3.owners; words = t4.words }) s.kept
+    ∙ ap (λ (c : Catalogue). record c { firsts = t2.firsts; seconds = t2.seconds; owners = t3.owners; words = t4.words }) k.kept in
     record {
       key = λ a h. ap (λ (l : List ℕ). get_or l a 0) (keys ∙ ap (λ (c : Catalogue). c.keys) s.kept) ∙ k.key a h;
       first = λ i h a. ap (λ (l : List ℕ). has_bit (get_or l i 0) a) first ∙ s.first i h a;

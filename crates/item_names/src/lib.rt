@@ -1,11 +1,11 @@
-// The names of the types in the catalogue: each as a key, for each word the sets of the types that have it, the words that
-// are the last of a name, and the owner of each name of two words.
+// The names of the types in the catalogue: for each word the sets of the types that have it, the words that are the last of a
+// name, and the owner of each name of two words.
 #![tactic(auto)]
 
 ghost use Rattle.std.specs.Prelude.{◌≡◌, ◌+◌, ◌<◌};
 ghost use Rattle.item_names.specs.Names.{NameMarked, WordPut, WordsPut, FewWords, owner_of, OwnersPut, KeysSmall};
 
-use catalogue::Catalogue;
+use catalogue::{Catalogue, Word};
 use fields::Name;
 
 // A type goes into the set of its first word and into that of its second, or of those that have none.
@@ -13,11 +13,10 @@ pub fn mark_name(t: &mut Catalogue, a: usize, name: Name)
     requires { a < 64 }
     ensures { NameMarked a name.first name.second t.old t.new }
 {
-    let bit = 1u64 << a;
     let w = name.first as usize;
-    let v = (name.second as usize + 1) % 256;
-    t.firsts[w] |= bit;
-    t.seconds[v] |= bit;
+    let v = name.second.wrapping_add(1) as usize;
+    t.firsts[w] = bitsets::with_one(t.firsts[w], a);
+    t.seconds[v] = bitsets::with_one(t.seconds[v], a);
 }
 
 // The word w with the set of the types whose last word it is, behind the first n words, if there are such types.
@@ -28,8 +27,10 @@ fn put_word_if(t: &mut Catalogue, n: usize, w: usize, mask: u64) -> usize
     if mask == 0 {
         return n;
     }
-    t.words[n] = w as u64;
-    t.masks[n] = mask;
+    t.words[n] = Word {
+        word: w as u64,
+        types: mask,
+    };
     n + 1
 }
 
@@ -59,7 +60,8 @@ fn owner_of(key: u64, set: u64) -> u64
     u64::trailing_zeros(set) as u64
 }
 
-// For each type of a name `a.b` the place of the type `a`.
+// For each type of a name `a.b` the place of the type `a`, whose key is that of `a.b` with 0 for the second word: by way of a Name
+// it would be taken apart and put together again.
 pub fn put_owners(t: &mut Catalogue, count: usize)
     requires { KeysSmall count t.old }
     ensures { OwnersPut count t.old t.new }

@@ -3,13 +3,13 @@ use Rattle.std.specs.Prelude.{Bool, ◌&&◌, not, ◌≡◌, ℕ, ◌+◌, ◌*
 use Rattle.std.proofs.Math.Bool.{true, false, cond}
 use mathlib.Core.List.{List, [], ◌∷◌, ◌++◌, map, append-nil, append_assoc}
 use Rattle.std.proofs.Math.Path.{refl, sym, ap, ap₂}
-use Rattle.std.proofs.Common.{◌∙◌, subst, length-append}
+use Rattle.std.proofs.Common.{◌∙◌, subst, length-append, ◌⊎◌, inl, inr}
 use native.Mathlib.Omega.{arith}
-use borrow.Author.Tests.{eq-eqb, ne_eqb, eqb-true, eqb-false}
+use borrow.Author.Tests.{eq-eqb, ne_eqb, eqb-true, eqb-false, leb-true}
 use Rattle.std.proofs.Math.Dec.{eqb, ltb}
 use Rattle.std.proofs.Math.ListN.{length, drop}
 use Rattle.lists.specs.Lists.{each}
-use Rattle.lists.specs.Tests.{by, never}
+use Rattle.lists.specs.Tests.{by, never, and_right}
 use Rattle.lists.specs.Appending.{map-append, each_snoc}
 use Rattle.definitions.specs.Bits.{bits_of, num}
 use Rattle.definitions.specs.Records.{Resource, Annotation, Mark, makelist_mark, derive_mark}
@@ -23,6 +23,9 @@ use Rattle.sheet_window.specs.WindowLaws.{split}
 use Rattle.sheet_peek.specs.PeekLaws.{refused-not, done-value, done-rest, next-done, pure-done, field-done, allowed-done, repeat-none, repeat-more, counted-done}
 use Rattle.records.specs.Annotations.{resource_of, annotation_as, row_of_word, row_of_tag, rows_for}
 use Rattle.records.specs.AnnotationLaws.{annotation-rows, rows_none}
+use Rattle.records.specs.Kinds.{number_of}
+use Rattle.records.specs.declared.Kind.{Kind}
+use Rattle.records.specs.declared.Kind.TheVariants.{Associate, NestAssociate}
 use Rattle.sheet_notes.specs.Notes.{Notes, notes}
 use Rattle.catalogue.specs.declared.Catalogue.{Catalogue}
 use Rattle.catalogue.specs.Layout.{looked}
@@ -30,9 +33,9 @@ use Rattle.fields.specs.Keys.{key_of}
 use Rattle.item_classes.specs.Classes.{class_in, Gathers, own_if, GathersMore}
 use Rattle.item_classes.specs.ClassLaws.{only_if, lists, own-as, given-as, gathers-none}
 use Rattle.item_classes.specs.declared.Classes.{Classes}
-use Rattle.item_heads.specs.Heads.{Packs, WithMark, mark_as}
-use Rattle.item_heads.specs.HeadLaws.{packs-none, packs-room}
-use Rattle.item_heads.specs.declared.Packed.{Packed}
+use Rattle.item_heads.specs.Heads.{no_marks, Packs, WithMark, mark_as}
+use Rattle.item_heads.specs.HeadLaws.{packs-none}
+use Rattle.item_heads.specs.declared.packed.Packed.{Packed}
 use Rattle.item_notes.specs.Notes.{name_in, name_end, mark_end, NamesAt, RowsAt, AnnotationAt, AnnotationsAt, MarksAt, NotesAt, Adds, row_sets}
 use Rattle.item_notes.specs.Notes.{RowsGathered, NamesSkipped, RowsSkipped, AnnotationGathered, AnnotationsGathered, MarksPacked, NotesGathered}
 use Rattle.item_notes.specs.declared.Gathered.{Gathered}
@@ -238,24 +241,28 @@ record AnnotationIs (W : ℕ) (bs : List Bool) (p : ℕ) (y : Annotation) (rest 
   rows : List (List ℕ)
   read : rows_for W (num 3 (drop p bs)) (drop (p + 3) bs) ≡ done rows rest
   value : y ≡ annotation_as (num 3 (drop p bs)) rows
+  known : num 3 (drop p bs) ≤ 6
   there : p + 3 ≤ length bs
 
 annotation-done : (W : ℕ) (one : Bool) (bs : List Bool) (p : ℕ) {y : Annotation} {rest : List Bool} → annotation W one (drop p bs) ≡ done y rest → AnnotationIs W bs p y rest
 annotation-done W one bs p {y} {rest} e =
     let d = next-done (between 3 0 6 (drop p bs)) (λ kind. behind kind (eqb kind 2 && not one)) (sym (annotation-rows W one (drop p bs)) ∙ e) in
     let i = allowed-done bs p 3 (λ v. leb 0 v && leb v 6) (omega arith) d.2 in
-    go (eqb (num 3 (drop p bs)) 2 && not one) i.0.there
+    go (eqb (num 3 (drop p bs)) 2 && not one) i.0.there (most (num 3 (drop p bs)) (ap (λ (k : ℕ). leb 0 k && leb k 6) (sym i.0.value) ∙ i.1))
     (subst (λ r. behind (num 3 (drop p bs)) (eqb (num 3 (drop p bs)) 2 && not one) r ≡ done y rest) i.0.behind
     (subst (λ k. behind k (eqb k 2 && not one) d.1 ≡ done y rest) i.0.value d.3))
   where
     behind : ℕ → Bool → Parser Annotation
     behind kind b = choose b (refuse not_allowed) (λ cs. next (rows_for W kind cs) (λ rows. pure (annotation_as kind rows)))
 
-    go : (b : Bool) → p + 3 ≤ length bs → choose b (refuse not_allowed) (λ cs. next (rows_for W (num 3 (drop p bs)) cs) (λ rows. pure (annotation_as (num 3 (drop p bs)) rows))) (drop (p + 3) bs) ≡ done y rest → AnnotationIs W bs p y rest
-    go true l z = refused-not z
-    go false l z =
+    most : (k : ℕ) → (leb 0 k && leb k 6) ≡ true → k ≤ 6
+    most k q = leb-true k 6 (and_right (leb 0 k) (leb k 6) q)
+
+    go : (b : Bool) → p + 3 ≤ length bs → num 3 (drop p bs) ≤ 6 → choose b (refuse not_allowed) (λ cs. next (rows_for W (num 3 (drop p bs)) cs) (λ rows. pure (annotation_as (num 3 (drop p bs)) rows))) (drop (p + 3) bs) ≡ done y rest → AnnotationIs W bs p y rest
+    go true l k z = refused-not z
+    go false l k z =
         let f = pure-done (rows_for W (num 3 (drop p bs)) (drop (p + 3) bs)) (annotation_as (num 3 (drop p bs))) z in
-        record { rows = f.0; read = f.1; value = f.2; there = l }
+        record { rows = f.0; read = f.1; value = f.2; known = k; there = l }
 
 -- the kinds that list resources
 listing : (W kind : ℕ) (bs : List Bool) → lists kind ≡ true → rows_for W kind bs ≡ counted 4 0 15 (name W) bs
@@ -320,6 +327,9 @@ module _ (bs : List Bool) (p w : ℕ) (e : w ≡ num 7 (drop p bs)) where
 
   pub rows_fit : AnnotationAt bs p → p + 3 ≤ length bs
   rows_fit a = (annotation-done a.width a.one bs p a.read.is).there
+
+  pub kind-known : AnnotationAt bs p → w / 16 ≤ 6
+  kind-known a = omega (arith, kind-is, (annotation-done a.width a.one bs p a.read.is).known)
 
 pub listed : (t : Catalogue) (resources w : ℕ) (bs : List Bool) (g r : Gathered) → w ≡ num 7 (drop g.at bs) → lists (w / 16) ≡ true
     → RowsGathered t resources (w / 16) (w % 16) bs (record { classes = g.classes; at = g.at + 7 }) r → AnnotationGathered t resources bs g r
@@ -403,6 +413,56 @@ module _ (bs : List Bool) (at : ℕ) where
         so = λ W rows rest z.
             done-rest (sym (rows_none W kind (drop at bs) (λ q. never (rw q) h) (λ q. never (rw q) h) b a c) ∙ z);
       }
+
+-- ---- one annotation that lists nothing
+
+module _ (t : Catalogue) (resources w : ℕ) (bs : List Bool) (g : Gathered) (e : w ≡ num 7 (drop g.at bs)) where
+  skipped : (kind q : ℕ) → w / 16 ≡ kind → lists kind ≡ false → RowsSkipped kind bs (g.at + 3) q → AnnotationGathered t resources bs g (record { classes = g.classes; at = q })
+  skipped kind q k h r = unlisted t resources w q bs g e (rw k h) (subst (λ i. RowsSkipped i bs (g.at + 3) q) (sym k) r)
+
+  -- an Inherit: its names stand there
+  pub inherit-names : w / 16 ≡ 4 → AnnotationAt bs g.at → NamesAt bs (g.at + 7) (w % 16)
+  inherit-names k a =
+      let r = subst (RowsAt bs (g.at + 3)) k (rows_at bs g.at w e a) in
+      subst (λ i. NamesAt bs i (w % 16)) (seven bs g.at w e) (inherit-at bs (g.at + 3) (w % 16) (sym (count-is bs g.at w e)) r)
+
+  pub inherit-room : w / 16 ≡ 4 → AnnotationAt bs g.at → g.at + 7 ≤ length bs
+  inherit-room k a = omega (arith, inherit-fits bs (g.at + 3) (subst (RowsAt bs (g.at + 3)) k (rows_at bs g.at w e a)))
+
+  pub skipped_names : w / 16 ≡ 4 → (q : ℕ) → NamesSkipped (w % 16) bs (g.at + 7) q → AnnotationGathered t resources bs g (record { classes = g.classes; at = q })
+  skipped_names k q n =
+      skipped 4 q k refl
+      (skip-inherit bs (g.at + 3) (w % 16) q (sym (count-is bs g.at w e)) (subst (λ i. NamesSkipped (w % 16) bs i q) (sym (seven bs g.at w e)) n))
+
+  -- an Alias or a Derive: its word or tag
+  pub word-room : (w / 16 ≡ 3) ⊎ (w / 16 ≡ 5) → AnnotationAt bs g.at → g.at + 11 ≤ length bs
+  word-room (inl k) a = omega (arith, alias-fits bs (g.at + 3) (subst (RowsAt bs (g.at + 3)) k (rows_at bs g.at w e a)))
+  word-room (inr k) a = omega (arith, derive-fits bs (g.at + 3) (subst (RowsAt bs (g.at + 3)) k (rows_at bs g.at w e a)))
+
+  pub skipped_word : (w / 16 ≡ 3) ⊎ (w / 16 ≡ 5) → AnnotationGathered t resources bs g (record { classes = g.classes; at = g.at + 11 })
+  skipped_word k = subst (λ q. AnnotationGathered t resources bs g (record { classes = g.classes; at = q })) eleven (go k)
+    where
+      eleven : g.at + 3 + 8 ≡ g.at + 11
+      eleven = omega arith
+
+      go : (w / 16 ≡ 3) ⊎ (w / 16 ≡ 5) → AnnotationGathered t resources bs g (record { classes = g.classes; at = g.at + 3 + 8 })
+      go (inl k) = skipped 3 (g.at + 3 + 8) k refl (skip-alias bs (g.at + 3))
+      go (inr k) = skipped 5 (g.at + 3 + 8) k refl (skip-derive bs (g.at + 3))
+
+  -- a MakeList or a NoDerive: nothing
+  pub skipped_none : (w / 16 ≡ 0) ⊎ (w / 16 ≡ 6) → AnnotationGathered t resources bs g (record { classes = g.classes; at = g.at + 3 })
+  skipped_none (inl k) = skipped 0 (g.at + 3) k refl (skip-none bs (g.at + 3) 0 refl (λ q. absurd (omega arith)) (λ q. absurd (omega arith)) (λ q. absurd (omega arith)))
+  skipped_none (inr k) = skipped 6 (g.at + 3) k refl (skip-none bs (g.at + 3) 6 refl (λ q. absurd (omega arith)) (λ q. absurd (omega arith)) (λ q. absurd (omega arith)))
+
+-- the number of one of two kinds
+pub one-of : (k a b : Kind) (n : ℕ) → number_of k ≡ n → (k ≡ a) ⊎ (k ≡ b) → (n ≡ number_of a) ⊎ (n ≡ number_of b)
+one-of k a b n e (inl h) = inl (sym e ∙ ap number_of h)
+one-of k a b n e (inr h) = inr (sym e ∙ ap number_of h)
+
+-- the kinds that list resources
+pub listing-kind : (k : Kind) (n : ℕ) → number_of k ≡ n → (k ≡ Associate) ⊎ (k ≡ NestAssociate) → lists n ≡ true
+listing-kind k n e (inl h) = rw (← e, h)
+listing-kind k n e (inr h) = rw (← e, h)
 
 -- ---- the annotations of a type, one by one
 
@@ -512,7 +572,7 @@ module _ (bs : List Bool) (start : ℕ) where
     pub so : (ms : List Mark) (rest : List Bool) → counted 3 0 7 mark (drop start bs) ≡ done ms rest
         → (ys : List Mark) × (repeat_onto ys mark left (drop at bs) ≡ done ms rest) × (length ys + left ≤ 7) × Packs ys p
 
-  pub marks-start : (n : ℕ) → n ≡ num 3 (drop start bs) → MarksTo (record { bits = 0; tally = 0 }) (start + 3) n
+  pub marks-start : (n : ℕ) → n ≡ num 3 (drop start bs) → MarksTo no_marks (start + 3) n
   marks-start n e =
       record {
         so = λ ms rest z.
@@ -526,10 +586,6 @@ module _ (bs : List Bool) (start : ℕ) where
   mark-fits p at left w a h e k =
       let s = k.so a.read.value a.read.rest a.read.is in
       let m = repeat-more mark left s.0 (drop at bs) h s.1 in (mark-done bs at w e m.2).there
-
-  pub mark-room : (p : Packed) (at left : ℕ) → MarksAt bs start → 0 < left → MarksTo p at left → (p.bits < 2 ^ 54) × (p.tally < 440)
-  mark-room p at left a h k =
-      let s = k.so a.read.value a.read.rest a.read.is in packs-room s.0 p (omega (arith, s.2)) s.3
 
   pub marks-more : (p r : Packed) (at left w : ℕ) → 0 < left → w ≡ num 9 (drop at bs) → WithMark p (w / 256) (w % 256) r → MarksTo p at left → MarksTo r (mark_end at w) (left - 1)
   marks-more p r at left w h e q k =
@@ -595,7 +651,7 @@ module _ (t : Catalogue) (resources : ℕ) (bs : List Bool) (at : ℕ) where
 
   -- neither annotations nor marks
   pub notes-none : {w : ℕ} → w ≡ num 7 (drop at bs) → w ≡ 0
-      → NotesGathered t resources bs at (record { classes = record { own = 0; given = 0; wrong = false; missing = false }; marks = record { bits = 0; tally = 0 } })
+      → NotesGathered t resources bs at (record { classes = record { own = 0; given = 0; wrong = false; missing = false }; marks = no_marks })
   notes-none {w} e z =
       let s = split bs at 4 3 (at + 4) refl in
       let a : num 4 (drop at bs) ≤ 0 = omega (arith, e, z, s) in
@@ -608,6 +664,6 @@ module _ (t : Catalogue) (resources : ℕ) (bs : List Bool) (at : ℕ) where
             let m = counted-done mark bs (at + 4) 3 0 7 (omega arith) (subst (λ r. counted 3 0 7 mark r ≡ done x.marks rest) (sym v.1) d.2) in
             let u = repeat-none mark (num 3 (drop (at + 4) bs)) [] (drop (at + 4 + 3) bs) b m.1 in (
               subst (λ ys. Gathers resources (map (class_in t) (each associate_of ys)) (map (class_in t) (each resources_of ys)) (record { own = 0; given = 0; wrong = false; missing = false })) v.0 (gathers-none resources),
-              subst (λ l. Packs l (record { bits = 0; tally = 0 })) u.0 packs-none,
+              subst (λ l. Packs l no_marks) u.0 packs-none,
             );
       }

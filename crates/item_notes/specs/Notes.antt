@@ -14,7 +14,7 @@ use Rattle.item_classes.specs.Classes.{class_in, Gathers}
 use Rattle.item_classes.specs.ClassLaws.{only_if}
 use Rattle.item_classes.specs.declared.Classes.{Classes}
 use Rattle.item_heads.specs.Heads.{Packs}
-use Rattle.item_heads.specs.declared.Packed.{Packed}
+use Rattle.item_heads.specs.declared.packed.Packed.{Packed}
 use Rattle.item_notes.specs.declared.Gathered.{Gathered}
 use Rattle.item_notes.specs.declared.Noted.{Noted}
 

@@ -2,18 +2,19 @@
 // decoder has read them before, so nothing is tested twice.
 #![tactic(auto)]
 
-ghost use Rattle.std.specs.Prelude.{false, ◌||◌, ◌≡◌, ◌<◌, eqb};
+ghost use Rattle.std.specs.Prelude.{◌≡◌, ◌<◌, eqb};
 ghost use Rattle.definitions.specs.Bits.{bits_of};
 ghost use Rattle.bits.specs.Reading.{Addressable};
-ghost use Rattle.item_classes.specs.Classes.{class_in};
-ghost use Rattle.item_classes.specs.ClassLaws.{lists};
+ghost use Rattle.item_classes.specs.Classes.{class_in, GathersMore};
 ghost use Rattle.records.specs.Annotations.{resource_of};
-ghost use Rattle.item_notes.specs.Notes.{name_in, NamesAt, RowsAt, AnnotationAt, AnnotationsAt, MarksAt, NotesAt, RowsGathered, NamesSkipped, RowsSkipped, AnnotationGathered, AnnotationsGathered, MarksPacked, NotesGathered};
+ghost use Rattle.records.specs.Kinds.{number_of};
+ghost use Rattle.item_notes.specs.Notes.{name_in, NamesAt, AnnotationAt, AnnotationsAt, MarksAt, NotesAt, RowsGathered, NamesSkipped, AnnotationGathered, AnnotationsGathered, MarksPacked, NotesGathered};
 
 use catalogue::Catalogue;
 use fields::{Key, Name};
 use item_classes::Classes;
 use item_heads::Packed;
+use records::Kind;
 
 // The classes found so far, and the place behind what was read.
 #[derive(Clone, Copy)]
@@ -50,26 +51,30 @@ fn class_in(t: &Catalogue, w: usize) -> u64
     t.type_of(Key::from(class))
 }
 
+// One class more, of an annotation of that kind: the type's own, or a nested one.
+fn with_row(c: Classes, resources: u64, kind: Kind, class: u64) -> Classes
+    ensures { GathersMore resources (eqb (number_of kind) 1) class c result }
+{
+    if kind == Kind::Associate {
+        item_classes::with_own(c, resources, class)
+    } else {
+        item_classes::with_nested(c, resources, class)
+    }
+}
+
 // The classes of n resources more, of an annotation of that kind. The loops here, of `gather` and of `pack_marks` count down: by
 // ranges the filling of the catalogue took 3 % more.
-fn with_rows(
-    s: &[u8],
-    t: &Catalogue,
-    g: Gathered,
-    n: usize,
-    resources: u64,
-    kind: usize,
-) -> Gathered
+fn with_rows(s: &[u8], t: &Catalogue, g: Gathered, n: usize, resources: u64, kind: Kind) -> Gathered
     requires addressable { Addressable s.now }
     requires names_at { NamesAt (bits_of s.now) g.at n }
-    ensures { RowsGathered t.now resources kind n (bits_of s.now) g result }
+    ensures { RowsGathered t.now resources (number_of kind) n (bits_of s.now) g result }
 {
     let mut out = g.classes;
     let mut next = g.at;
     let mut left = n;
     while 0 < left {
         let w = sheet_peek::peek(s, next, 17);
-        out = item_classes::with_class(out, resources, kind, class_in(t, w));
+        out = with_row(out, resources, kind, class_in(t, w));
         next = next + 9 + w / 256 % 2 * 8;
         left -= 1;
     }
@@ -85,62 +90,32 @@ fn skip_names(s: &[u8], at: usize, n: usize) -> usize
     requires names_at { NamesAt (bits_of s.now) at n }
     ensures { NamesSkipped n (bits_of s.now) at result }
 {
-    let mut next = at;
-    for _ in 0..n {
-        let w = sheet_peek::peek(s, next, 17);
-        next = next + 9 + w / 256 % 2 * 8;
-    }
-    next
+    (0..n).fold(
+        at,
+        |next, _| next + 9 + sheet_peek::peek(s, next, 17) / 256 % 2 * 8,
+    )
 }
 
-// The place behind what follows a kind that lists no resources. A kind is the three bits of a window, here and in
-// `lists_resources`: the enum of `records` would be made of them by a match, only to be matched at once.
-fn skip_rest(s: &[u8], at: usize, kind: usize) -> usize
-    requires addressable { Addressable s.now }
-    requires kind_value { lists kind ≡ false }
-    requires rows_at { RowsAt (bits_of s.now) at kind }
-    ensures { RowsSkipped kind (bits_of s.now) at result }
-{
-    if kind == 4 {
-        let n = sheet_peek::peek(s, at, 4);
-        return skip_names(s, at + 4, n);
-    }
-    if kind == 3 {
-        return at + 8;
-    }
-    if kind == 5 {
-        return at + 8;
-    }
-    at
-}
-
-// Whether an annotation of that kind lists resources: an Associate does, and a NestAssociate.
-fn lists_resources(kind: usize) -> bool
-    ensures { result ≡ (eqb kind 1 || eqb kind 2) }
-{
-    (kind == 1) | (kind == 2)
-}
-
-// The classes of one annotation more.
+// The classes of one annotation more, and the place behind it: only an Associate and a NestAssociate list resources.
 fn with_annotation(s: &[u8], t: &Catalogue, g: Gathered, resources: u64) -> Gathered
     requires addressable { Addressable s.now }
     requires annotation_at { AnnotationAt (bits_of s.now) g.at }
     ensures { AnnotationGathered t.now resources (bits_of s.now) g result }
 {
     let at = g.at;
-    let classes = g.classes;
     let w = sheet_peek::peek(s, at, 7);
-    let kind = w / 16;
-    if lists_resources(kind) {
-        let behind = Gathered {
-            classes,
-            at: at + 7,
-        };
-        return with_rows(s, t, behind, w % 16, resources, kind);
-    }
-    Gathered {
-        classes,
-        at: skip_rest(s, at + 3, kind),
+    let kind = Kind::of(w / 16);
+    match kind {
+        Kind::Associate | Kind::NestAssociate => {
+            let behind = Gathered { at: at + 7, ..g };
+            with_rows(s, t, behind, w % 16, resources, kind)
+        }
+        Kind::Inherit => {
+            let next = skip_names(s, at + 7, w % 16);
+            Gathered { at: next, ..g }
+        }
+        Kind::Alias | Kind::Derive => Gathered { at: at + 11, ..g },
+        Kind::MakeList | Kind::NoDerive => Gathered { at: at + 3, ..g },
     }
 }
 
@@ -152,12 +127,7 @@ fn gather(s: &[u8], t: &Catalogue, at: usize, resources: u64) -> Gathered
 {
     let mut left = sheet_peek::peek(s, at, 4);
     let mut g = Gathered {
-        classes: Classes {
-            own: 0,
-            given: 0,
-            wrong: false,
-            missing: false,
-        },
+        classes: Classes::NONE,
         at: at + 4,
     };
     while 0 < left {
@@ -174,7 +144,7 @@ fn pack_marks(s: &[u8], at: usize) -> Packed
     ensures { MarksPacked (bits_of s.now) at result }
 {
     let mut left = sheet_peek::peek(s, at, 3);
-    let mut out = Packed { bits: 0, tally: 0 };
+    let mut out = Packed::none();
     let mut next = at + 3;
     while 0 < left {
         let w = sheet_peek::peek(s, next, 9);
@@ -193,13 +163,8 @@ pub fn gather_notes(s: &[u8], t: &Catalogue, at: usize, resources: u64) -> Noted
 {
     if sheet_peek::peek(s, at, 7) == 0 {
         return Noted {
-            classes: Classes {
-                own: 0,
-                given: 0,
-                wrong: false,
-                missing: false,
-            },
-            marks: Packed { bits: 0, tally: 0 },
+            classes: Classes::NONE,
+            marks: Packed::none(),
         };
     }
     let g = gather(s, t, at, resources);

@@ -1,5 +1,6 @@
 -- What a pen does to the bytes that it is lent.
-use Rattle.std.specs.Prelude.{Bool, true, cond, List, [], ◌++◌, ◌≡◌, ℕ, ◌+◌, ◌*◌, ◌-◌, ◌/◌, ◌%◌, ◌^◌, ◌≤◌, ◌<◌, eqb, ltb, length}
+use Rattle.std.specs.Prelude.{Bool, true, cond, List, [], ◌++◌, ◌≡◌, ℕ, ◌+◌, ◌*◌, ◌-◌, ◌/◌, ◌%◌, ◌^◌, ◌≤◌, ◌<◌, ltb, length}
+use Rattle.std.specs.Borrow.{MutBor}
 use Rattle.lists.specs.Lists.{each}
 use Rattle.definitions.specs.Bits.{to_bits}
 use Rattle.bits.specs.Writing.{put}
@@ -35,32 +36,30 @@ pub record Penned (down : Bool) (before after : List ℕ) (p q : ℕ) (bs : List
 
 -- ---- a pen
 
--- Whether it is down.
-abbrev pub is_down : Pen → Bool
-is_down P = eqb (P.count % 2) 1
-
--- A pen that has put nothing.
-abbrev pub fresh : Bool → Pen
-fresh down = record { count = cond down 1 0; at = 0 }
+-- A pen that writes to these bytes, is down or up, and has put nothing.
+pub record Begins (lent : MutBor (List ℕ)) (down : Bool) (P : Pen) : Type 0 where
+  pub slice : P.buf.ghost_name ≡ lent.ghost_name
+  pub bytes : P.buf.now ≡ lent.now
+  pub state : P.down ≡ down
+  pub items : P.items ≡ 0
+  pub first : P.at ≡ 0
 
 -- What adding k items, or parts of an item for 0, with the bits bs asks.
-pub record RoomFor (buf : List ℕ) (P : Pen) (k : ℕ) (bs : List Bool) : Type 0 where
-  pub fits : is_down P ≡ true → P.at + length bs ≤ 8 * length buf
+pub record RoomFor (P : Pen) (k : ℕ) (bs : List Bool) : Type 0 where
+  pub fits : P.down ≡ true → P.at + length bs ≤ 8 * length P.buf.now
   pub small : P.at + length bs < 2 ^ 64
-  pub few : P.count + 2 * k < 2 ^ 64
+  pub few : P.items + k < 2 ^ 64
 
--- They were added.
-pub record Adds (before after : List ℕ) (P Q : Pen) (k : ℕ) (bs : List Bool) : Type 0 where
-  pub items : Q.count ≡ P.count + 2 * k
-  pub penned : Penned (is_down P) before after P.at Q.at bs
+-- They were added: Q is P behind them, with the same bytes, down or up as P.
+pub record Adds (P Q : Pen) (k : ℕ) (bs : List Bool) : Type 0 where
+  pub slice : Q.buf.ghost_name ≡ P.buf.ghost_name
+  pub state : Q.down ≡ P.down
+  pub items : Q.items ≡ P.items + k
+  pub penned : Penned P.down P.buf.now Q.buf.now P.at Q.at bs
 
--- One item more is counted, whatever the bytes are.
-pub record Counted (P Q : Pen) : Type 0 where
-  pub adds : (buf : List ℕ) → Adds buf buf P Q 1 []
-
--- So many bits are passed over, whichever they are and whatever the bytes are.
+-- So many bits are passed over, whichever they are.
 pub record PassesOver (P : Pen) (n : ℕ) (Q : Pen) : Type 0 where
-  pub adds : (buf : List ℕ) (bs : List Bool) → length bs ≡ n → Adds buf buf P Q 0 bs
+  pub adds : (bs : List Bool) → length bs ≡ n → Adds P Q 0 bs
 
 -- ---- fields that are held back
 
@@ -79,8 +78,8 @@ abbrev pub joined : List (List Bool) → List Bool
 joined xs = each (λ (x : List Bool). x) xs
 
 -- What adding the items asks; they were added.
-abbrev pub RoomForAll : List ℕ → Pen → List (List Bool) → Type 0
-RoomForAll buf P xs = RoomFor buf P (length xs) (joined xs)
+abbrev pub RoomForAll : Pen → List (List Bool) → Type 0
+RoomForAll P xs = RoomFor P (length xs) (joined xs)
 
-abbrev pub AddsAll : List ℕ → List ℕ → Pen → Pen → List (List Bool) → Type 0
-AddsAll before after P Q xs = Adds before after P Q (length xs) (joined xs)
+abbrev pub AddsAll : Pen → Pen → List (List Bool) → Type 0
+AddsAll P Q xs = Adds P Q (length xs) (joined xs)

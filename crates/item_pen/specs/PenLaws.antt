@@ -1,5 +1,6 @@
 -- Laws of fields and of the pen.
-use Rattle.std.specs.Prelude.{Bool, true, false, List, [], ◌∷◌, ◌++◌, ◌≡◌, refl, ℕ, ◌+◌, ◌*◌, ◌-◌, ◌/◌, ◌%◌, ◌^◌, ◌≤◌, ◌<◌, eqb, length}
+use Rattle.std.specs.Borrow.{MutBor}
+use Rattle.std.specs.Prelude.{Bool, true, false, List, [], ◌∷◌, ◌++◌, ◌≡◌, refl, ℕ, ◌+◌, ◌*◌, ◌-◌, ◌/◌, ◌%◌, ◌^◌, ◌≤◌, ◌<◌, length}
 use Rattle.std.proofs.Common.{append_assoc, append-nil, sym, ap, ap₂, ◌∙◌, subst, mod-lt, one-mul, arith, lt-ltb, le-ltb, length-append}
 use Rattle.std.proofs.Math.Arith.{digits_lt}
 use Rattle.std.proofs.Math.Pow
@@ -10,7 +11,7 @@ use Rattle.bits.specs.NumberLaws.{length-to_bits, to_bits-split, to_bits-low}
 use Rattle.bits.specs.WriteLaws.{put-append, length-put, left_less, left-none}
 use Rattle.item_pen.specs.declared.field.Field.{Field}
 use Rattle.item_pen.specs.declared.Pen.{Pen}
-use Rattle.item_pen.specs.Pen.{field_bits, Holds, Room, Penned, is_down, fresh, RoomFor, Adds, Counted, joined, RoomForAll, AddsAll, PassesOver, flushed}
+use Rattle.item_pen.specs.Pen.{field_bits, Holds, Room, Penned, Begins, RoomFor, Adds, joined, RoomForAll, AddsAll, flushed}
 
 -- ---- fields
 
@@ -76,58 +77,56 @@ penned-long false v = ap length v.holds
 
 -- ---- a pen
 
-pub adds-long : {a b : List ℕ} {P Q : Pen} {k : ℕ} {xs : List Bool} → Adds a b P Q k xs → length b ≡ length a
-adds-long {a} {b} {P} {Q} {k} {xs} w = penned-long (is_down P) w.penned
+pub adds-long : {P Q : Pen} {k : ℕ} {xs : List Bool} → Adds P Q k xs → length Q.buf.now ≡ length P.buf.now
+adds-long {P} {Q} {k} {xs} w = penned-long P.down w.penned
 
--- it stays down or up
-pub adds_same : {a b : List ℕ} {P Q : Pen} {k : ℕ} {xs : List Bool} → Adds a b P Q k xs → is_down Q ≡ is_down P
-adds_same {a} {b} {P} {Q} {k} {xs} w = let e : Q.count % 2 ≡ P.count % 2 = omega (arith, w.items) in ap (λ (r : ℕ). eqb r 1) e
+pub adds_none : (P : Pen) → Adds P P 0 []
+adds_none P = record { slice = refl; state = refl; items = omega arith; penned = penned-none P.down P.buf.now P.at }
 
-pub adds_none : (buf : List ℕ) (P : Pen) → Adds buf buf P P 0 []
-adds_none buf P = record { items = omega arith; penned = penned-none (is_down P) buf P.at }
-
-pub adds_then : {a b c : List ℕ} {P Q R : Pen} {k m : ℕ} {xs ys : List Bool} → Adds a b P Q k xs → Adds b c Q R m ys → Adds a c P R (k + m) (xs ++ ys)
-adds_then {a} {b} {c} {P} {Q} {R} {k} {m} {xs} {ys} v w =
+pub adds_then : {P Q R : Pen} {k m : ℕ} {xs ys : List Bool} → Adds P Q k xs → Adds Q R m ys → Adds P R (k + m) (xs ++ ys)
+adds_then {P} {Q} {R} {k} {m} {xs} {ys} v w =
     record {
+      slice = w.slice ∙ v.slice;
+      state = w.state ∙ v.state;
       items = omega (arith, v.items, w.items);
-      penned = penned-then (is_down P) v.penned (subst (λ d. Penned d b c Q.at R.at ys) (adds_same v) w.penned);
+      penned = penned-then P.down v.penned (subst (λ d. Penned d Q.buf.now R.buf.now Q.at R.at ys) v.state w.penned);
     }
 
 -- the bits by another name
-pub adds-as : {a b : List ℕ} {P Q : Pen} {k : ℕ} {xs ys : List Bool} → xs ≡ ys → Adds a b P Q k xs → Adds a b P Q k ys
-adds-as {a} {b} {P} {Q} {k} e w = subst (Adds a b P Q k) e w
+pub adds-as : {P Q : Pen} {k : ℕ} {xs ys : List Bool} → xs ≡ ys → Adds P Q k xs → Adds P Q k ys
+adds-as {P} {Q} {k} e w = subst (Adds P Q k) e w
 
-pub room_as : {a : List ℕ} {P : Pen} {k : ℕ} {xs ys : List Bool} → xs ≡ ys → RoomFor a P k xs → RoomFor a P k ys
-room_as {a} {P} {k} e w = subst (RoomFor a P k) e w
+pub room_as : {P : Pen} {k : ℕ} {xs ys : List Bool} → xs ≡ ys → RoomFor P k xs → RoomFor P k ys
+room_as {P} {k} e w = subst (RoomFor P k) e w
 
 -- room for the first part, and behind it for the rest
-pub room-head : {a : List ℕ} {P : Pen} (k m : ℕ) (xs ys : List Bool) → RoomFor a P (k + m) (xs ++ ys) → RoomFor a P k xs
-room-head {a} {P} k m xs ys r =
+pub room-head : {P : Pen} (k m : ℕ) (xs ys : List Bool) → RoomFor P (k + m) (xs ++ ys) → RoomFor P k xs
+room-head {P} k m xs ys r =
     let l = length-append xs ys in
     record { fits = λ d. omega (arith, r.fits d); small = omega (arith, r.small); few = omega (arith, r.few) }
 
-pub room-tail : {a b : List ℕ} {P Q : Pen} (k m : ℕ) (xs ys : List Bool) → Adds a b P Q k xs → RoomFor a P (k + m) (xs ++ ys) → RoomFor b Q m ys
-room-tail {a} {b} {P} {Q} k m xs ys w r =
+pub room-tail : {P Q : Pen} (k m : ℕ) (xs ys : List Bool) → Adds P Q k xs → RoomFor P (k + m) (xs ++ ys) → RoomFor Q m ys
+room-tail {P} {Q} k m xs ys w r =
     let l = length-append xs ys in
     let n = adds-long w in
     let o = w.penned.next in
-    record { fits = λ d. omega (arith, r.fits (sym (adds_same w) ∙ d)); small = omega (arith, r.small); few = omega (arith, r.few, w.items) }
+    record { fits = λ d. omega (arith, r.fits (sym w.state ∙ d)); small = omega (arith, r.small); few = omega (arith, r.few, w.items) }
 
 -- ---- what is left to add of n items with the bits bs
 
-pub record Pending (a : List ℕ) (P : Pen) (n : ℕ) (bs : List Bool) (b : List ℕ) (Q : Pen) (m : ℕ) (rest : List Bool) : Type 0 where
+pub record Pending (P : Pen) (n : ℕ) (bs : List Bool) (Q : Pen) (m : ℕ) (rest : List Bool) : Type 0 where
   pub count : ℕ
   pub done : List Bool
   pub sum : count + m ≡ n
   pub whole : done ++ rest ≡ bs
-  pub adds : Adds a b P Q count done
+  pub adds : Adds P Q count done
 
-pub pending-all : (a : List ℕ) (P : Pen) (n : ℕ) (bs : List Bool) → Pending a P n bs a P n bs
-pending-all a P n bs = record { count = 0; done = []; sum = omega arith; whole = refl; adds = adds_none a P }
+pub pending-all : (P : Pen) (n : ℕ) (bs : List Bool) → Pending P n bs P n bs
+pending-all P n bs = record { count = 0; done = []; sum = omega arith; whole = refl; adds = adds_none P }
 
 -- the next k items, with the bits xs
-module _ {a b : List ℕ} {P Q : Pen} {n m : ℕ} {bs rest : List Bool} (k : ℕ) (more : ℕ) (xs ys : List Bool) (e : rest ≡ xs ++ ys) (h : m ≡ k + more) where
-  pub pending-room : Pending a P n bs b Q m rest → RoomFor a P n bs → RoomFor b Q k xs
+module _ {P Q : Pen} {n m : ℕ} {bs rest : List Bool} (k : ℕ) (more : ℕ) (xs ys : List Bool) (e : rest ≡ xs ++ ys) (h : m ≡ k + more) where
+  pub pending-room : Pending P n bs Q m rest → RoomFor P n bs → RoomFor Q k xs
   pending-room p r =
       let l : length (p.done ++ rest) ≡ length bs = ap length p.whole in
       let f = length-append p.done rest in
@@ -135,13 +134,13 @@ module _ {a b : List ℕ} {P Q : Pen} {n m : ℕ} {bs rest : List Bool} (k : ℕ
       let o = p.adds.penned.next in
       let u = adds-long p.adds in
       record {
-        fits = λ d. omega (arith, r.fits (sym (adds_same p.adds) ∙ d));
+        fits = λ d. omega (arith, r.fits (sym p.adds.state ∙ d));
         small = omega (arith, r.small);
         few = omega (arith, r.few, p.adds.items, p.sum);
       }
 
-  pub pending-less : {c : List ℕ} {R : Pen} → Pending a P n bs b Q m rest → Adds b c Q R k xs → Pending a P n bs c R more ys
-  pending-less {c} {R} p w = record {
+  pub pending-less : {R : Pen} → Pending P n bs Q m rest → Adds Q R k xs → Pending P n bs R more ys
+  pending-less {R} p w = record {
     count = p.count + k;
     done = p.done ++ xs;
     sum = omega (arith, p.sum);
@@ -149,11 +148,11 @@ module _ {a b : List ℕ} {P Q : Pen} {n m : ℕ} {bs rest : List Bool} (k : ℕ
     adds = adds_then p.adds w;
   }
 
-pub pending-none : {a b : List ℕ} {P Q : Pen} {n m : ℕ} {bs rest : List Bool} → m ≡ 0 → rest ≡ [] → Pending a P n bs b Q m rest → Adds a b P Q n bs
-pending-none {a} {b} {P} {Q} {n} {m} {bs} {rest} z e p =
+pub pending-none : {P Q : Pen} {n m : ℕ} {bs rest : List Bool} → m ≡ 0 → rest ≡ [] → Pending P n bs Q m rest → Adds P Q n bs
+pending-none {P} {Q} {n} {m} {bs} {rest} z e p =
     let s : p.count ≡ n = omega (arith, p.sum) in
     let w : p.done ≡ bs = sym (append-nil p.done) ∙ ap (λ (l : List Bool). p.done ++ l) (sym e) ∙ p.whole in
-    subst (λ (k : ℕ). Adds a b P Q k bs) s (adds-as w p.adds)
+    subst (λ (k : ℕ). Adds P Q k bs) s (adds-as w p.adds)
 
 -- ---- lists of items
 
@@ -161,41 +160,41 @@ joined-append : (xs ys : List (List Bool)) → joined (xs ++ ys) ≡ joined xs +
 joined-append xs ys = each_append (λ (x : List Bool). x) xs ys
 
 -- one item
-pub adds_one : {a b : List ℕ} {P Q : Pen} {x : List Bool} → Adds a b P Q 1 x → AddsAll a b P Q (x ∷ [])
-adds_one {a} {b} {P} {Q} {x} w = adds-as (sym (append-nil x)) w
+pub adds_one : {P Q : Pen} {x : List Bool} → Adds P Q 1 x → AddsAll P Q (x ∷ [])
+adds_one {P} {Q} {x} w = adds-as (sym (append-nil x)) w
 
-pub room-one : {a : List ℕ} {P : Pen} (x : List Bool) → RoomForAll a P (x ∷ []) → RoomFor a P 1 x
+pub room-one : {P : Pen} (x : List Bool) → RoomForAll P (x ∷ []) → RoomFor P 1 x
 room-one x r = room_as (append-nil x) r
 
 -- the items by another name
-pub all-as : {a b : List ℕ} {P Q : Pen} (xs ys : List (List Bool)) → xs ≡ ys → AddsAll a b P Q xs → AddsAll a b P Q ys
-all-as {a} {b} {P} {Q} xs ys e w = subst (AddsAll a b P Q) e w
+pub all-as : {P Q : Pen} (xs ys : List (List Bool)) → xs ≡ ys → AddsAll P Q xs → AddsAll P Q ys
+all-as {P} {Q} xs ys e w = subst (AddsAll P Q) e w
 
-pub room-all-as : {a : List ℕ} {P : Pen} (xs ys : List (List Bool)) → xs ≡ ys → RoomForAll a P xs → RoomForAll a P ys
-room-all-as {a} {P} xs ys e w = subst (RoomForAll a P) e w
+pub room-all-as : {P : Pen} (xs ys : List (List Bool)) → xs ≡ ys → RoomForAll P xs → RoomForAll P ys
+room-all-as {P} xs ys e w = subst (RoomForAll P) e w
 
 -- some items and then others
-pub all_then : {a b c : List ℕ} {P Q R : Pen} (xs ys : List (List Bool)) → AddsAll a b P Q xs → AddsAll b c Q R ys → AddsAll a c P R (xs ++ ys)
-all_then {a} {b} {c} {P} {Q} {R} xs ys v w =
-    subst (λ (k : ℕ). Adds a c P R k (joined (xs ++ ys))) (sym (length-append xs ys)) (adds-as (sym (joined-append xs ys)) (adds_then v w))
+pub all_then : {P Q R : Pen} (xs ys : List (List Bool)) → AddsAll P Q xs → AddsAll Q R ys → AddsAll P R (xs ++ ys)
+all_then {P} {Q} {R} xs ys v w =
+    subst (λ (k : ℕ). Adds P R k (joined (xs ++ ys))) (sym (length-append xs ys)) (adds-as (sym (joined-append xs ys)) (adds_then v w))
 
-module _ {a : List ℕ} {P : Pen} (xs ys : List (List Bool)) (r : RoomForAll a P (xs ++ ys)) where
-  parted : RoomFor a P (length xs + length ys) (joined xs ++ joined ys)
-  parted = subst (λ (k : ℕ). RoomFor a P k (joined xs ++ joined ys)) (length-append xs ys) (room_as (joined-append xs ys) r)
+module _ {P : Pen} (xs ys : List (List Bool)) (r : RoomForAll P (xs ++ ys)) where
+  parted : RoomFor P (length xs + length ys) (joined xs ++ joined ys)
+  parted = subst (λ (k : ℕ). RoomFor P k (joined xs ++ joined ys)) (length-append xs ys) (room_as (joined-append xs ys) r)
 
-  pub all_head : RoomForAll a P xs
+  pub all_head : RoomForAll P xs
   all_head = room-head (length xs) (length ys) (joined xs) (joined ys) parted
 
-  pub all_tail : {b : List ℕ} {Q : Pen} → AddsAll a b P Q xs → RoomForAll b Q ys
+  pub all_tail : {Q : Pen} → AddsAll P Q xs → RoomForAll Q ys
   all_tail w = room-tail (length xs) (length ys) (joined xs) (joined ys) w parted
 
 -- what is left to add of the items xs
-abbrev pub PendingAll : List ℕ → Pen → List (List Bool) → List ℕ → Pen → List (List Bool) → Type 0
-PendingAll a P xs b Q rest = Pending a P (length xs) (joined xs) b Q (length rest) (joined rest)
+abbrev pub PendingAll : Pen → List (List Bool) → Pen → List (List Bool) → Type 0
+PendingAll P xs Q rest = Pending P (length xs) (joined xs) Q (length rest) (joined rest)
 
 -- all of them, by another name
-pub all_start : {a : List ℕ} {P : Pen} (zs rest : List (List Bool)) → rest ≡ zs → PendingAll a P zs a P rest
-all_start {a} {P} zs rest e = subst (PendingAll a P zs a P) (sym e) (pending-all a P (length zs) (joined zs))
+pub all_start : {P : Pen} (zs rest : List (List Bool)) → rest ≡ zs → PendingAll P zs P rest
+all_start {P} zs rest e = subst (PendingAll P zs P) (sym e) (pending-all P (length zs) (joined zs))
 
 module _ {rest : List (List Bool)} (zs xs ys : List (List Bool)) (e : rest ≡ xs ++ ys) where
   bits-part : joined rest ≡ joined xs ++ joined ys
@@ -204,35 +203,43 @@ module _ {rest : List (List Bool)} (zs xs ys : List (List Bool)) (e : rest ≡ x
   count-part : length rest ≡ length xs + length ys
   count-part = ap length e ∙ length-append xs ys
 
-  pub all_room : {a b : List ℕ} {P Q : Pen} → PendingAll a P zs b Q rest → RoomForAll a P zs → RoomForAll b Q xs
+  pub all_room : {P Q : Pen} → PendingAll P zs Q rest → RoomForAll P zs → RoomForAll Q xs
   all_room p r = pending-room (length xs) (length ys) (joined xs) (joined ys) bits-part count-part p r
 
-  pub all-less : {a b c : List ℕ} {P Q R : Pen} → PendingAll a P zs b Q rest → AddsAll b c Q R xs → PendingAll a P zs c R ys
+  pub all-less : {P Q R : Pen} → PendingAll P zs Q rest → AddsAll Q R xs → PendingAll P zs R ys
   all-less p w = pending-less (length xs) (length ys) (joined xs) (joined ys) bits-part count-part p w
 
-pub all_none : (zs : List (List Bool)) {rest : List (List Bool)} {a b : List ℕ} {P Q : Pen} → rest ≡ [] → PendingAll a P zs b Q rest → AddsAll a b P Q zs
+pub all_none : (zs : List (List Bool)) {rest : List (List Bool)} {P Q : Pen} → rest ≡ [] → PendingAll P zs Q rest → AddsAll P Q zs
 all_none zs e p = pending-none (ap length e) (ap joined e) p
+
+-- ---- a pen that has put nothing
+
+module _ {lent : MutBor (List ℕ)} {down : Bool} {P : Pen} (b : Begins lent down P) where
+  pub room_begun : (k : ℕ) (bs : List Bool) → (down ≡ true → length bs ≤ 8 * length lent.now) → length bs < 2 ^ 64 → k < 2 ^ 64 → RoomFor P k bs
+  room_begun k bs fits small few =
+      let l = ap length b.bytes in
+      record { fits = λ d. omega (arith, fits (sym b.state ∙ d), l, b.first); small = omega (arith, small, b.first); few = omega (arith, few, b.items) }
+
+  pub penned_begun : {Q : Pen} {k : ℕ} {bs : List Bool} → Adds P Q k bs → Penned down lent.now Q.buf.now 0 Q.at bs
+  penned_begun {Q} {k} {bs} w =
+      let d : Penned down P.buf.now Q.buf.now P.at Q.at bs = subst (λ (x : Bool). Penned x P.buf.now Q.buf.now P.at Q.at bs) b.state w.penned in
+      let s : Penned down lent.now Q.buf.now P.at Q.at bs = subst (λ (x : List ℕ). Penned down x Q.buf.now P.at Q.at bs) b.bytes d in
+      subst (λ (x : ℕ). Penned down lent.now Q.buf.now x Q.at bs) b.first s
 
 -- ---- what is added
 
-module _ (buf : List ℕ) (P : Pen) (f : Field) (room : RoomFor buf P 0 (field_bits f)) where
-  -- room for a field
-  pub field_room : Room (is_down P) buf P.at f.width
-  field_room =
-      let l = length-to_bits f.width f.value in
-      record { fits = λ d. omega (arith, room.fits d); small = omega (arith, room.small) }
+-- room for a field
+pub field_room : (P : Pen) (f : Field) → RoomFor P 0 (field_bits f) → Room P.down P.buf.now P.at f.width
+field_room P f room =
+    let l = length-to_bits f.width f.value in
+    record { fits = λ d. omega (arith, room.fits d); small = omega (arith, room.small) }
 
--- a first field
-module _ (down : Bool) (buf : List ℕ) (f : Field) where
-  pub begun-up : down ≡ false → Adds buf buf (fresh down) (record { count = 0; at = f.width }) 0 (field_bits f)
-  begun-up d =
-      subst (λ b. Adds buf buf (fresh b) (record { count = 0; at = f.width }) 0 (field_bits f)) (sym d)
-      (record { items = refl; penned = record { next = omega (arith, length-to_bits f.width f.value); holds = refl } })
+-- a field that was put with the pen down, or passed over with it up
+pub penned_put : (down : Bool) (buf after : List ℕ) (at : ℕ) (f : Field) → down ≡ true → after ≡ put buf at (field_bits f) → Penned down buf after at (at + f.width) (field_bits f)
+penned_put down buf after at f d e = record { next = omega (arith, length-to_bits f.width f.value); holds = rw d e }
 
-  pub begun-down : (after : List ℕ) → down ≡ true → after ≡ put buf 0 (field_bits f) → Adds buf after (fresh down) (record { count = 1; at = f.width }) 0 (field_bits f)
-  begun-down after d e =
-      subst (λ b. Adds buf after (fresh b) (record { count = 1; at = f.width }) 0 (field_bits f)) (sym d)
-      (record { items = refl; penned = record { next = omega (arith, length-to_bits f.width f.value); holds = e } })
+pub penned_not : (down : Bool) (buf : List ℕ) (at : ℕ) (f : Field) → down ≡ false → Penned down buf buf at (at + f.width) (field_bits f)
+penned_not down buf at f d = record { next = omega (arith, length-to_bits f.width f.value); holds = rw d refl }
 
 -- ---- fields that are held back
 
@@ -244,37 +251,6 @@ module _ (held f : Field) where
   pub flushed-all : 56 < held.width + f.width → flushed held f ≡ field_bits held
   unfolding flushed
   flushed-all h = rw (lt-ltb 56 (held.width + f.width) h)
-
--- ---- a pen that has put nothing
-
-pub fresh-is : (down : Bool) → is_down (fresh down) ≡ down
-fresh-is true = refl
-fresh-is false = refl
-
-pub fresh-few : (down : Bool) → (fresh down).count ≤ 1
-fresh-few true = omega arith
-fresh-few false = omega arith
-
--- a field that was written
-pub once-down : (buf after : List ℕ) (P : Pen) (f : Field) (q : ℕ) → is_down P ≡ true → Wrote buf after P.at q (field_bits f) → Adds buf after P (record { count = P.count; at = q }) 0 (field_bits f)
-once-down buf after P f q d w =
-    record {
-      items = omega arith;
-      penned = subst (λ b. Penned b buf after P.at q (field_bits f)) (sym d) (record { next = w.next; holds = w.holds });
-    }
-
--- bits that are passed over
-pub passed_over : (P : Pen) (n : ℕ) → is_down P ≡ false → PassesOver P n (record { count = P.count; at = P.at + n })
-passed_over P n d = record {
-  adds = λ buf bs e. record {
-    items = omega arith;
-    penned = subst (λ b. Penned b buf buf P.at (P.at + n) bs) (sym d) (record { next = omega (arith, e); holds = refl });
-  };
-}
-
--- one item more
-pub counted_is : (P : Pen) → Counted P (record { count = P.count + 2; at = P.at })
-counted_is P = record { adds = λ buf. record { items = omega arith; penned = penned-none (is_down P) buf P.at } }
 
 -- ---- 16 bits at a time
 

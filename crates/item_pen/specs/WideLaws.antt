@@ -1,11 +1,11 @@
 -- Eight bytes written at once: the bits before a field and the bytes behind it are as they were.
-use Rattle.std.specs.Prelude.{Bool, ◌≡◌, refl, ℕ, zero, suc, ◌+◌, ◌*◌, ◌-◌, ◌/◌, ◌%◌, ◌^◌, ◌≤◌, ◌<◌, length, get_or, set, take}
+use Rattle.std.specs.Prelude.{Bool, ◌≡◌, refl, ℕ, zero, suc, ◌+◌, ◌*◌, ◌-◌, ◌/◌, ◌%◌, ◌^◌, ◌≤◌, ◌<◌, length, get_or, take}
 use mathlib.Core.List.{List, [], ◌∷◌, ◌++◌, append_assoc, append-nil}
 use Rattle.std.proofs.Common.{sym, ◌∙◌, mod-lt, mod-eq_of_lt, add_assoc, zero-add, zero-mul, one-mul, arith, length-append, length-drop, take-append-drop}
 use Rattle.std.proofs.Math.Path.{ap, ap₂}
 use Rattle.std.proofs.Math.Nat.{zero-div}
 use Rattle.std.proofs.Math.Arith.{digits_lt}
-use Rattle.std.specs.Int.{w64, byte_at as digit, bytes_high_first, from_be_bytes, to_be_bytes}
+use Rattle.std.specs.Int.{w16, w64, byte_at as digit, bytes_high_first, from_be_bytes, to_be_bytes}
 use Rattle.std.specs.Int.Bits.{bit_and}
 use Rattle.std.proofs.lemmas.Nat.Bits.{and_high}
 use Rattle.std.proofs.Math.ListN.{drop}
@@ -14,22 +14,10 @@ use Rattle.std.proofs.Math.Seq
 use Rattle.definitions.specs.Bits.{odd, to_bits, bits_of, num, pack_to, size, pack}
 use Rattle.bits.specs.Writing.{put}
 use Rattle.bits.specs.NumberLaws.{pad-take, bits_of-append, length-to_bits, num-to_bits, num-split, num-prefix, num-nil, to_bits-split, to_bits-low, to_bits-num, length-bits_of, drop-bits_of, num-byte}
-use Rattle.bits.specs.WriteLaws.{put-shift, put_first, put_byte, put-pack, put_on, start_is}
+use Rattle.bits.specs.WriteLaws.{put-shift, put_first, put_byte, put-pack}
 use Rattle.item_pen.specs.Pen.{Merged}
 
 -- ---- bytes in and out
-
-pub byte-is : (buf : List ℕ) (i w : ℕ) → i < length buf → set buf i (w % 256) ≡ put buf (8 * i) (to_bits 8 w)
-byte-is buf i w h =
-    let e : w % (1 * 2 ^ 8 % 2 ^ 64) * 2 ^ (8 - 8) % 2 ^ 64 % 256 ≡ w % 256 = omega arith in
-    ap (set buf i) (sym e) ∙ start_is buf i 8 w h (omega arith) (omega arith)
-
-pub two-are : (buf : List ℕ) (i x : ℕ) → i + 1 < length (set buf i (x / 256 % 256)) → i < length buf →
-    set (set buf i (x / 256 % 256)) (i + 1) (x % 256) ≡ put buf (8 * i) (to_bits 16 x)
-two-are buf i x h k =
-    byte-is (set buf i (x / 256 % 256)) (i + 1) x h
-    ∙ ap (λ (b : List ℕ). put b (8 * (i + 1)) (to_bits 8 x)) (byte-is buf i (x / 256) k)
-    ∙ put_on buf (8 * i) 16 8 (i + 1) x (omega arith) (omega arith)
 
 -- the first byte of the bits from a byte on
 pub byte_at : (s : List ℕ) (i r : ℕ) → get_or s i 0 < 256 → num (8 + r) (drop (8 * i) (bits_of s)) ≡ get_or s i 0 * 2 ^ r + num r (drop (8 * (i + 1)) (bits_of s))
@@ -98,16 +86,25 @@ put-over (suc i) p (x ∷ buf) bs h =
     rw (e, put-shift x buf (8 * i + p) bs, put-over i p buf bs (omega arith))
 
 -- they are written where the bits are
-pub put-be : (buf : List ℕ) (i x : ℕ) → i + 8 ≤ length buf → take i buf ++ (to_be_bytes w64 x ++ drop 8 (drop i buf)) ≡ put buf (8 * i) (to_bits 64 x)
+pub put-bytes : (k : ℕ) (buf : List ℕ) (i x : ℕ) → i + k ≤ length buf → take i buf ++ (bytes_high_first k x ++ drop k (drop i buf)) ≡ put buf (8 * i) (to_bits (8 * k) x)
 unfolding pack
-put-be buf i x h =
-    let l : size (length (to_bits 64 x)) ≡ 8 = ap size (length-to_bits 64 x) in
+put-bytes k buf i x h =
+    let l : size (length (to_bits (8 * k) x)) ≡ k = ap size (length-to_bits (8 * k) x) ∙ omega arith in
     let e : 8 * i + 0 ≡ 8 * i = omega arith in
-    let t : put (drop i buf) 0 (to_bits 64 x) ≡ to_be_bytes w64 x ++ drop 8 (drop i buf) =
-    put-pack (drop i buf) (to_bits 64 x) (omega (arith, l, length-drop i buf))
-    ∙ ap (λ (j : ℕ). pack_to j (to_bits 64 x) ++ drop j (drop i buf)) l
-    ∙ ap (λ (b : List ℕ). b ++ drop 8 (drop i buf)) (packed-be 8 x) in
-    ap (λ (s : List ℕ). take i buf ++ s) (sym t) ∙ sym (put-over i 0 buf (to_bits 64 x) (omega (arith, h))) ∙ ap (λ (p : ℕ). put buf p (to_bits 64 x)) e
+    let t : put (drop i buf) 0 (to_bits (8 * k) x) ≡ bytes_high_first k x ++ drop k (drop i buf) =
+    put-pack (drop i buf) (to_bits (8 * k) x) (omega (arith, l, length-drop i buf))
+    ∙ ap (λ (j : ℕ). pack_to j (to_bits (8 * k) x) ++ drop j (drop i buf)) l
+    ∙ ap (λ (b : List ℕ). b ++ drop k (drop i buf)) (packed-be k x) in
+    ap (λ (s : List ℕ). take i buf ++ s) (sym t)
+    ∙ sym (put-over i 0 buf (to_bits (8 * k) x) (omega (arith, h, l, length-to_bits (8 * k) x)))
+    ∙ ap (λ (p : ℕ). put buf p (to_bits (8 * k) x)) e
+
+-- two bytes, and eight
+pub put-two : (buf : List ℕ) (i x : ℕ) → i + 2 ≤ length buf → take i buf ++ (to_be_bytes w16 x ++ drop 2 (drop i buf)) ≡ put buf (8 * i) (to_bits 16 x)
+put-two buf i x h = put-bytes 2 buf i x h
+
+pub put-be : (buf : List ℕ) (i x : ℕ) → i + 8 ≤ length buf → take i buf ++ (to_be_bytes w64 x ++ drop 8 (drop i buf)) ≡ put buf (8 * i) (to_bits 64 x)
+put-be buf i x h = put-bytes 8 buf i x h
 
 -- ---- one number
 

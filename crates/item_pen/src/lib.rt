@@ -1,21 +1,23 @@
 // A pen over lent bytes. Down, it writes bits; up, it only counts them: what counts a schedule's bits is what writes them.
 #![tactic(auto)]
 
-ghost use Rattle.std.specs.Prelude.{false, ◌++◌, ◌≡◌, ◌+◌, ◌*◌, ◌/◌, ◌^◌, ◌≤◌, ◌<◌, length, drop};
+ghost use Rattle.std.specs.Prelude.{false, [], ◌++◌, ◌≡◌, ◌+◌, ◌*◌, ◌/◌, ◌^◌, ◌≤◌, ◌<◌, length, drop};
 ghost use Rattle.definitions.specs.Bits.{to_bits, bits_of, num};
-ghost use Rattle.bits.specs.Writing.{put, Wrote};
-ghost use Rattle.item_pen.specs.Pen.{Holds, field_bits, Merged, Room, Penned, is_down, fresh, RoomFor, Adds, Counted, PassesOver, flushed, TakesIn};
+ghost use Rattle.bits.specs.Writing.{put};
+ghost use Rattle.item_pen.specs.Pen.{Holds, field_bits, Merged, Begins, RoomFor, Adds, PassesOver, flushed, TakesIn};
 
 mod field;
 
 use bits::Cursor;
 pub use field::Field;
 
-// Where the next bit goes, and twice the number of items that were put, one more where the pen is down: two numbers, since a
-// struct of three is handed on in memory.
-#[derive(Clone, Copy)]
-pub struct Pen {
-    pub count: usize,
+// The bytes that a pen writes to, whether it is down, how many items were put, and where the next bit goes. `down` is a bool, so
+// that counting and writing are one function with one contract: an enum of the two would be the same test.
+#[derive(Drop)]
+pub struct Pen<'a> {
+    pub buf: &'a mut [u8],
+    pub down: bool,
+    pub items: usize,
     pub at: usize,
 }
 
@@ -91,10 +93,10 @@ pub fn put_wide(buf: &mut [u8], at: usize, f: Field)
     put_eight(buf, i, merged(old, at % 8, f));
 }
 
-// The same near the end of the bytes, and for what is written once, 16 bits at a time. The answer is the bit behind them.
-fn put_near(buf: &mut [u8], at: usize, f: Field) -> usize
+// The same near the end of the bytes, and for what is written once, 16 bits at a time.
+fn put_near(buf: &mut [u8], at: usize, f: Field)
     requires { (at + f.width ≤ 8 * length buf.old) × (at + f.width < 2 ^ 64) }
-    ensures { Wrote buf.old buf.new at result (field_bits f) }
+    ensures { buf.new ≡ put buf.old at (field_bits f) }
 {
     let mut c = Cursor { at };
     let mut left = f.width;
@@ -103,98 +105,25 @@ fn put_near(buf: &mut [u8], at: usize, f: Field) -> usize
         left -= 16;
         c = c.write(buf, 16, (f.value >> left) as usize);
     }
-    let end = c.write(buf, left, f.value as usize);
-    end.at
+    c.write(buf, left, f.value as usize);
 }
 
-// A field at bit `at`, and zeros to the end of the byte that its last bit is in. No other byte is touched. The answer is the bit
-// behind it.
-fn put_bits(buf: &mut [u8], at: usize, f: Field) -> usize
+// A field at bit `at`, and zeros to the end of the byte that its last bit is in. No other byte is touched.
+pub fn put_bits(buf: &mut [u8], at: usize, f: Field)
     requires { (at + f.width ≤ 8 * length buf.old) × (at + f.width < 2 ^ 64) }
-    ensures { Wrote buf.old buf.new at result (field_bits f) }
+    ensures { buf.new ≡ put buf.old at (field_bits f) }
 {
     if f.width == 0 {
-        return at;
+        return;
     }
     if buf.len() < at / 8 + 8 {
-        return put_near(buf, at, f);
+        put_near(buf, at, f);
+        return;
     }
     put_wide(buf, at, f);
-    at + f.width
 }
 
-// With the pen down a field goes to bit `at`, and zeros to the end of its last byte; with the pen up nothing is touched. The
-// answer is the bit behind it. `down` is a bool, here and in `begin`, so that counting and writing are one function with one
-// contract: an enum of the two would be the same test.
-pub fn put(buf: &mut [u8], at: usize, down: bool, f: Field) -> usize
-    requires { Room down buf.old at f.width }
-    ensures { Penned down buf.old buf.new at result (field_bits f) }
-{
-    if !down {
-        return at + f.width;
-    }
-    put_bits(buf, at, f)
-}
-
-// Whether the pen is down.
-pub fn is_down(pen: Pen) -> bool
-    ensures { result ≡ is_down pen }
-{
-    pen.count % 2 == 1
-}
-
-// A pen that has put a first field, at the first bit.
-pub fn begin(buf: &mut [u8], down: bool, f: Field) -> Pen
-    requires { RoomFor buf.old (fresh down) 0 (field_bits f) }
-    ensures { Adds buf.old buf.new (fresh down) result 0 (field_bits f) }
-{
-    if !down {
-        return Pen {
-            count: 0,
-            at: f.width,
-        };
-    }
-    put_near(buf, 0, f);
-    Pen {
-        count: 1,
-        at: f.width,
-    }
-}
-
-// One more field.
-pub fn add(buf: &mut [u8], pen: Pen, f: Field) -> Pen
-    requires { RoomFor buf.old pen 0 (field_bits f) }
-    ensures { Adds buf.old buf.new pen result 0 (field_bits f) }
-{
-    let at = put(buf, pen.at, is_down(pen), f);
-    Pen { at, ..pen }
-}
-
-// One more field, one that a listing has once.
-pub fn add_once(buf: &mut [u8], pen: Pen, f: Field) -> Pen
-    requires { RoomFor buf.old pen 0 (field_bits f) }
-    ensures { Adds buf.old buf.new pen result 0 (field_bits f) }
-{
-    if !is_down(pen) {
-        return pass_over(pen, f.width);
-    }
-    let at = put_near(buf, pen.at, f);
-    Pen { at, ..pen }
-}
-
-// Fields are held back to be written together. What is held is written where a field finds no room beside it.
-pub fn make_room(buf: &mut [u8], pen: Pen, held: Field, f: Field) -> Pen
-    requires { RoomFor buf.old pen 0 (flushed held f) }
-    ensures { Adds buf.old buf.new pen result 0 (flushed held f) }
-{
-    if held.width + f.width <= 56 {
-        return pen;
-    }
-    let at = put(buf, pen.at, is_down(pen), held);
-    Pen { at, ..pen }
-}
-
-// What is held then.
+// What is held behind `Pen::make_room`: both fields where they have at most 56 bits, else the second alone.
 pub fn take_in(held: Field, f: Field) -> Field
     ensures { TakesIn held f result }
 {
@@ -204,24 +133,67 @@ pub fn take_in(held: Field, f: Field) -> Field
     f
 }
 
-// One more item.
-pub fn counted(pen: Pen) -> Pen
-    requires { pen.count + 2 < 2 ^ 64 }
-    ensures { Counted pen result }
-{
-    Pen {
-        count: pen.count + 2,
-        ..pen
+impl<'a> Pen<'a> {
+    // A pen that has put nothing.
+    pub fn new(buf: &'a mut [u8], down: bool) -> Pen<'a>
+        ensures { Begins buf.entry down result }
+    {
+        Pen {
+            buf,
+            down,
+            items: 0,
+            at: 0,
+        }
     }
-}
 
-// With the pen up: n bits that are not even made.
-pub fn pass_over(pen: Pen, n: usize) -> Pen
-    requires { (is_down pen ≡ false) × (pen.at + n < 2 ^ 64) }
-    ensures { PassesOver pen n result }
-{
-    Pen {
-        at: pen.at + n,
-        ..pen
+    // One more field. With the pen down it goes to the next bit, and zeros to the end of its last byte; with the pen up no byte is
+    // touched.
+    pub fn add(&mut self, f: Field)
+        requires { RoomFor self.old 0 (field_bits f) }
+        ensures { Adds self.old self.new 0 (field_bits f) }
+    {
+        if self.down {
+            put_bits(self.buf, self.at, f);
+        }
+        self.at += f.width;
+    }
+
+    // One more field, one that a listing has once.
+    pub fn add_once(&mut self, f: Field)
+        requires { RoomFor self.old 0 (field_bits f) }
+        ensures { Adds self.old self.new 0 (field_bits f) }
+    {
+        if self.down {
+            put_near(self.buf, self.at, f);
+        }
+        self.at += f.width;
+    }
+
+    // Fields are held back to be written together. What is held is written where a field finds no room beside it; `take_in` says
+    // what is held then.
+    pub fn make_room(&mut self, held: Field, f: Field)
+        requires { RoomFor self.old 0 (flushed held f) }
+        ensures { Adds self.old self.new 0 (flushed held f) }
+    {
+        if held.width + f.width <= 56 {
+            return;
+        }
+        self.add(held);
+    }
+
+    // One more item.
+    pub fn count_item(&mut self)
+        requires { self.old.items + 1 < 2 ^ 64 }
+        ensures { Adds self.old self.new 1 [] }
+    {
+        self.items += 1;
+    }
+
+    // With the pen up: n bits that are not even made.
+    pub fn pass_over(&mut self, n: usize)
+        requires { (self.old.down ≡ false) × (self.old.at + n < 2 ^ 64) }
+        ensures { PassesOver self.old n self.new }
+    {
+        self.at += n;
     }
 }

@@ -22,9 +22,11 @@ use Rattle.law_classes.specs.Sets.{Set, some, one_word, word_of, masked, named, 
 use Rattle.law_classes.specs.Numbers.{Fits}
 use Rattle.law_classes.specs.Refusal.{lost_class, own_twice, unmet, has_child}
 use Rattle.law_classes.proofs.Instance.{crossed, crossed-readable, crossed-within, crossed-tested}
-use Rattle.catalogue.specs.Layout.{parents_at, own_at, above_at, passed_at, word_at, mask_at, owner_at, first_at, second_at}
+use Rattle.catalogue.specs.Layout.{no_word, parents_at, own_at, above_at, passed_at, word_at, mask_at, owner_at, first_at, second_at}
 use Rattle.catalogue.specs.Catalogue.{name_of_key, first_is, second_is, is_resource_head, virtual_head, trait_head, added_in, Entry, Listed, Worded, Extended, SetsOf, Owned, Catalogued}
 use Rattle.catalogue.specs.declared.Catalogue.{Catalogue}
+use Rattle.item_heads.specs.Heads.{no_marks}
+use Rattle.item_heads.specs.declared.packed.Packed.{Packed}
 use Rattle.item_refusal.specs.Tests.{Decides}
 
 -- ---- columns
@@ -34,6 +36,10 @@ abbrev fill : ℕ → List ℕ → List ℕ
 fill zero l = []
 fill (suc n) [] = 0 ∷ fill n []
 fill (suc n) (x ∷ l) = x ∷ fill n l
+
+-- one makelist mark
+abbrev lists_mark : Packed
+lists_mark = record { bits = 0; width = 1; count = 1; few = omega arith; narrow = omega arith; less = omega arith }
 
 -- what holds at each place below n
 abbrev Each : (ℕ → Type 0) → ℕ → Type 0
@@ -53,18 +59,14 @@ abbrev pub crossed_table : Catalogue
 crossed_table = record {
   keys = fill 64 (256 ∷ 257 ∷ 513 ∷ 1280 ∷ []);
   heads = fill 64 (0 ∷ 64 ∷ 64 ∷ 1 ∷ []);
-  marks = fill 64 [];
-  tallies = fill 64 (0 ∷ 9 ∷ 9 ∷ 0 ∷ []);
+  marks = no_marks ∷ lists_mark ∷ lists_mark ∷ replicate 61 no_marks;
   parents = fill 64 (0 ∷ 0 ∷ 0 ∷ 1 ∷ []);
   own = fill 64 (0 ∷ 0 ∷ 0 ∷ 2 ∷ []);
   above = fill 64 (0 ∷ 0 ∷ 0 ∷ 4 ∷ []);
   passed = fill 64 (4 ∷ 0 ∷ 0 ∷ 6 ∷ []);
   owners = fill 64 (64 ∷ 0 ∷ 64 ∷ 64 ∷ []);
-  words = fill 64 (0 ∷ 1 ∷ 5 ∷ []);
-  masks = fill 64 (6 ∷ 1 ∷ 8 ∷ []);
-  extension_keys = fill 32 [];
-  extension_counts = fill 32 [];
-  extension_parents = replicate 32 (replicate 8 0);
+  words = record { word = 0; types = 6 } ∷ record { word = 1; types = 1 } ∷ record { word = 5; types = 8 } ∷ replicate 61 no_word;
+  extensions = replicate 32 (record { key = 0; count = 0; parents = replicate 8 0 });
   firsts = fill 256 (0 ∷ 3 ∷ 4 ∷ 0 ∷ 0 ∷ 8 ∷ []);
   seconds = fill 256 (9 ∷ 6 ∷ []);
   count = 4;
@@ -94,13 +96,13 @@ crossed-entry =
         (
           (
             tt,
-            record { key = omega arith; name = refl; head = omega arith; is_resource = refl; is_virtual = refl; is_trait = refl; mark_count = refl; mark_bits = refl; tally = omega arith },
+            record { key = omega arith; name = refl; head = omega arith; is_resource = refl; is_virtual = refl; is_trait = refl; mark_count = refl; mark_bits = refl },
           ),
-          record { key = omega arith; name = refl; head = omega arith; is_resource = refl; is_virtual = refl; is_trait = refl; mark_count = refl; mark_bits = refl; tally = omega arith },
+          record { key = omega arith; name = refl; head = omega arith; is_resource = refl; is_virtual = refl; is_trait = refl; mark_count = refl; mark_bits = refl },
         ),
-        record { key = omega arith; name = refl; head = omega arith; is_resource = refl; is_virtual = refl; is_trait = refl; mark_count = refl; mark_bits = refl; tally = omega arith },
+        record { key = omega arith; name = refl; head = omega arith; is_resource = refl; is_virtual = refl; is_trait = refl; mark_count = refl; mark_bits = refl },
       ),
-      record { key = omega arith; name = refl; head = omega arith; is_resource = refl; is_virtual = refl; is_trait = refl; mark_count = refl; mark_bits = refl; tally = omega arith },
+      record { key = omega arith; name = refl; head = omega arith; is_resource = refl; is_virtual = refl; is_trait = refl; mark_count = refl; mark_bits = refl },
     )
 
 crossed-listed : Listed crossed crossed_table
@@ -297,18 +299,14 @@ abbrev worked_table : Catalogue
 worked_table = record {
   keys = fill 64 (0 ∷ 256 ∷ 512 ∷ []);
   heads = fill 64 (0 ∷ 97 ∷ 64 ∷ []);
-  marks = fill 64 [];
-  tallies = fill 64 (0 ∷ 9 ∷ 0 ∷ []);
+  marks = no_marks ∷ lists_mark ∷ replicate 62 no_marks;
   parents = fill 64 (0 ∷ 4 ∷ 0 ∷ []);
   own = fill 64 (2 ∷ 0 ∷ 0 ∷ []);
   above = fill 64 [];
   passed = fill 64 (2 ∷ 0 ∷ 0 ∷ []);
   owners = fill 64 (64 ∷ 64 ∷ 64 ∷ []);
-  words = fill 64 (0 ∷ 1 ∷ 2 ∷ []);
-  masks = fill 64 (1 ∷ 2 ∷ 4 ∷ []);
-  extension_keys = fill 32 [];
-  extension_counts = fill 32 [];
-  extension_parents = replicate 32 (replicate 8 0);
+  words = record { word = 0; types = 1 } ∷ record { word = 1; types = 2 } ∷ record { word = 2; types = 4 } ∷ replicate 61 no_word;
+  extensions = replicate 32 (record { key = 0; count = 0; parents = replicate 8 0 });
   firsts = fill 256 (1 ∷ 2 ∷ 4 ∷ 0 ∷ []);
   seconds = fill 256 (7 ∷ []);
   count = 3;
@@ -337,11 +335,11 @@ worked-entry =
       (
         (
           tt,
-          record { key = omega arith; name = refl; head = omega arith; is_resource = refl; is_virtual = refl; is_trait = refl; mark_count = refl; mark_bits = refl; tally = omega arith },
+          record { key = omega arith; name = refl; head = omega arith; is_resource = refl; is_virtual = refl; is_trait = refl; mark_count = refl; mark_bits = refl },
         ),
-        record { key = omega arith; name = refl; head = omega arith; is_resource = refl; is_virtual = refl; is_trait = refl; mark_count = refl; mark_bits = refl; tally = omega arith },
+        record { key = omega arith; name = refl; head = omega arith; is_resource = refl; is_virtual = refl; is_trait = refl; mark_count = refl; mark_bits = refl },
       ),
-      record { key = omega arith; name = refl; head = omega arith; is_resource = refl; is_virtual = refl; is_trait = refl; mark_count = refl; mark_bits = refl; tally = omega arith },
+      record { key = omega arith; name = refl; head = omega arith; is_resource = refl; is_virtual = refl; is_trait = refl; mark_count = refl; mark_bits = refl },
     )
 
 worked-listed : Listed worked worked_table

@@ -18,7 +18,7 @@ use Rattle.definitions.specs.Making.{same_mark}
 use Rattle.bits.specs.NumberLaws.{length-to_bits, num-to_bits, to_bits-split, to_bits-low}
 use Rattle.line_laws.specs.Within.{MarkWithin}
 use Rattle.line_laws.specs.SameItem.{mark-true, mark-self}
-use Rattle.catalogue.specs.Layout.{marks_at, tally_at}
+use Rattle.catalogue.specs.Layout.{marks_at, mark_width}
 use Rattle.catalogue.specs.declared.Catalogue.{Catalogue}
 use Rattle.item_refusal.specs.Tests.{behind, follow}
 use Rattle.item_refusal.specs.TestLaws.{behind-short, behind-same, behind-other, follow_lost}
@@ -72,13 +72,13 @@ parted marks left w h =
 module _ (t : Catalogue) (marks : ℕ) where
   -- the bits of a class's marks
   abbrev bits : ℕ → List Bool
-  bits e = to_bits (tally_at t e / 8) (marks_at t e)
+  bits e = to_bits (mark_width t e) (marks_at t e)
 
   follow-only : (l : List ℕ) (left : ℕ) → left < 64 → follow t marks left l ≡ 0 → to_bits left marks ≡ each bits l
   unfolding follow to_bits
   follow-only [] left h e = ap (λ (x : ℕ). to_bits x marks) e
   follow-only (c ∷ l) left h e =
-      let w = tally_at t c / 8 in
+      let w = mark_width t c in
       let ms = marks_at t c in
       let part : 64 ≡ behind marks left ms w → ⊥ = λ q. omega (arith, follow_lost t marks 64 l refl, ap (λ (x : ℕ). follow t marks x l) q, e) in
       by (ltb left w)
@@ -97,7 +97,7 @@ module _ (t : Catalogue) (marks : ℕ) where
   unfolding follow
   follow-all [] left h e = sym (length-to_bits left marks) ∙ ap length e
   follow-all (c ∷ l) left h e =
-      let w = tally_at t c / 8 in
+      let w = mark_width t c in
       let ms = marks_at t c in
       let k : w ≤ left = omega (arith, length-to_bits left marks, ap length e, length-append (bits c) (each bits l), length-to_bits w ms) in
       let x = marks / 2 ^ (left - w) in
@@ -122,4 +122,4 @@ module _ (t : Catalogue) (marks : ℕ) where
   pub follow-append : (l k : List ℕ) (left : ℕ) → follow t marks left (l ++ k) ≡ follow t marks (follow t marks left l) k
   unfolding follow
   follow-append [] k left = refl
-  follow-append (c ∷ l) k left = follow-append l k (behind marks left (marks_at t c) (tally_at t c / 8))
+  follow-append (c ∷ l) k left = follow-append l k (behind marks left (marks_at t c) (mark_width t c))

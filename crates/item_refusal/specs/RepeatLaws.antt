@@ -1,6 +1,6 @@
 -- An own making that is the inherited one again, by numbers, is what the definitions ask of each type and own class.
 use Rattle.std.proofs.Math.Bool.{Bool, true, not, beq, and-false, and_assoc}
-use Rattle.std.specs.Prelude.{false, ◌&&◌, ◌||◌, ◌↔◌, ◌≡◌, refl, ℕ, ◌/◌, ◌≤◌, ◌<◌, ltb, length}
+use Rattle.std.specs.Prelude.{false, ◌&&◌, ◌||◌, ◌↔◌, ◌≡◌, refl, ℕ, ◌≤◌, ◌<◌, ltb, length}
 use mathlib.Core.List.Memᴰ
 use mathlib.Core.List.{List, [], ◌∷◌, ◌++◌, map, append_cancel_right}
 use Rattle.std.proofs.Common.{⊎_elim, ◌∙◌, arith}
@@ -34,7 +34,7 @@ use Rattle.law_classes.specs.Numbers.{place-of, Fits, fits_both, holds-both, hol
 use Rattle.law_classes.specs.Walks.{some-walked, classes-walked, passing-walked}
 use Rattle.law_classes.proofs.ItemLaws.{plain_map}
 use Rattle.law_classes.specs.Refusal.{firsts, identical, crosses}
-use Rattle.catalogue.specs.Layout.{marks_at, tally_at, parents_at, own_at, above_at, passed_at, owner_at, second_at}
+use Rattle.catalogue.specs.Layout.{packed_at, marks_at, mark_width, parents_at, own_at, above_at, passed_at, owner_at, second_at}
 use Rattle.catalogue.specs.Catalogue.{Catalogued}
 use Rattle.catalogue.specs.declared.Catalogue.{Catalogue}
 use Rattle.item_refusal.specs.Tests.{same_word, passes, passes_alone, is_virtual, same_virtual, same_marks, repeated, repeated_for, types_in, pairs_in}
@@ -226,15 +226,15 @@ module _ (s : Sheet) (ok : Readable s) (within : Within s) (t : Catalogue) (k : 
     unfolding same_marks
     marks-is c i =
         let marks = marks_at t c in
-        let left = tally_at t c / 8 in
+        let left = mark_width t c in
         let entry = k.listed.entry c i in
         let ms : LineType → List Mark = λ (E : LineType). E.marks in
         let ys = each ms (map (type_at m) places) in
-        let q : each (λ e. to_bits (tally_at t e / 8) (marks_at t e)) places ≡ each mark_bits ys =
-        each_same (λ e. to_bits (tally_at t e / 8) (marks_at t e)) (λ e. each mark_bits (type_at m e).marks) places (λ e j. (k.listed.entry e (place-lt e j)).mark_bits)
+        let q : each (λ e. to_bits (mark_width t e) (marks_at t e)) places ≡ each mark_bits ys =
+        each_same (λ e. to_bits (mark_width t e) (marks_at t e)) (λ e. each mark_bits (type_at m e).marks) places (λ e j. (k.listed.entry e (place-lt e j)).mark_bits)
         ∙ sym (each_map (λ (E : LineType). each mark_bits E.marks) (type_at m) places)
         ∙ sym (each-each ms mark_bits (map (type_at m) places)) in
-        sym (follow-is t marks places left (type_at m c).marks ys (omega (arith, entry.tally)) entry.mark_bits q
+        sym (follow-is t marks places left (type_at m c).marks ys (omega (arith, (packed_at t c).narrow, (packed_at t c).few)) entry.mark_bits q
         (marks-within (type_at m c) (get_d-in m.types no_type c i))
         (λ x j.
         let y = each_of ms (map (type_at m) places) j in

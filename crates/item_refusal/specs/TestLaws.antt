@@ -5,7 +5,7 @@ use native.Mathlib.Omega.{arith}
 use borrow.Author.Tests.{eq-eqb, ne_eqb, lt-ltb, le-ltb}
 use Rattle.bitsets.specs.Bitsets.{members, Lowest, Rest}
 use Rattle.bitsets.specs.BitLaws.{members-next, members-none}
-use Rattle.catalogue.specs.Layout.{marks_at, tally_at, owner_at}
+use Rattle.catalogue.specs.Layout.{marks_at, mark_width, owner_at}
 use Rattle.catalogue.specs.declared.Catalogue.{Catalogue}
 use Rattle.item_refusal.specs.Tests.{behind, follow, repeated}
 
@@ -33,14 +33,14 @@ module _ (marks left next width : ℕ) where
 pub follow_lost : (t : Catalogue) (marks left : ℕ) (l : List ℕ) → left ≡ 64 → follow t marks left l ≡ 64
 unfolding follow
 follow_lost t marks left [] h = h
-follow_lost t marks left (e ∷ l) h = follow_lost t marks (behind marks left (marks_at t e) (tally_at t e / 8)) l (sym (behind-parted marks left (marks_at t e) (tally_at t e / 8) (omega arith)))
+follow_lost t marks left (e ∷ l) h = follow_lost t marks (behind marks left (marks_at t e) (mark_width t e)) l (sym (behind-parted marks left (marks_at t e) (mark_width t e) (omega arith)))
 
 -- one class more, and none
-pub follow_next : (t : Catalogue) (marks left set e r out : ℕ) → Lowest set e → Rest set r → out ≡ behind marks left (marks_at t e) (tally_at t e / 8) → follow t marks left (members set) ≡ follow t marks out (members r)
+pub follow_next : (t : Catalogue) (marks left set e r out : ℕ) → Lowest set e → Rest set r → out ≡ behind marks left (marks_at t e) (mark_width t e) → follow t marks left (members set) ≡ follow t marks out (members r)
 unfolding follow
 follow_next t marks left set e r out l w o = ap (follow t marks left) (members-next set e r l w) ∙ ap (λ (x : ℕ). follow t marks x (members r)) (sym o)
 
-pub follow_stop : (t : Catalogue) (marks left set e r : ℕ) → Lowest set e → Rest set r → 64 ≡ behind marks left (marks_at t e) (tally_at t e / 8) → follow t marks left (members set) ≡ 64
+pub follow_stop : (t : Catalogue) (marks left set e r : ℕ) → Lowest set e → Rest set r → 64 ≡ behind marks left (marks_at t e) (mark_width t e) → follow t marks left (members set) ≡ 64
 follow_stop t marks left set e r l w o = follow_next t marks left set e r 64 l w o ∙ follow_lost t marks 64 (members r) refl
 
 pub follow_end : (t : Catalogue) (marks left set : ℕ) → set ≡ 0 → follow t marks left (members set) ≡ left

@@ -9,7 +9,7 @@ use Rattle.line_laws.specs.Within.{Within}
 use Rattle.rows.specs.Rows.{has_bit}
 use Rattle.bitsets.specs.Bitsets.{members, more, less, first_bits}
 use Rattle.law_classes.specs.Refusal.{lost_class, own_twice}
-use Rattle.catalogue.specs.Layout.{key_at, head_at, marks_at, tally_at, parents_at, own_at, above_at, passed_at, owner_at, first_at, second_at}
+use Rattle.catalogue.specs.Layout.{key_at, head_at, marks_at, mark_width, parents_at, own_at, above_at, passed_at, owner_at, first_at, second_at}
 use Rattle.catalogue.specs.Catalogue.{virtual_head, Catalogued}
 use Rattle.catalogue.specs.declared.Catalogue.{Catalogue}
 
@@ -58,14 +58,14 @@ number_left (Some left) = left
 -- The same behind the marks of the classes in turn (FORMAT 4.7).
 unfoldable pub follow : Catalogue → ℕ → ℕ → List ℕ → ℕ
 follow t marks left [] = left
-follow t marks left (e ∷ l) = follow t marks (behind marks left (marks_at t e) (tally_at t e / 8)) l
+follow t marks left (e ∷ l) = follow t marks (behind marks left (marks_at t e) (mark_width t e)) l
 
 -- Whether the marks of c are those of the classes in turn, that of one word first (FORMAT 4.4, 4.7).
 unfoldable pub same_marks : Catalogue → ℕ → ℕ → Bool
 same_marks t c classes =
     eqb
     (follow t (marks_at t c)
-    (follow t (marks_at t c) (tally_at t c / 8) (members (bit_and classes (second_at t 0))))
+    (follow t (marks_at t c) (mark_width t c) (members (bit_and classes (second_at t 0))))
     (members (less classes (second_at t 0))))
     0
 

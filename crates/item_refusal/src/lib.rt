@@ -106,31 +106,31 @@ fn bits_behind(marks: u64, left: u64, next: u64, width: u64) -> Option<u64>
 }
 
 // The same behind the marks of the classes of a set in turn (FORMAT 4.7).
-// Not Catalogue::mark_width: its remainder is a tally's eighth where a tally is below 512, and this law is of any catalogue.
 #[tactic(auto, using(crate::specs::TestLaws::follow_next, crate::specs::TestLaws::follow_stop, crate::specs::TestLaws::follow_end))]
 fn marks_behind(t: &Catalogue, marks: u64, left: u64, classes: u64) -> Option<u64>
     ensures { number_left result ≡ follow t.now marks left (members classes) }
 {
     let mut rest = left;
     for e in bitsets::members(classes) {
-        rest = bits_behind(marks, rest, t.marks[e], t.tallies[e] / 8)?;
+        let next = t.marks_of(e);
+        rest = bits_behind(marks, rest, next.bits, next.width)?;
     }
     Some(rest)
 }
 
-// Whether the marks of c are those of the classes in turn, that of one word first (FORMAT 4.4, 4.7). They stand as bits and
-// their number, in two columns, so that no derived equality compares them.
+// Whether the marks of c are those of the classes in turn, that of one word first (FORMAT 4.4, 4.7). They stand as bits,
+// and those of classes in turn in several numbers, so that no derived equality compares them.
 #[tactic(auto, using(crate::specs::TestLaws::follow_lost), unfolding(crate::specs::Tests::same_marks))]
 fn same_marks(t: &Catalogue, c: usize, classes: u64) -> bool
     requires { c < 64 }
     ensures { result ≡ same_marks t.now c classes }
 {
-    let marks = t.marks[c];
+    let marks = t.marks_of(c);
     let alone = t.seconds[0];
-    match marks_behind(t, marks, t.tallies[c] / 8, classes & alone) {
+    match marks_behind(t, marks.bits, marks.width, classes & alone) {
         None => false,
         Some(rest) => matches!(
-            marks_behind(t, marks, rest, bitsets::without(classes, alone)),
+            marks_behind(t, marks.bits, rest, bitsets::without(classes, alone)),
             Some(0)
         ),
     }
@@ -173,8 +173,8 @@ fn any_repeated(t: &Catalogue, types: u64, pairs: u64) -> bool
 }
 
 // Whether a type of the map is refused (FORMAT 4.9); `lost` says whether a class is undeclared or no resource, or an own class
-// stands twice, which is seen while the catalogue is made. A name T.r and a class P.r have two words: without such types
-// nothing is left to ask.
+// stands twice, which is seen while the catalogue is made, and is asked here too, so that the answer is the whole of refusal 9. A
+// name T.r and a class P.r have two words: without such types nothing is left to ask.
 #[tactic(auto, using(crate::specs::DecideLaws::decides, crate::specs::DecideLaws::refused_none))]
 pub fn is_refused(t: &Catalogue, lost: bool) -> bool
     ensures { Decides t.now lost result }

@@ -13,49 +13,48 @@ use Rattle.answers.specs.Answers.{Answer}
 use Rattle.catalogue.specs.Catalogue.{Catalogued}
 use Rattle.catalogue.specs.declared.Catalogue.{Catalogue}
 use Rattle.item_pen.specs.Pen.{joined, Penned}
-use Rattle.order_listing.specs.Order.{names_in, names_bits, Placed}
+use Rattle.order_rounds.specs.declared.sequence.Order.{Order}
+use Rattle.order_listing.specs.Order.{names_in, names_bits}
 use Rattle.item_writer.specs.Items.{Sound, WordsAre, all_items}
 use Rattle.item_schedule.specs.declared.Pass.{Pass}
 
 -- ---- the bits
 
 -- How many types, their names in order, how many items, the items (FORMAT 6.1).
-unfoldable pub bits_in : Catalogue → List ℕ → ℕ → ℕ → List Bool
-bits_in t order n items = to_bits 7 n ++ (names_bits t order n ++ (to_bits 16 items ++ joined (all_items t)))
+unfoldable pub bits_in : Catalogue → Order → ℕ → List Bool
+bits_in t order items = to_bits 7 order.types.count ++ (names_bits t order ++ (to_bits 16 items ++ joined (all_items t)))
 
 -- ---- one pass
 
 -- What a pass asks: a catalogue and an order that the code can read, and room where the pen is down.
-pub record Passable (down : Bool) (buf : List ℕ) (t : Catalogue) (words order : List ℕ) (n items : ℕ) : Type 0 where
+pub record Passable (down : Bool) (buf : List ℕ) (t : Catalogue) (words : List ℕ) (order : Order) (items : ℕ) : Type 0 where
   pub sound : Sound t
   pub noted : WordsAre t words
-  pub placed : Placed order n
-  pub fits : down ≡ true → length (bits_in t order n items) ≤ 8 * length buf
-  pub small : length (bits_in t order n items) < 2 ^ 64
+  pub fits : down ≡ true → length (bits_in t order items) ≤ 8 * length buf
+  pub small : length (bits_in t order items) < 2 ^ 64
   pub few : length (all_items t) < 2 ^ 32
 
 -- What it answers: how many items there are, and the bits, counted or written.
-pub record Passed (down : Bool) (before after : List ℕ) (t : Catalogue) (order : List ℕ) (n items : ℕ) (r : Pass) : Type 0 where
+pub record Passed (down : Bool) (before after : List ℕ) (t : Catalogue) (order : Order) (items : ℕ) (r : Pass) : Type 0 where
   pub counted : r.items ≡ length (all_items t)
-  pub penned : Penned down before after 0 r.bits (bits_in t order n items)
+  pub penned : Penned down before after 0 r.bits (bits_in t order items)
 
 -- ---- the schedule
 
--- The catalogue is that of a sheet that none of 3 to 9 refuses, and the names at the first n places are the order of its map
+-- The catalogue is that of a sheet that none of 3 to 9 refuses, and the names of the types in the order are the order of its map
 -- (FORMAT 3.3).
-pub record Orderly (s : Sheet) (t : Catalogue) (order : List ℕ) (n : ℕ) : Type 0 where
+pub record Orderly (s : Sheet) (t : Catalogue) (order : Order) : Type 0 where
   pub readable : Readable s
   pub within : Within s
   pub catalogued : Catalogued s t
   pub accepted : any_refused (line_map s) ≡ false
-  pub placed : Placed order n
-  pub names : names_in t order n ≡ organize_type_map (type_map_of s)
+  pub names : names_in t order ≡ organize_type_map (type_map_of s)
 
 -- There is such a sheet.
-pub record Schedulable (t : Catalogue) (order : List ℕ) (n : ℕ) : Type 0 where
+pub record Schedulable (t : Catalogue) (order : Order) : Type 0 where
   pub sheet : Sheet
-  pub orderly : Orderly sheet t order n
+  pub orderly : Orderly sheet t order
 
 -- Its schedule is listed, whichever sheet it is (FORMAT 6.1, 7.4).
-pub record ListsSchedule (t : Catalogue) (order : List ℕ) (n : ℕ) (entry exit : List ℕ) (r : Answer) : Type 0 where
-  pub lists : (s : Sheet) → Orderly s t order n → Listing entry exit (schedule_bits (schedule_of schedule (type_map_of s))) r
+pub record ListsSchedule (t : Catalogue) (order : Order) (entry exit : List ℕ) (r : Answer) : Type 0 where
+  pub lists : (s : Sheet) → Orderly s t order → Listing entry exit (schedule_bits (schedule_of schedule (type_map_of s))) r

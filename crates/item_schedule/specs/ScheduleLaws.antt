@@ -2,7 +2,7 @@
 use Rattle.std.proofs.Math.Bool.{Bool}
 use Rattle.std.specs.Prelude.{true, false, ◌≡◌, ℕ, ◌+◌, ◌/◌, ◌≤◌, ◌<◌, replicate, Ok, Err}
 use mathlib.Core.List.{List, ◌++◌, map, append_assoc}
-use Rattle.std.proofs.Math.Path.{refl, sym, ap, ap₂, subst}
+use Rattle.std.proofs.Math.Path.{refl, sym, ap, ap₂}
 use Rattle.std.proofs.Common.{◌∙◌, arith, length-append}
 use Rattle.std.proofs.Math.ListN.{length}
 use Rattle.std.proofs.lemmas.List.{length-map}
@@ -27,18 +27,20 @@ use Rattle.line_laws.specs.Size.{schedule-at-most}
 use Rattle.catalogue.specs.Catalogue.{Catalogued}
 use Rattle.catalogue.specs.declared.Catalogue.{Catalogue}
 use Rattle.law_classes.proofs.ItemLaws.{items-by-sets}
+use Rattle.std.specs.Borrow.{MutBor}
 use Rattle.item_pen.specs.declared.field.Field.{Field}
 use Rattle.item_pen.specs.declared.Pen.{Pen}
 use Rattle.item_pen.specs.Pen as pen
-use Rattle.item_pen.specs.Pen.{field_bits, joined, fresh, Penned, RoomFor, Adds, RoomForAll, AddsAll}
-use Rattle.item_pen.specs.PenLaws.{adds_then, adds-as, fresh-is, fresh-few, room_as, room-head, room-tail}
+use Rattle.item_pen.specs.Pen.{field_bits, joined, Begins, RoomFor, Adds, RoomForAll, AddsAll}
+use Rattle.item_pen.specs.PenLaws.{adds_then, adds-as, room_as, room-head, room-tail, room_begun, penned_begun}
 use Rattle.item_writer.specs.Items.{Sound, all_items, Cleared, WordsAre}
 use Rattle.item_writer.proofs.SheetItems.{sound, items-are}
 use Rattle.rows.specs.Rows.{has_bit}
 use Rattle.rows.specs.RowLaws.{bit-none}
 use Rattle.order_rounds.specs.Organized.{Holds, Organized}
+use Rattle.order_rounds.specs.declared.sequence.Order.{Order}
 use Rattle.order_listing.proofs.ListingLaws.{wrote-overwrite, listing-short, listing-written}
-use Rattle.order_listing.proofs.OrderLaws.{placed_of, names-are}
+use Rattle.order_listing.proofs.OrderLaws.{names-are}
 use Rattle.order_listing.specs.Order.{name_of, names_in, names_bits}
 use Rattle.answers.specs.declared.Refusal.TheVariants.{ShortListing}
 use Rattle.item_schedule.specs.declared.Pass.{Pass}
@@ -46,90 +48,84 @@ use Rattle.item_schedule.specs.Schedule.{bits_in, Passable, Passed, Orderly, Sch
 
 -- ---- one pass, part by part
 
-module _ {down : Bool} {buf : List ℕ} {t : Catalogue} {words order : List ℕ} {n items : ℕ} (h : Passable down buf t words order n items) where
+module _ {down : Bool} {lent : MutBor (List ℕ)} {t : Catalogue} {words : List ℕ} {order : Order} {items : ℕ} (h : Passable down lent.now t words order items) {P : Pen} (begun : Begins lent down P) where
   abbrev m : ℕ
   m = length (all_items t)
 
   -- the count of the types, and what is behind it
   abbrev pub types_bits : List Bool
-  types_bits = to_bits 7 n
+  types_bits = to_bits 7 order.types.count
 
   abbrev pub behind_types : List Bool
-  behind_types = names_bits t order n ++ (to_bits 16 items ++ joined (all_items t))
+  behind_types = names_bits t order ++ (to_bits 16 items ++ joined (all_items t))
 
   -- the count of the items, and what is behind it
   abbrev pub behind_names : List Bool
   behind_names = to_bits 16 items ++ joined (all_items t)
 
   abbrev pub Whole : Type 0
-  Whole = RoomFor buf (fresh down) (0 + (0 + (0 + m))) (types_bits ++ behind_types)
+  Whole = RoomFor P (0 + (0 + (0 + m))) (types_bits ++ behind_types)
 
   pub whole : Whole
   unfolding bits_in
-  whole = record {
-    fits = λ d. omega (arith, h.fits (sym (fresh-is down) ∙ d));
-    small = omega (arith, h.small);
-    few = omega (arith, h.few, fresh-few down);
-  }
+  whole = room_begun begun (0 + (0 + (0 + m))) (types_bits ++ behind_types) h.fits h.small (omega (arith, h.few))
 
   module _ {types : Field} (held₁ : pen.Holds types 7 types_bits) where
-    pub room_for_types : RoomFor buf (fresh down) 0 (field_bits types)
+    pub room_for_types : RoomFor P 0 (field_bits types)
     room_for_types = room_as (sym held₁.bits) (room-head 0 (0 + (0 + m)) types_bits behind_types whole)
 
-    module _ {b₁ : List ℕ} {P₁ : Pen} (w₁ : Adds buf b₁ (fresh down) P₁ 0 (field_bits types)) where
-      r₁ : RoomFor b₁ P₁ (0 + (0 + m)) behind_types
+    module _ {P₁ : Pen} (w₁ : Adds P P₁ 0 (field_bits types)) where
+      r₁ : RoomFor P₁ (0 + (0 + m)) behind_types
       r₁ = room-tail 0 (0 + (0 + m)) types_bits behind_types (adds-as held₁.bits w₁) whole
 
-      pub room_for_names : RoomFor b₁ P₁ 0 (names_bits t order n)
-      room_for_names = room-head 0 (0 + m) (names_bits t order n) behind_names r₁
+      pub room_for_names : RoomFor P₁ 0 (names_bits t order)
+      room_for_names = room-head 0 (0 + m) (names_bits t order) behind_names r₁
 
-      module _ {b₂ : List ℕ} {P₂ : Pen} (w₂ : Adds b₁ b₂ P₁ P₂ 0 (names_bits t order n)) where
-        r₂ : RoomFor b₂ P₂ (0 + m) behind_names
-        r₂ = room-tail 0 (0 + m) (names_bits t order n) behind_names w₂ r₁
+      module _ {P₂ : Pen} (w₂ : Adds P₁ P₂ 0 (names_bits t order)) where
+        r₂ : RoomFor P₂ (0 + m) behind_names
+        r₂ = room-tail 0 (0 + m) (names_bits t order) behind_names w₂ r₁
 
         module _ {count : Field} (held₂ : pen.Holds count 16 (to_bits 16 items)) where
-          pub room_for_count : RoomFor b₂ P₂ 0 (field_bits count)
+          pub room_for_count : RoomFor P₂ 0 (field_bits count)
           room_for_count = room_as (sym held₂.bits) (room-head 0 m (to_bits 16 items) (joined (all_items t)) r₂)
 
-          module _ {b₃ : List ℕ} {P₃ : Pen} (w₃ : Adds b₂ b₃ P₂ P₃ 0 (field_bits count)) where
-            pub room_for_items : RoomForAll b₃ P₃ (all_items t)
+          module _ {P₃ : Pen} (w₃ : Adds P₂ P₃ 0 (field_bits count)) where
+            pub room_for_items : RoomForAll P₃ (all_items t)
             room_for_items = room-tail 0 m (to_bits 16 items) (joined (all_items t)) (adds-as held₂.bits w₃) r₂
 
-            module _ {b₄ : List ℕ} {P₄ : Pen} (w₄ : AddsAll b₃ b₄ P₃ P₄ (all_items t)) where
-              added : Adds buf b₄ (fresh down) P₄ (0 + (0 + (0 + m))) (types_bits ++ behind_types)
+            module _ {P₄ : Pen} (w₄ : AddsAll P₃ P₄ (all_items t)) where
+              pub added : Adds P P₄ (0 + (0 + (0 + m))) (types_bits ++ behind_types)
               added = adds_then (adds-as held₁.bits w₁) (adds_then w₂ (adds_then (adds-as held₂.bits w₃) w₄))
 
-              pub passed : Passed down buf b₄ t order n items (record { items = P₄.count / 2; bits = P₄.at })
+              pub passed : {after : List ℕ} → after ≡ P₄.buf.now → Passed down lent.now after t order items (record { items = P₄.items; bits = P₄.at })
               unfolding bits_in
-              passed = record {
-                counted = omega (arith, added.items, fresh-few down);
-                penned = subst (λ d. Penned d buf b₄ 0 P₄.at (types_bits ++ behind_types)) (fresh-is down) added.penned;
-              }
+              passed e =
+                  let p = penned_begun begun added in
+                  record { counted = omega (arith, added.items, begun.items); penned = record { next = p.next; holds = e ∙ p.holds } }
 
 -- ---- the numbers of bits
 
 -- they go by the catalogue and the order alone
-pub bits-long : (t : Catalogue) (order : List ℕ) (n k l : ℕ) → length (bits_in t order n k) ≡ length (bits_in t order n l)
+pub bits-long : (t : Catalogue) (order : Order) (k l : ℕ) → length (bits_in t order k) ≡ length (bits_in t order l)
 unfolding bits_in
-bits-long t order n k l = simp (length-append, length-to_bits)
+bits-long t order k l = simp (length-append, length-to_bits)
 
 -- ---- the order that was found
 
 -- over the sets of a sheet's catalogue
-pub orderly-of : (s : Sheet) (t : Catalogue) (order : List ℕ) (n : ℕ) (whole : Bool) → Readable s → Within s → Catalogued s t → any_refused (line_map s) ≡ false
-    → Holds (type_map_of s) t n whole → Organized t n whole order true → Orderly s t order n
+pub orderly-of : (s : Sheet) (t : Catalogue) (order : Order) (n : ℕ) (whole : Bool) → Readable s → Within s → Catalogued s t → any_refused (line_map s) ≡ false
+    → Holds (type_map_of s) t n whole → Organized t n whole order true → Orderly s t order
 orderly-of s t order n whole r w c a h o = record {
   readable = r;
   within = w;
   catalogued = c;
   accepted = a;
-  placed = placed_of s t order n whole c.listed h o;
   names = names-are s t order n whole c.listed h o;
 }
 
 -- ---- the bits of a sheet
 
-module _ (s : Sheet) (t : Catalogue) (order : List ℕ) (n : ℕ) (h : Orderly s t order n) where
+module _ (s : Sheet) (t : Catalogue) (order : Order) (h : Orderly s t order) where
   -- the items are those of the map
   items-made : all_items t ≡ map item_bits (items_of (line_map s))
   items-made = items-are s t h.within h.catalogued ∙ ap (map item_bits) (sym (items-by-sets s h.readable h.within h.accepted))
@@ -140,72 +136,71 @@ module _ (s : Sheet) (t : Catalogue) (order : List ℕ) (n : ℕ) (h : Orderly s
   items-counted : length (all_items t) ≡ length (items_of (line_map s))
   items-counted = ap length items-made ∙ length-map (items_of (line_map s)) item_bits
 
-  pub bits_are : bits_in t order n (length (all_items t)) ≡ schedule_bits (schedule_of schedule (type_map_of s))
+  pub bits_are : bits_in t order (length (all_items t)) ≡ schedule_bits (schedule_of schedule (type_map_of s))
   unfolding bits_in names_bits names_in schedule_bits schedule_of order_bits
   bits_are =
       let ns = organize_type_map (type_map_of s) in
       let is = items_of (line_map s) in
       let counted : List Bool = to_bits 16 (length is) ++ each item_bits is in
-      let e : n ≡ length ns = sym (length-tabulate (name_of t order) n) ∙ ap length h.names in
-      ap₂ (λ (k : ℕ) (b : List Bool). to_bits 7 n ++ (each name_bits (names_in t order n) ++ (to_bits 16 k ++ b))) items-counted items-joined
+      let e : order.types.count ≡ length ns = sym (length-tabulate (name_of t order.types.items) order.types.count) ∙ ap length h.names in
+      ap₂ (λ (k : ℕ) (b : List Bool). to_bits 7 order.types.count ++ (each name_bits (names_in t order) ++ (to_bits 16 k ++ b))) items-counted items-joined
       ∙ ap₂ (λ (k : ℕ) (l : List Name). to_bits 7 k ++ (each name_bits l ++ counted)) e h.names
       ∙ sym (append_assoc (to_bits 7 (length ns)) (each name_bits ns) counted)
 
   -- as many bits as the schedule has, whatever number stands for that of the items
-  pub as_long : (k : ℕ) → length (bits_in t order n k) ≡ length (schedule_bits (schedule_of schedule (type_map_of s)))
-  as_long k = bits-long t order n k (length (all_items t)) ∙ ap length bits_are
+  pub as_long : (k : ℕ) → length (bits_in t order k) ≡ length (schedule_bits (schedule_of schedule (type_map_of s)))
+  as_long k = bits-long t order k (length (all_items t)) ∙ ap length bits_are
 
-  pub bits_most : (k : ℕ) → length (bits_in t order n k) ≤ 200000000
+  pub bits_most : (k : ℕ) → length (bits_in t order k) ≤ 200000000
   bits_most k = omega (arith, as_long k, schedule-at-most s h.readable h.within)
 
-  passable : (down : Bool) (buf words : List ℕ) (k : ℕ) → WordsAre t words → (down ≡ true → size (length (bits_in t order n k)) ≤ length buf) → Passable down buf t words order n k
+  passable : (down : Bool) (buf words : List ℕ) (k : ℕ) → WordsAre t words → (down ≡ true → size (length (bits_in t order k)) ≤ length buf) → Passable down buf t words order k
   passable down buf words k w f = record {
     sound = sound s t h.within h.catalogued;
     noted = w;
-    placed = h.placed;
     fits = λ d. omega (arith, f d);
     small = omega (arith, bits_most k);
     few = omega (arith, items-counted, items-at-most s h.readable h.within);
   }
 
 -- what the two passes ask
-module _ {t : Catalogue} {order : List ℕ} {n : ℕ} (h : Schedulable t order n) where
+module _ {t : Catalogue} {order : Order} (h : Schedulable t order) where
   pub readable_words : Sound t × Cleared (replicate 64 0)
   readable_words =
       let o = h.orderly in
       (sound h.sheet t o.within o.catalogued, record { none = λ c j. ap (λ (x : ℕ). has_bit x j) (zero-at 64 c) ∙ bit-none j })
 
   module _ {words : List ℕ} (w : WordsAre t words) where
-    pub to_count : {buf : List ℕ} → Passable false buf t words order n 0
-    to_count {buf} = passable h.sheet t order n h.orderly false buf words 0 w (λ d. never d refl)
+    pub to_count : {buf : List ℕ} → Passable false buf t words order 0
+    to_count {buf} = passable h.sheet t order h.orderly false buf words 0 w (λ d. never d refl)
 
-    module _ {entry mid : List ℕ} {r : Pass} (p : Passed false entry mid t order n 0 r) where
-      pub to_write : (r.bits + 7) / 8 ≤ length mid → Passable true mid t words order n r.items
-      to_write l = passable h.sheet t order n h.orderly true mid words r.items w (λ d. omega (arith, p.penned.next, bits-long t order n 0 r.items))
+    module _ {entry mid : List ℕ} {r : Pass} (p : Passed false entry mid t order 0 r) where
+      pub to_write : (r.bits + 7) / 8 ≤ length mid → Passable true mid t words order r.items
+      to_write l = passable h.sheet t order h.orderly true mid words r.items w (λ d. omega (arith, p.penned.next, bits-long t order 0 r.items))
 
-  pub few_bits : {entry mid : List ℕ} {r : Pass} → Passed false entry mid t order n 0 r → r.bits ≤ 200000000
-  few_bits p = omega (arith, p.penned.next, bits_most h.sheet t order n h.orderly 0)
+  pub few_bits : {entry mid : List ℕ} {r : Pass} → Passed false entry mid t order 0 r → r.bits ≤ 200000000
+  few_bits p = omega (arith, p.penned.next, bits_most h.sheet t order h.orderly 0)
 
 -- ---- a listing
 
-module _ {t : Catalogue} {order : List ℕ} {n : ℕ} {entry mid : List ℕ} {r : Pass} (p : Passed false entry mid t order n 0 r) where
-  pub lists_short : length mid < (r.bits + 7) / 8 → ListsSchedule t order n entry mid (Err (ShortListing ((r.bits + 7) / 8)))
+module _ {t : Catalogue} {order : Order} {entry mid : List ℕ} {r : Pass} (p : Passed false entry mid t order 0 r) where
+  pub lists_short : length mid < (r.bits + 7) / 8 → ListsSchedule t order entry mid (Err (ShortListing ((r.bits + 7) / 8)))
   lists_short l = record {
     lists = λ s h.
         let bs = schedule_bits (schedule_of schedule (type_map_of s)) in
-        let e : r.bits ≡ length bs = omega (arith, p.penned.next, as_long s t order n h 0) in
+        let e : r.bits ≡ length bs = omega (arith, p.penned.next, as_long s t order h 0) in
         let same = ap length p.penned.holds in
         listing-short entry mid bs _ (ap size e) (omega (arith, l, same)) p.penned.holds;
   }
 
-  pub lists_long : {exit : List ℕ} {q : Pass} → Passed true mid exit t order n r.items q → (r.bits + 7) / 8 ≤ length mid
-      → ListsSchedule t order n entry exit (Ok ((r.bits + 7) / 8))
+  pub lists_long : {exit : List ℕ} {q : Pass} → Passed true mid exit t order r.items q → (r.bits + 7) / 8 ≤ length mid
+      → ListsSchedule t order entry exit (Ok ((r.bits + 7) / 8))
   lists_long {exit} {q} w l = record {
     lists = λ s h.
         let bs = schedule_bits (schedule_of schedule (type_map_of s)) in
-        let e : r.bits ≡ length bs = omega (arith, p.penned.next, as_long s t order n h 0) in
+        let e : r.bits ≡ length bs = omega (arith, p.penned.next, as_long s t order h 0) in
         let same = ap length p.penned.holds in
-        let is : bits_in t order n r.items ≡ bs = ap (bits_in t order n) p.counted ∙ bits_are s t order n h in
+        let is : bits_in t order r.items ≡ bs = ap (bits_in t order) p.counted ∙ bits_are s t order h in
         let wrote : Wrote entry exit 0 q.bits bs =
         record {
           holds = w.penned.holds ∙ ap₂ (λ (b : List ℕ) (x : List Bool). put b 0 x) p.penned.holds is;

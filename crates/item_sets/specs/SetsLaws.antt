@@ -28,6 +28,16 @@ spread-next order count given old t i row o l h w e p =
       kept = ap (λ (c : Catalogue). record c { above = set t.above a row; passed = set t.passed a q }) p.kept;
     }
 
+-- the same, where a is the place
+pub spread-at : (order : List ℕ) (count : ℕ) (given : List ℕ) (old t : Catalogue) (i a row : ℕ) → a ≡ get_or order i 0 → Ordered order count old.parents → (length t.above ≡ 64) × (length t.passed ≡ 64)
+    → i < count → United (parents_at t a) t.passed row
+    → {new : Catalogue} → new ≡ record t { above = set t.above a row; passed = set t.passed a (bit_or (get_or given a 0) row) } → SpreadPut order i given old t → SpreadPut order (i + 1) given old new
+spread-at order count given old t i a row e o l h u {new} w p =
+    spread-next order count given old t i row o l h
+    (subst (λ (k : ℕ). United (parents_at t k) t.passed row) e u)
+    (subst (λ (k : ℕ). new ≡ record t { above = set t.above k row; passed = set t.passed k (bit_or (get_or given k 0) row) }) e w)
+    p
+
 -- ---- the types that have a record
 
 pub extended_none : (t : Catalogue) → ExtendedIs t 0 0

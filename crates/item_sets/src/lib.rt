@@ -9,15 +9,15 @@ ghost use Rattle.item_sets.specs.Sets.{SpreadPut, RecordKeysFit, ExtendedIs};
 
 use catalogue::Catalogue;
 use item_classes::Classes;
+use order_rounds::Order;
 
 // What each type has from above and what it passes on. In the order each parent stands before its children, so what it passes
 // on is ready when a child's is made.
-pub fn spread(t: &mut Catalogue, given: &[u64; 64], order: &[u64; 64], count: usize)
-    requires ordered { Ordered order.now count t.old.parents }
-    ensures { SpreadPut order.now count given.now t.old t.new }
+pub fn spread(t: &mut Catalogue, given: &[u64; 64], order: &Order)
+    requires ordered { Ordered order.now.types.items order.now.types.count t.old.parents }
+    ensures { SpreadPut order.now.types.items order.now.types.count given.now t.old t.new }
 {
-    for i in 0..count {
-        let a = order[i] as usize;
+    for &a in order.as_slice() {
         let parents = t.parents[a];
         let above = item_spread::united(parents, &t.passed);
         t.above[a] = above;
@@ -42,8 +42,7 @@ pub fn extended_by(t: &Catalogue, count: usize) -> u64
 {
     let mut out: u64 = 0;
     for e in 0..count {
-        let key = t.extension_keys[e];
-        out |= t.type_of(key / 256);
+        out |= t.type_of(t.extensions[e].type_key());
     }
     out
 }

@@ -1,5 +1,5 @@
 -- Sets of classes as numbers, united down the order.
-use Rattle.std.specs.Prelude.{true, false, ◌&&◌, ◌||◌, not, List, ◌≡◌, ℕ, ◌≤◌, ◌<◌, eqb, length, get_or, take}
+use Rattle.std.specs.Prelude.{Bool, true, false, ◌&&◌, ◌||◌, not, List, ◌≡◌, ℕ, ◌≤◌, ◌<◌, eqb, length, get_or, take}
 use Rattle.std.specs.Int.Bits.{bit_and}
 use Rattle.lists.specs.Lists.{any}
 use Rattle.definitions.specs.Records.{Sheet}
@@ -39,8 +39,8 @@ pub record Spread (order : List ℕ) (count : ℕ) (parents given above passed :
 
 -- ---- the parents that pass a word on
 
-pub record WithIf (types p met r : ℕ) : Type 0 where
-  pub bits : (a : ℕ) → has_bit r a ≡ (has_bit types a || (eqb p a && not (eqb met 0)))
+pub record WithIf (types p : ℕ) (met : Bool) (r : ℕ) : Type 0 where
+  pub bits : (a : ℕ) → has_bit r a ≡ (has_bit types a || (eqb p a && met))
 
 pub record Passing (parents : ℕ) (passed : List ℕ) (mask r : ℕ) : Type 0 where
   pub bits : (p : ℕ) → p < 64 → has_bit r p ≡ (has_bit parents p && not (eqb (bit_and (get_or passed p 0) mask) 0))

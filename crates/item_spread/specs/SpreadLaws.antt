@@ -1,7 +1,7 @@
 -- The walk over a set, and the walk down the order.
 use Rattle.std.specs.Prelude.{Bool, true, false, ◌&&◌, ◌||◌, not, List, [], map, ◌≡◌, refl, ℕ, ◌+◌, ◌^◌, ◌≤◌, ◌<◌, eqb, ltb, length, get_or, take, set}
 use Rattle.std.proofs.Math.Bool.{or-false, or_assoc, and-false, and-true}
-use Rattle.std.proofs.Common.{sym, ◌∙◌, subst, arith, eqb-true, ne_eqb, ltb-true, ltb-false, lt-ltb, le-ltb, get_or-set_same, get_or-set_other}
+use Rattle.std.proofs.Common.{sym, ◌∙◌, subst, arith, eqb-true, ltb-true, ltb-false, lt-ltb, le-ltb, get_or-set_same, get_or-set_other}
 use Rattle.std.proofs.Math.Path.{ap, ap₂}
 use Rattle.std.proofs.lemmas.Bool.{eqb-false}
 use Rattle.std.specs.Int.Bits.{bit_and, bit_or}
@@ -147,11 +147,11 @@ spread-more order count parents given above passed i t row o la lp h z u d =
 
 -- ---- the parents that pass a word on
 
-pub with_none : (types p met : ℕ) → met ≡ 0 → WithIf types p met types
+pub with_none : (types p : ℕ) (met : Bool) → met ≡ false → WithIf types p met types
 with_none types p met e = record { bits = λ a. sym (rw e (ap (λ b. has_bit types a || b) (and-false (eqb p a)) ∙ or-false (has_bit types a))) }
 
-pub with-one : (types p met : ℕ) → (met ≡ 0 → ⊥) → WithIf types p met (more types p)
-with-one types p met n = record { bits = λ a. bit-more types p a ∙ ap (λ b. has_bit types a || b) (sym (rw (ne_eqb met 0 n) (and-true (eqb p a)))) }
+pub with_one : (types p : ℕ) (met : Bool) → met ≡ true → WithIf types p met (more types p)
+with_one types p met e = record { bits = λ a. bit-more types p a ∙ ap (λ b. has_bit types a || b) (sym (rw e (and-true (eqb p a)))) }
 
 -- the parents below p; p is the next
 pub record PassingTo (parents : ℕ) (passed : List ℕ) (mask out p : ℕ) : Type 0 where
@@ -177,7 +177,7 @@ module _ (parents : ℕ) (passed : List ℕ) (mask : ℕ) where
   pub passing-none : (p : ℕ) → NextBit parents 0 p → PassingTo parents passed mask 0 p
   passing-none p n = record { most = n.most; live = n.some; bits = λ a. bit-none a ∙ sym (ap (λ b. b && meets a) (le-ltb a 0 (omega arith))) ∙ skip 0 p a n }
 
-  pub passing-more : (out p r next : ℕ) → p < 64 → PassingTo parents passed mask out p → WithIf out p (bit_and (get_or passed p 0) mask) r → NextBit parents (p + 1) next
+  pub passing-more : (out p r next : ℕ) → p < 64 → PassingTo parents passed mask out p → WithIf out p (not (eqb (bit_and (get_or passed p 0) mask) 0)) r → NextBit parents (p + 1) next
       → PassingTo parents passed mask r next
   passing-more out p r next h u w n =
       record {

@@ -6,7 +6,7 @@ use mathlib.Core.List.{List, [], ◌∷◌, ◌++◌, map}
 use Rattle.std.proofs.Math.Logic.{⊎_elim}
 use Rattle.std.proofs.Math.Path.{sym, ap, ap₂}
 use Rattle.std.proofs.Common.{◌∙◌, subst, arith}
-use Prim.Native.Nat.{ℕ, zero, suc, ◌/◌, ◌%◌, ◌<◌}
+use Prim.Native.Nat.{ℕ, zero, suc, ◌<◌}
 use borrow.Author.Tests.{ltb-true, ltb-false}
 use Rattle.std.specs.Int.Bits.{bit_and, bit_or, bit_xor, xor_lt}
 use Rattle.std.proofs.Math.ListN.{length}
@@ -30,8 +30,8 @@ use Rattle.rows.specs.RowLaws.{bit-without}
 use Rattle.law_classes.specs.Sets.{Set, both, some, one_word, masked, own_set, above_set, passed_set, classes_in, making_of, own_making, inherited_making, set_items_at, made_set, set_items_for, set_items, no_type, type_at, SetIs}
 use Rattle.law_classes.specs.Numbers.{Fits, fits_both, holds-both, holds-either, holds-some}
 use Rattle.law_classes.specs.Walks.{filter-twice}
-use Rattle.catalogue.specs.Layout.{key_at, head_at, marks_at, tally_at, parents_at, own_at, above_at, passed_at, word_at, mask_at, second_at}
-use Rattle.catalogue.specs.Catalogue.{virtual_head, trait_head, Entry, Catalogued, marks-wide}
+use Rattle.catalogue.specs.Layout.{key_at, head_at, mark_count, parents_at, own_at, above_at, passed_at, word_at, mask_at, second_at}
+use Rattle.catalogue.specs.Catalogue.{virtual_head, trait_head, Entry, Catalogued}
 use Rattle.catalogue.specs.declared.Catalogue.{Catalogue}
 use Rattle.item_fields.specs.Fields.{line_bits}
 use Rattle.bitsets.specs.Bitsets.{members}
@@ -125,13 +125,13 @@ module _ (s : Sheet) (t : Catalogue) (within : Within s) (c : Catalogued s t) wh
     unfolding marks_bits
     marks-are cs h =
         each_same (marks_bits t) (λ p. each mark_bits (type_at m p).marks) cs
-        (λ p i. marks-wide s t p (entry p (h p i)))
+        (λ p i. (entry p (h p i)).mark_bits)
         ∙ sym (each-each (λ (C : LineType). C.marks) mark_bits (map (type_at m) cs) ∙ each_map (λ (C : LineType). each mark_bits C.marks) (type_at m) cs)
 
     count-is : (cs : List ℕ) → ((p : ℕ) → In p cs → p < n) → marks_in t cs ≡ length (each (λ (C : LineType). C.marks) (map (type_at m) cs))
     unfolding marks_in
     count-is cs h =
-        total-same (λ p. tally_at t p % 8) (λ p. length (type_at m p).marks) cs (λ p i. (entry p (h p i)).mark_count)
+        total-same (λ p. mark_count t p) (λ p. length (type_at m p).marks) cs (λ p i. (entry p (h p i)).mark_count)
         ∙ sym (ap length (each_map (λ (C : LineType). C.marks) (type_at m) cs) ∙ total-each (λ p. (type_at m p).marks) cs)
 
     virtual_is : (cs : List ℕ) → ((p : ℕ) → In p cs → p < n) → all_virtual t cs ≡ all (λ (C : LineType). C.virtual) (map (type_at m) cs)

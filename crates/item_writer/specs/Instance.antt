@@ -8,7 +8,7 @@ use Rattle.lists.specs.Tabulating.{tabulate}
 use Rattle.rows.specs.Rows.{has_bit}
 use Rattle.rows.specs.RowLaws.{bit-none}
 use Rattle.catalogue.specs.declared.Catalogue.{Catalogue}
-use Rattle.catalogue.specs.Layout.{blank, key_at, word_at, extension_count_at}
+use Rattle.catalogue.specs.Layout.{no_word, blank, key_at, word_at, extension_count_at}
 use Rattle.catalogue.specs.Catalogue.{added_in}
 use Rattle.bitsets.specs.Bitsets.{members}
 use Rattle.item_making.specs.Making.{Recorded, added}
@@ -21,11 +21,8 @@ small = record blank {
   keys = 0 ∷ 256 ∷ replicate 62 0;
   heads = 0 ∷ 64 ∷ replicate 62 0;
   own = 2 ∷ replicate 63 0;
-  words = 0 ∷ 1 ∷ replicate 62 0;
-  masks = 1 ∷ 2 ∷ replicate 62 0;
-  extension_keys = 1 ∷ replicate 31 0;
-  extension_counts = 1 ∷ replicate 31 0;
-  extension_parents = (256 ∷ replicate 7 0) ∷ replicate 31 (replicate 8 0);
+  words = record { word = 0; types = 1 } ∷ record { word = 1; types = 2 } ∷ replicate 62 no_word;
+  extensions = record { key = 1; count = 1; parents = 256 ∷ replicate 7 0 } ∷ replicate 31 (record { key = 0; count = 0; parents = replicate 8 0 });
   firsts = 1 ∷ 2 ∷ replicate 254 0;
   seconds = 3 ∷ replicate 255 0;
   count = 2;

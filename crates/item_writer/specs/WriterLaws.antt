@@ -58,7 +58,7 @@ pub record PassingTo (t : Catalogue) (parents mask out left : ℕ) : Type 0 wher
 pub passing_none : (t : Catalogue) (parents mask : ℕ) → PassingTo t parents mask 0 parents
 passing_none t parents mask = record { bits = λ p. ap (λ b. b || passes t parents mask p) (bit-none p) }
 
-pub passing_more : (t : Catalogue) (parents mask out left k r next : ℕ) → Lowest left k → Rest left r → WithIf out k (bit_and (passed_at t k) mask) next
+pub passing_more : (t : Catalogue) (parents mask out left k r next : ℕ) → Lowest left k → Rest left r → WithIf out k (some (bit_and (passed_at t k) mask)) next
     → PassingTo t parents mask out left → PassingTo t parents mask next r
 passing_more t parents mask out left k r next w d f h =
     record {

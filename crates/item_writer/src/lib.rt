@@ -8,7 +8,7 @@ ghost use Rattle.item_pen.specs.Pen.{RoomForAll, AddsAll};
 ghost use Rattle.item_writer.specs.Items.{Sound, PassingIs, CommonIs, WithRecord, RecordsAre, Sited, own_items, inherited_items, word_items, type_items, all_items};
 ghost use Rattle.item_writer.specs.Items.{WordsFill, Cleared, WordsAre};
 
-use catalogue::Catalogue;
+use catalogue::{Catalogue, Extension};
 use item_making::Making;
 use item_pen::Pen;
 
@@ -27,7 +27,7 @@ fn passing(t: &Catalogue, parents: u64, mask: u64) -> u64
 {
     let mut out: u64 = 0;
     for p in bitsets::members(parents) {
-        out = item_spread::with_if(out, p, t.passed[p] & mask);
+        out = item_spread::with_if(out, p, t.passed[p] & mask != 0);
     }
     out
 }
@@ -62,7 +62,7 @@ fn with_record(t: &Catalogue, records: u64, e: usize, key: u64) -> u64
     requires { e < 32 }
     ensures { WithRecord t.now records e key result }
 {
-    if t.extension_keys[e] != key {
+    if t.extensions[e].key != key {
         return records;
     }
     bitsets::with_one(records, e)
@@ -77,7 +77,7 @@ fn records_of(t: &Catalogue, a: usize, word: u64) -> u64
     if !bitsets::has(t.extended, a) {
         return 0;
     }
-    let key = t.keys[a] * 256 + word;
+    let key = Extension::key_of(t.keys[a], word);
     let mut out: u64 = 0;
     for e in 0..t.extension_count {
         out = with_record(t, out, e, key);
@@ -86,12 +86,11 @@ fn records_of(t: &Catalogue, a: usize, word: u64) -> u64
 }
 
 // The own resources of a type and a word, by ascending class (FORMAT 4.3, 5.3).
-fn add_own(buf: &mut [u8], pen: Pen, t: &Catalogue, site: Site, own: u64) -> Pen
+fn add_own(pen: &mut Pen<'_>, t: &Catalogue, site: Site, own: u64)
     requires sited { Sited t.now site }
-    requires room_for_all { RoomForAll buf.old pen (own_items t.now site own) }
-    ensures { AddsAll buf.old buf.new pen result (own_items t.now site own) }
+    requires room_for_all { RoomForAll pen.old (own_items t.now site own) }
+    ensures { AddsAll pen.old pen.new (own_items t.now site own) }
 {
-    let mut to = pen;
     for c in bitsets::members(own) {
         let class = bitsets::with_one(0, c);
         let m = Making {
@@ -101,20 +100,19 @@ fn add_own(buf: &mut [u8], pen: Pen, t: &Catalogue, site: Site, own: u64) -> Pen
             classes: class,
             inherited: false,
         };
-        to = item_making::create_synthetic_resource(buf, to, t, site.place, m);
+        item_making::create_synthetic_resource(pen, t, site.place, m);
     }
-    to
 }
 
 // The inherited resource of a type and a word, if there is a class from above (FORMAT 4.4).
-fn add_inherited(buf: &mut [u8], pen: Pen, t: &Catalogue, site: Site, mask: u64, common: u64) -> Pen
+fn add_inherited(pen: &mut Pen<'_>, t: &Catalogue, site: Site, mask: u64, common: u64)
     requires sited { Sited t.now site × CommonIs t.now (parents_at t.now site.place) common }
-    requires room_for_all { RoomForAll buf.old pen (inherited_items t.now site mask) }
-    ensures { AddsAll buf.old buf.new pen result (inherited_items t.now site mask) }
+    requires room_for_all { RoomForAll pen.old (inherited_items t.now site mask) }
+    ensures { AddsAll pen.old pen.new (inherited_items t.now site mask) }
 {
     let classes = t.above[site.place] & mask;
     if classes == 0 {
-        return pen;
+        return;
     }
     let firsts = passing_of(t, t.parents[site.place], mask, common);
     let m = Making {
@@ -124,28 +122,29 @@ fn add_inherited(buf: &mut [u8], pen: Pen, t: &Catalogue, site: Site, mask: u64,
         classes,
         inherited: true,
     };
-    item_making::create_synthetic_resource(buf, pen, t, site.place, m)
+    item_making::create_synthetic_resource(pen, t, site.place, m);
 }
 
 // The items of a type and the k-th word: own resources, the inherited one, the extension line (FORMAT 5.3).
-fn add_word(buf: &mut [u8], pen: Pen, t: &Catalogue, a: usize, k: usize, common: u64) -> Pen
+fn add_word(pen: &mut Pen<'_>, t: &Catalogue, a: usize, k: usize, common: u64)
     requires sound { Sound t.now × (a < t.now.count) × (k < t.now.word_count) × CommonIs t.now (parents_at t.now a) common }
-    requires room_for_all { RoomForAll buf.old pen (word_items t.now a k) }
-    ensures { AddsAll buf.old buf.new pen result (word_items t.now a k) }
+    requires room_for_all { RoomForAll pen.old (word_items t.now a k) }
+    ensures { AddsAll pen.old pen.new (word_items t.now a k) }
 {
-    let word = t.words[k];
-    let mask = t.masks[k];
+    let word = t.words[k].word;
+    let mask = t.words[k].types;
     let site = Site {
         place: a,
         word,
         records: records_of(t, a, word),
     };
-    let to = add_own(buf, pen, t, site, t.own[a] & mask);
-    let then = add_inherited(buf, to, t, site, mask, common);
-    item_making::extension_line(buf, then, t, a, word)
+    add_own(pen, t, site, t.own[a] & mask);
+    add_inherited(pen, t, site, mask, common);
+    item_making::extension_line(pen, t, a, word);
 }
 
-// The word k is noted for each type of its mask.
+// The word k is noted for each type of its mask. `words`, here and below, is a slice: an array would ask for exactly 64 places,
+// and so more of callers.
 fn fill_word(words: &mut [u64], types: u64, k: usize)
     requires { (64 ≤ length words.old) × (k < 64) }
     ensures { WordsFill words.old types k words.new }
@@ -161,35 +160,31 @@ pub fn fill_words(t: &Catalogue, words: &mut [u64])
     ensures { WordsAre t.now words.new }
 {
     for k in 0..t.word_count {
-        fill_word(words, t.masks[k], k);
+        fill_word(words, t.words[k].types, k);
     }
 }
 
 // The items of a type: its words with a making, ascending (FORMAT 5.3).
-fn add_type(buf: &mut [u8], pen: Pen, t: &Catalogue, words: &[u64], a: usize) -> Pen
+fn add_type(pen: &mut Pen<'_>, t: &Catalogue, words: &[u64], a: usize)
     requires sound { Sound t.now × (a < t.now.count) × (64 ≤ length words.now) × WordsAre t.now words.now }
-    requires room_for_all { RoomForAll buf.old pen (type_items t.now a) }
-    ensures { AddsAll buf.old buf.new pen result (type_items t.now a) }
+    requires room_for_all { RoomForAll pen.old (type_items t.now a) }
+    ensures { AddsAll pen.old pen.new (type_items t.now a) }
 {
     let common = common_of(t, t.parents[a]);
     let made = t.own[a] | t.above[a];
     let noted = item_spread::united(made, words);
-    let mut to = pen;
     for k in bitsets::members(noted) {
-        to = add_word(buf, to, t, a, k, common);
+        add_word(pen, t, a, k, common);
     }
-    to
 }
 
 // The items of all types, in name order (FORMAT 5.3).
-pub fn add_items(buf: &mut [u8], pen: Pen, t: &Catalogue, words: &[u64]) -> Pen
+pub fn add_items(pen: &mut Pen<'_>, t: &Catalogue, words: &[u64])
     requires sound { Sound t.now × (64 ≤ length words.now) × WordsAre t.now words.now }
-    requires room_for_all { RoomForAll buf.old pen (all_items t.now) }
-    ensures { AddsAll buf.old buf.new pen result (all_items t.now) }
+    requires room_for_all { RoomForAll pen.old (all_items t.now) }
+    ensures { AddsAll pen.old pen.new (all_items t.now) }
 {
-    let mut to = pen;
     for a in 0..t.count {
-        to = add_type(buf, to, t, words, a);
+        add_type(pen, t, words, a);
     }
-    to
 }

@@ -2,11 +2,17 @@
 // is none.
 #![tactic(auto)]
 
+use access::Call;
+use printing::Printer;
 use std::io;
 use std::io::BufWriter;
 
 fn main(rt: HostRuntime) -> io::Result<()> {
     let sheet = console::read_up_to(rt.alloc(), &mut rt.reader(), console::SHEET)?;
-    let mut out = BufWriter::new(rt.alloc(), io::writer(&rt))?;
-    printing::print_order(rt.alloc(), &mut out, sheet.as_slice())
+    let out = BufWriter::new(rt.alloc(), io::writer(&rt))?;
+    let mut printer = Printer {
+        alloc: rt.alloc(),
+        out,
+    };
+    printer.print_answer(Call::Order, sheet.as_slice())
 }

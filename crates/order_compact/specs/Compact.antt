@@ -2,10 +2,10 @@
 use Rattle.std.specs.Prelude.{List, ◌≡◌, ℕ, ◌≤◌, ◌<◌, get_or}
 use Rattle.bitsets.specs.Bitsets.{Lowest}
 use Rattle.ordering.specs.Reading as reading
-use Rattle.ordering.specs.Reading.{how_many}
+use Rattle.ordering.specs.Reading.{no_name, how_many}
 use Rattle.ordering.specs.declared.Parent.{Parent}
 use Rattle.ordering.specs.declared.Parents.{Parents}
-use Rattle.fields.specs.Keys.{first_of, second_of}
+use Rattle.fields.specs.Keys.{name_with}
 use Rattle.sheet_draft.specs.Draft.{key_at, parent_count_at, parent_at}
 use Rattle.sheet_draft.specs.declared.Draft.{Draft}
 use Rattle.sheet_draft.specs.declared.entry.Entry.{Entry}
@@ -24,24 +24,21 @@ pub record Drafts (d : Draft) (entries : List Entry) (n : ℕ) : Type 0 where
   pub name : (a : ℕ) → a < n → key_at d (row_of entries a) < 65536
   pub parents : (a : ℕ) → a < n → KeysOf d (row_of entries a)
 
--- Type a: the words of its key, and how many parents it lists.
+-- Type a: the name of its key, and how many parents it lists.
 pub record TypeIs (key count : ℕ) (l : Parents) (a : ℕ) : Type 0 where
-  pub first : get_or l.firsts a 0 ≡ first_of key
-  pub second : get_or l.seconds a 0 ≡ second_of key
+  pub name : get_or l.names a no_name ≡ name_with key
   pub many : how_many l a ≡ count
 
--- A listed parent: the words of its key, and the place of the type that has it, one of n.
+-- A listed parent: the name of its key, and the place of the type that has it, one of n.
 pub record ParentIs (t : Catalogue) (key n : ℕ) (q : Parent) : Type 0 where
-  pub first : q.first ≡ first_of key
-  pub second : q.second ≡ second_of key
+  pub name : q.name ≡ name_with key
   pub place : PlaceIs (looked t key) n q.place
 
 -- What stands of the types before type a is there still.
 pub record KeptBefore (a : ℕ) (old new : Parents) : Type 0 where
   pub count : new.count ≡ old.count
   pub self_word : new.self_word ≡ old.self_word
-  pub firsts : (b : ℕ) → b < a → get_or new.firsts b 0 ≡ get_or old.firsts b 0
-  pub seconds : (b : ℕ) → b < a → get_or new.seconds b 0 ≡ get_or old.seconds b 0
+  pub names : (b : ℕ) → b < a → get_or new.names b no_name ≡ get_or old.names b no_name
   pub counts : (b : ℕ) → b < a → how_many new b ≡ how_many old b
   pub parents : (b i : ℕ) → b < a → reading.parent_at new b i ≡ reading.parent_at old b i
 
@@ -53,7 +50,6 @@ pub record TypePut (t : Catalogue) (d : Draft) (row a n k : ℕ) (old new : Pare
 
 -- The first b of n types; w is the number of the word `self`.
 pub record Stands (t : Catalogue) (d : Draft) (entries : List Entry) (n w b : ℕ) (l : Parents) : Type 0 where
-  pub count : l.count ≡ n
   pub self_word : l.self_word ≡ w
   pub type : (a : ℕ) → a < b → TypeIs (key_at d (row_of entries a)) (parent_count_at d (row_of entries a)) l a
   pub parents : (a k : ℕ) → a < b → k < parent_count_at d (row_of entries a) → ParentIs t (parent_at d (row_of entries a) k) n (reading.parent_at l a k)

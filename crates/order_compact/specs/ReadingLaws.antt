@@ -1,6 +1,6 @@
 -- A filled form reads the map of the draft.
 use Rattle.std.specs.Prelude.{Bool, true, false, List, [], ◌∷◌, map, ◌≡◌, refl, ℕ, zero, suc, ◌%◌, ◌≤◌, ◌<◌, eqb, ltb, length, get_or}
-use Rattle.std.proofs.Math.Path.{sym, ap}
+use Rattle.std.proofs.Math.Path.{sym, ap, ap₂}
 use Rattle.std.proofs.Common.{◌∙◌, subst, arith, eqb-true, lt-ltb, ltb-true}
 use Rattle.std.proofs.lemmas.Bool.{eqb-false}
 use Rattle.lists.specs.Lists.{place_of}
@@ -11,20 +11,21 @@ use Rattle.definitions.specs.Records.{TypeInfo}
 use Rattle.definitions.specs.Comparisons.{same_name}
 use Rattle.definitions.specs.Map.{TypeMap}
 use Rattle.ordering.specs.Lists.{tab, tab-same, map-tab}
-use Rattle.ordering.specs.Reading.{listed, no_type, type_at, place_in, first_word, second_word, parent_in, ReadsType, Reads}
+use Rattle.ordering.specs.Reading.{no_name, listed, no_type, type_at, place_in, first_word, second_word, words_of, parent_in, ReadsType, Reads}
 use Rattle.ordering.specs.declared.Parent.{Parent}
 use Rattle.ordering.specs.Reading as reading
 use Rattle.ordering.specs.declared.Parents.{Parents}
 use Rattle.sheet_keys.specs.Keys.{name_of_key}
 use Rattle.sheet_draft.specs.Draft.{key_at, parent_count_at, parent_at}
-use Rattle.fields.specs.Keys.{first_of, second_of}
+use Rattle.fields.specs.Keys.{first_of, second_of, name_with}
+use Rattle.fields.specs.declared.Name as held
 use Rattle.catalogue.specs.Layout.{looked}
 use Rattle.catalogue.specs.declared.Catalogue.{Catalogue}
 use Rattle.sheet_draft.specs.declared.Draft.{Draft}
 use Rattle.sheet_draft.specs.declared.entry.Entry.{Entry}
 use Rattle.order_parents.specs.Parents.{row_of}
 use Rattle.order_parents.specs.Known.{Looks}
-use Rattle.order_compact.specs.Compact.{PlaceIs, Drafts, Stands}
+use Rattle.order_compact.specs.Compact.{PlaceIs, Drafts, ParentIs, Stands}
 use Rattle.order_compact.specs.Reading.{Drawn, Compacts}
 
 -- the words of a key
@@ -38,6 +39,9 @@ second-word key =
     by (eqb (key % 256) 0)
     (λ e. let z : key % 256 ≡ 0 = eqb-true (key % 256) 0 e in rw e (omega arith))
     (λ e. let z = eqb-false (key % 256) 0 e in rw e (omega (arith, z)))
+
+words-of-key : (key : ℕ) → key < 65536 → name_with key ≡ words_of (name_of_key key)
+words-of-key key h = rw (first-word key h, second-word key) refl
 
 -- the first place of which f holds
 first-place : {A : Type 0} (f : A → Bool) (l : List A) (d : A) (r : ℕ) → r ≤ length l → ((k : ℕ) → k < r → f (get_or l k d) ≡ false) →
@@ -67,23 +71,33 @@ place-of-key m t key r l p =
     let h : r < n = ltb-true r n (and_left (ltb r n) (same_name (name_of_key key) (type_at m r).name) g) in
     sym (first-place f m.types no_type r (omega arith) (λ k i. here k (omega arith) ∙ w.none k i) (λ i. here r h ∙ w.there)))
 
-abbrev parent : ℕ → ℕ → ℕ → Parent
-parent x a b = record { place = x; first = a; second = b }
+abbrev parent : ℕ → held.Name → Parent
+parent x n = record { place = x; name = n }
 
-same-parent : (x a b y c d : ℕ) → x ≡ y → a ≡ c → b ≡ d → parent x a b ≡ parent y c d
-same-parent x a b y c d e f g = rw (e, f, g)
+-- a form with the same columns stands as well
+pub stands_alike : (t : Catalogue) (d : Draft) (entries : List Entry) (n w b : ℕ) (l new : Parents)
+    → new.self_word ≡ l.self_word → new.names ≡ l.names → new.counts ≡ l.counts → new.parents ≡ l.parents
+    → Stands t d entries n w b l → Stands t d entries n w b new
+stands_alike t d entries n w b l new e f h p s = record {
+  self_word = e ∙ s.self_word;
+  type = λ a i. let k = s.type a i in record {
+    name = ap (λ (x : List held.Name). get_or x a no_name) f ∙ k.name;
+    many = ap (λ (x : List ℕ). get_or x a 0) h ∙ k.many;
+  };
+  parents = λ a k i j.
+      subst (ParentIs t (parent_at d (row_of entries a) k) n) (sym (ap (λ (x : List (List Parent)). get_or (get_or x a []) k reading.no_parent) p)) (s.parents a k i j);
+}
 
-module _ (t : Catalogue) (d : Draft) (entries : List Entry) (n w b : ℕ) (l : Parents) (s : Stands t d entries n w b l) (whole : n ≤ b) (a : Drafts d entries n) where
+module _ (t : Catalogue) (d : Draft) (entries : List Entry) (n w b : ℕ) (l : Parents) (s : Stands t d entries n w b l) (counted : l.count ≡ n) (whole : n ≤ b) (a : Drafts d entries n) where
   module _ (m : TypeMap) (g : Drawn m t d entries n w) where
     parent_is : (i k : ℕ) → i < n → k < parent_count_at d (row_of entries i) → reading.parent_at l i k ≡ parent_in m (name_of_key (parent_at d (row_of entries i) k))
     unfolding parent_in
     parent_is i k h e =
         let key = parent_at d (row_of entries i) k in
         let q = s.parents i k (omega (arith, whole)) e in
-        same-parent _ _ _ _ _ _
+        ap₂ parent
         (place-of-key m t key _ (g.rows.looks i k h e) (subst (λ (x : ℕ). PlaceIs (looked t key) x (reading.parent_at l i k).place) g.rows.count q.place))
-        (q.first ∙ first-word key ((a.parents i h).keys k e))
-        (q.second ∙ second-word key)
+        (q.name ∙ words-of-key key ((a.parents i h).keys k e))
 
     type_reads : (i : ℕ) → i < n → ReadsType l m i
     unfolding listed
@@ -91,8 +105,7 @@ module _ (t : Catalogue) (d : Draft) (entries : List Entry) (n w b : ℕ) (l : P
         let key = key_at d (row_of entries i) in
         let k = s.type i (omega (arith, whole)) in
         record {
-          first = k.first ∙ first-word key (a.name i h) ∙ ap first_word (sym (g.names i h));
-          second = k.second ∙ second-word key ∙ ap second_word (sym (g.names i h));
+          name = k.name ∙ words-of-key key (a.name i h) ∙ ap words_of (sym (g.names i h));
           parents =
               ap (tab (λ j. reading.parent_at l i j)) k.many
               ∙ tab-same _ _ (parent_count_at d (row_of entries i)) (λ j e. parent_is i j h e)
@@ -104,12 +117,12 @@ module _ (t : Catalogue) (d : Draft) (entries : List Entry) (n w b : ℕ) (l : P
 
     reads_all : Reads l m
     reads_all = record {
-      count = s.count ∙ g.rows.count;
-      most = omega (arith, s.count, g.rows.few);
+      count = counted ∙ g.rows.count;
+      most = omega (arith, counted, g.rows.few);
       self = s.self_word ∙ g.word;
       word = g.within.word;
       distinct = g.within.distinct;
-      types = λ i h. type_reads i (omega (arith, s.count));
+      types = λ i h. type_reads i (omega (arith, counted));
     }
 
   pub stands_reads : Compacts t d entries n w l

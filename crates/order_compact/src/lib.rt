@@ -10,9 +10,10 @@ ghost use Rattle.order_compact.specs.Reading.{Compacts};
 
 use catalogue::Catalogue;
 use ordering::Parents;
-use sheet_draft::{Draft, Entry};
+use sheet_draft::Draft;
+use sheet_order::ByName;
 
-// The place of the type that has a key; `count` where none has it (FORMAT 1.5), as the column of places has it.
+// The place of the type that has a key, as the `place` of a listed parent: `count` where no type has it (FORMAT 1.5).
 fn place_of(t: &Catalogue, key: u64, count: usize) -> usize
     requires { (key < 65536) × (count ≤ 64) }
     ensures { PlaceIs (looked t.now key) count result × (result ≤ 64) }
@@ -26,12 +27,11 @@ fn place_of(t: &Catalogue, key: u64, count: usize) -> usize
 
 // Type a, which is in a row of the draft: its name and the parents that it lists.
 #[tactic(auto, using(crate::specs::FillLaws::type_start, crate::specs::FillLaws::type_more))]
-fn put_type(l: &mut Parents, t: &Catalogue, d: &Draft, row: usize, a: usize)
-    requires bounds { (a < 64) × (key_at d.now row < 65536) }
+fn put_type(l: &mut Parents, t: &Catalogue, d: &Draft, row: usize, a: usize, count: usize)
+    requires bounds { (a < 64) × (key_at d.now row < 65536) × (count ≤ 64) }
     requires keys_of { KeysOf d.now row }
-    ensures { TypePut t.now d.now row a l.old.count (parent_count_at d.now row) l.old l.new }
+    ensures { TypePut t.now d.now row a count (parent_count_at d.now row) l.old l.new }
 {
-    let count = l.count;
     let many = d.parent_count(row);
     order_table::put_name(l, a, d.rows[row].key);
     l.counts[a] = many as u16;
@@ -43,20 +43,14 @@ fn put_type(l: &mut Parents, t: &Catalogue, d: &Draft, row: usize, a: usize)
 }
 
 // The compact form of the map that the draft has; the catalogue has the names of its types.
-pub fn fill(
-    l: &mut Parents,
-    t: &Catalogue,
-    d: &Draft,
-    entries: &[Entry; 64],
-    count: usize,
-    self_word: u8,
-)
-    requires { Drafts d.now entries.now count }
-    ensures { Compacts t.now d.now entries.now count self_word l.new }
+pub fn fill(l: &mut Parents, t: &Catalogue, x: ByName)
+    requires { Drafts x.draft.now x.entries.now x.read.count }
+    ensures { Compacts t.now x.entry.draft.now x.entry.entries.now x.entry.read.count x.entry.read.own l.new }
 {
-    l.count = count;
-    l.self_word = self_word;
-    for a in 0..count {
-        put_type(l, t, d, entries[a].row, a);
+    l.self_word = x.read.own;
+    for a in 0..x.read.count {
+        put_type(l, t, x.draft, x.entries[a].row, a, x.read.count);
     }
+    // Last: each type below the count lists at most eight parents, which holds once it is put.
+    l.count = x.read.count;
 }

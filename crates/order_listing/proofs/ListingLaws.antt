@@ -14,13 +14,15 @@ use Rattle.bits.specs.WriteLaws.{length-put, put-pack}
 use Rattle.catalogue.specs.Layout.{key_at}
 use Rattle.catalogue.specs.Catalogue.{name_of_key}
 use Rattle.catalogue.specs.declared.Catalogue.{Catalogue}
+use Rattle.std.specs.Borrow.{MutBor}
 use Rattle.item_pen.specs.declared.Pen.{Pen}
-use Rattle.item_pen.specs.Pen.{fresh, RoomFor, Adds}
-use Rattle.item_pen.specs.PenLaws.{adds_then, room-head, room-tail}
+use Rattle.item_pen.specs.Pen.{Begins, RoomFor, Adds}
+use Rattle.item_pen.specs.PenLaws.{adds_then, room-head, room-tail, room_begun, penned_begun}
 use Rattle.item_fields.specs.FieldLaws.{name-alone, name-paired}
 use Rattle.item_making.specs.Walks.{from_next, from_end}
 use Rattle.answers.specs.Answers.{parts}
 use Rattle.answers.specs.declared.Refusal.TheVariants.{ShortListing}
+use Rattle.order_rounds.specs.declared.sequence.Order.{Order}
 use Rattle.order_listing.specs.Listing.{Listing}
 use Rattle.order_listing.specs.Order.{name_of, names_in, names_bits, order_in}
 
@@ -28,12 +30,16 @@ use Rattle.order_listing.specs.Order.{name_of, names_in, names_bits, order_in}
 abbrev pub names_from : Catalogue → List ℕ → ℕ → ℕ → List Bool
 names_from t order n i = each name_bits (drop i (tabulate (name_of t order) n))
 
-pub names-all : (t : Catalogue) (order : List ℕ) (n : ℕ) → names_bits t order n ≡ names_from t order n 0
+pub names-all : (t : Catalogue) (o : Order) → names_bits t o ≡ names_from t o.types.items o.types.count 0
 unfolding names_bits names_in
-names-all t order n = refl
+names-all t o = refl
 
 pub names-next : (t : Catalogue) (order : List ℕ) (n i : ℕ) → i < n → names_from t order n i ≡ name_bits (name_of t order i) ++ names_from t order n (i + 1)
 names-next t order n i h = from_next name_bits (name_of t order) n i h
+
+-- the same, where a is the place
+pub names-at : (t : Catalogue) (order : List ℕ) (n i a : ℕ) → i < n → a ≡ get_or order i 0 → names_from t order n i ≡ name_bits (name_of_key (key_at t a)) ++ names_from t order n (i + 1)
+names-at t order n i a h e = names-next t order n i h ∙ ap (λ (k : ℕ). name_bits (name_of_key (key_at t k)) ++ names_from t order n (i + 1)) (sym e)
 
 pub names-end : (t : Catalogue) (order : List ℕ) (n i : ℕ) → n ≤ i → names_from t order n i ≡ []
 names-end t order n i h = from_end name_bits (name_of t order) n i h
@@ -49,17 +55,19 @@ unfolding name_bits
 paired_long key e =
     sym (rw (name-paired key e, length-append (to_bits 8 (key / 256)) (true ∷ to_bits 8 (key % 256 - 1)), length-to_bits 8 (key / 256), length-to_bits 8 (key % 256 - 1)))
 
--- the first i names
+-- the bits of the first i names
+abbrev pub names_to : Catalogue → List ℕ → ℕ → List Bool
+names_to t order i = each name_bits (tabulate (name_of t order) i)
+
 pub record SizeTo (t : Catalogue) (order : List ℕ) (i bits : ℕ) : Type 0 where
-  pub size : bits ≡ length (names_bits t order i)
+  pub size : bits ≡ length (names_to t order i)
   pub most : bits ≤ 17 * i
 
 pub size_none : (t : Catalogue) (order : List ℕ) → SizeTo t order 0 0
-unfolding names_bits names_in tabulate
+unfolding tabulate
 size_none t order = record { size = refl; most = omega arith }
 
 pub size_more : (t : Catalogue) (order : List ℕ) (i bits x : ℕ) → x ≡ length (name_bits (name_of t order i)) → x ≤ 17 → SizeTo t order i bits → SizeTo t order (i + 1) (bits + x)
-unfolding names_bits names_in
 size_more t order i bits x f h p = record {
   size =
       ap₂ (λ (a b : ℕ). a + b) p.size f
@@ -71,12 +79,22 @@ size_more t order i bits x f h p = record {
 key-size : (key : ℕ) → (x : ℕ) × (x ≡ length (name_bits (name_of_key key))) × (x ≤ 17)
 key-size key = by (eqb (key % 256) 0) (λ e. (9, alone_long key (eqb-true (key % 256) 0 e), omega arith)) (λ e. (17, paired_long key (eqb-false (key % 256) 0 e), omega arith))
 
-pub names-most : (t : Catalogue) (order : List ℕ) (n : ℕ) → length (names_bits t order n) ≤ 17 * n
+-- a name more, at a place of the list of places
+pub size_at : (t : Catalogue) (order : List ℕ) (i bits a x : ℕ) → a ≡ get_or order i 0 → x ≡ length (name_bits (name_of_key (key_at t a))) → x ≤ 17 → SizeTo t order i bits
+    → SizeTo t order (i + 1) (bits + x)
+size_at t order i bits a x e f h p = size_more t order i bits x (f ∙ ap (λ (k : ℕ). length (name_bits (name_of_key (key_at t k)))) e) h p
+
+-- all of them
+pub names_sized : (t : Catalogue) (o : Order) (i bits : ℕ) → i ≡ o.types.count → SizeTo t o.types.items i bits → (bits ≡ length (names_bits t o)) × (bits ≤ 17 * o.types.count)
+unfolding names_bits names_in
+names_sized t o i bits e p = (p.size ∙ ap (λ (k : ℕ). length (names_to t o.types.items k)) e, omega (arith, p.most, e))
+
+pub names-most : (t : Catalogue) (order : List ℕ) (n : ℕ) → length (names_to t order n) ≤ 17 * n
 names-most t order zero = let p = size_none t order in omega (arith, p.size, p.most)
 names-most t order (suc n) =
     let k = key-size (key_at t (get_or order n 0)) in
-    let p = size_more t order n (length (names_bits t order n)) k.0 k.1 k.2 (record { size = refl; most = names-most t order n }) in
-    let e : length (names_bits t order (suc n)) ≡ length (names_bits t order (n + 1)) = ap (λ (x : ℕ). length (names_bits t order x)) (sym (add-one n)) in
+    let p = size_more t order n (length (names_to t order n)) k.0 k.1 k.2 (record { size = refl; most = names-most t order n }) in
+    let e : length (names_to t order (suc n)) ≡ length (names_to t order (n + 1)) = ap (λ (x : ℕ). length (names_to t order x)) (sym (add-one n)) in
     omega (arith, e, p.size, p.most)
 
 -- ---- what is written from the start of a listing
@@ -91,32 +109,40 @@ wrote-overwrite {a} {b} {q} {bs} w h = rw (length-pack_to (size (length bs)) bs)
 
 -- ---- all of it
 
-pub order-parts : (t : Catalogue) (order : List ℕ) (n : ℕ) → order_in t order n ≡ to_bits 7 n ++ names_bits t order n
+pub order-parts : (t : Catalogue) (o : Order) → order_in t o ≡ to_bits 7 o.types.count ++ names_bits t o
 unfolding order_in order_bits names_bits names_in
-order-parts t order n = ap (λ (k : ℕ). to_bits 7 k ++ each name_bits (tabulate (name_of t order) n)) (length-tabulate (name_of t order) n)
+order-parts t o =
+    ap (λ (k : ℕ). to_bits 7 k ++ each name_bits (tabulate (name_of t o.types.items) o.types.count)) (length-tabulate (name_of t o.types.items) o.types.count)
 
-pub order-long : (t : Catalogue) (order : List ℕ) (n : ℕ) → length (order_in t order n) ≡ 7 + length (names_bits t order n)
-order-long t order n = ap length (order-parts t order n) ∙ length-append (to_bits 7 n) (names_bits t order n) ∙ ap (λ (k : ℕ). k + length (names_bits t order n)) (length-to_bits 7 n)
+pub order-long : (t : Catalogue) (o : Order) → length (order_in t o) ≡ 7 + length (names_bits t o)
+order-long t o = ap length (order-parts t o) ∙ length-append (to_bits 7 o.types.count) (names_bits t o) ∙ ap (λ (k : ℕ). k + length (names_bits t o)) (length-to_bits 7 o.types.count)
 
-module _ (buf : List ℕ) (t : Catalogue) (order : List ℕ) (n : ℕ) (small : n ≤ 64) (h : length (order_in t order n) ≤ 8 * length buf) where
-  room : RoomFor buf (fresh true) 0 (to_bits 7 n ++ names_bits t order n)
+bits-most : (t : Catalogue) (o : Order) → length (names_bits t o) ≤ 17 * o.types.count
+unfolding names_bits names_in
+bits-most t o = names-most t o.types.items o.types.count
+
+module _ {lent : MutBor (List ℕ)} {P : Pen} (begun : Begins lent true P) (t : Catalogue) (o : Order) (h : length (order_in t o) ≤ 8 * length lent.now) where
+  abbrev n : ℕ
+  n = o.types.count
+
+  room : RoomFor P 0 (to_bits 7 o.types.count ++ names_bits t o)
   room =
-      let k : length (to_bits 7 n ++ names_bits t order n) ≡ length (order_in t order n) = ap length (sym (order-parts t order n)) in
-      record { fits = λ d. omega (arith, k, h); small = omega (arith, k, order-long t order n, names-most t order n); few = omega arith }
+      let k : length (to_bits 7 n ++ names_bits t o) ≡ length (order_in t o) = ap length (sym (order-parts t o)) in
+      room_begun begun 0 _ (λ d. omega (arith, k, h)) (omega (arith, k, order-long t o, bits-most t o, o.types.few)) (omega arith)
 
-  pub room-types : RoomFor buf (fresh true) 0 (to_bits 7 n)
-  room-types = room-head 0 0 (to_bits 7 n) (names_bits t order n) room
+  pub room-types : RoomFor P 0 (to_bits 7 o.types.count)
+  room-types = room-head 0 0 (to_bits 7 o.types.count) (names_bits t o) room
 
-  module _ {b : List ℕ} {Q : Pen} (w : Adds buf b (fresh true) Q 0 (to_bits 7 n)) where
-    pub room-names : RoomFor b Q 0 (names_bits t order n)
-    room-names = room-tail 0 0 (to_bits 7 n) (names_bits t order n) w room
+  module _ {Q : Pen} (w : Adds P Q 0 (to_bits 7 o.types.count)) where
+    pub room-names : RoomFor Q 0 (names_bits t o)
+    room-names = room-tail 0 0 (to_bits 7 o.types.count) (names_bits t o) w room
 
-    module _ {c : List ℕ} {R : Pen} (v : Adds b c Q R 0 (names_bits t order n)) where
-      pub wrote : Wrote buf c 0 R.at (order_in t order n)
-      wrote =
-          let a = adds_then w v in
-          let k : to_bits 7 n ++ names_bits t order n ≡ order_in t order n = sym (order-parts t order n) in
-          record { holds = a.penned.holds ∙ ap (put buf 0) k; next = a.penned.next ∙ ap (λ (y : List Bool). 0 + length y) k }
+    module _ {R : Pen} (v : Adds Q R 0 (names_bits t o)) where
+      pub wrote : {after : List ℕ} → after ≡ R.buf.now → Wrote lent.now after 0 R.at (order_in t o)
+      wrote e =
+          let a = penned_begun begun (adds_then w v) in
+          let k : to_bits 7 n ++ names_bits t o ≡ order_in t o = sym (order-parts t o) in
+          record { holds = e ∙ a.holds ∙ ap (put lent.now 0) k; next = a.next ∙ ap (λ (y : List Bool). 0 + length y) k }
 
 -- ---- 10 and acceptance
 

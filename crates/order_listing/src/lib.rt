@@ -7,11 +7,12 @@ ghost use Rattle.catalogue.specs.Catalogue.{name_of_key};
 ghost use Rattle.bits.specs.Writing.{Wrote};
 ghost use Rattle.item_pen.specs.Pen.{RoomFor, Adds};
 ghost use Rattle.order_listing.specs.Listing.{Listing};
-ghost use Rattle.order_listing.specs.Order.{names_bits, order_in, Placed};
+ghost use Rattle.order_listing.specs.Order.{names_bits, order_in};
 
 use answers::{Answer, Refusal};
 use catalogue::Catalogue;
 use item_pen::Pen;
+use order_rounds::Order;
 
 // How many bits a name has (FORMAT 2.5).
 #[tactic(auto, using(crate::proofs::ListingLaws::alone_long, crate::proofs::ListingLaws::paired_long))]
@@ -24,55 +25,49 @@ fn name_size(key: u64) -> usize
     17
 }
 
-// How many the names of the types at the first n places have.
+// How many the names of the types have.
 #[tactic(auto, using(crate::proofs::ListingLaws::size_none, crate::proofs::ListingLaws::size_more))]
-fn names_size(t: &Catalogue, order: &[u64; 64], n: usize) -> usize
-    requires { Placed order.now n }
-    ensures { (result ≡ length (names_bits t.now order.now n)) × (result ≤ 17 * n) }
+fn names_size(t: &Catalogue, order: &Order) -> usize
+    ensures { (result ≡ length (names_bits t.now order.now)) × (result ≤ 17 * order.now.types.count) }
 {
     let mut bits: usize = 0;
-    for i in 0..n {
-        let key = t.keys[order[i] as usize];
-        bits += name_size(key);
+    for &a in order.as_slice() {
+        bits += name_size(t.keys[a]);
     }
     bits
 }
 
-// The names of the types at the first n places.
-pub fn add_names(buf: &mut [u8], pen: Pen, t: &Catalogue, order: &[u64; 64], n: usize) -> Pen
-    requires placed { Placed order.now n }
-    requires room_for { RoomFor buf.old pen 0 (names_bits t.now order.now n) }
-    ensures { Adds buf.old buf.new pen result 0 (names_bits t.now order.now n) }
+// The names of the types, in order.
+pub fn add_names(pen: &mut Pen<'_>, t: &Catalogue, order: &Order)
+    requires { RoomFor pen.old 0 (names_bits t.now order.now) }
+    ensures { Adds pen.old pen.new 0 (names_bits t.now order.now) }
 {
-    let mut to = pen;
-    for i in 0..n {
-        let key = t.keys[order[i] as usize];
-        to = item_pen::add(buf, to, item_fields::name_field(key));
+    for &a in order.as_slice() {
+        pen.add(item_fields::name_field(t.keys[a]));
     }
-    to
 }
 
 // How many types there are, and their names in order, from the first bit on (FORMAT 6.5).
-fn write_bits(buf: &mut [u8], t: &Catalogue, order: &[u64; 64], n: usize) -> usize
-    requires placed { Placed order.now n }
-    requires n_len_bound { length (order_in t.now order.now n) ≤ 8 * length buf.old }
-    ensures { Wrote buf.old buf.new 0 result (order_in t.now order.now n) }
+fn write_bits(buf: &mut [u8], t: &Catalogue, order: &Order) -> usize
+    requires { length (order_in t.now order.now) ≤ 8 * length buf.old }
+    ensures { Wrote buf.old buf.new 0 result (order_in t.now order.now) }
 {
-    let types = item_pen::begin(buf, true, item_pen::number(7, n as u64));
-    let names = add_names(buf, types, t, order, n);
-    names.at
+    let count = order.types.count as u64;
+    let mut pen = Pen::new(buf, true);
+    pen.add_once(item_pen::number(7, count));
+    add_names(&mut pen, t, order);
+    pen.at
 }
 
 // Writes the order, and answers its size: acceptance. Nothing is touched where the listing is too short: 10, with the size that
 // is needed (FORMAT 7.4).
-pub fn write_order(listing: &mut [u8], t: &Catalogue, order: &[u64; 64], n: usize) -> Answer
-    requires { Placed order.now n }
-    ensures { Listing listing.old listing.new (order_in t.now order.now n) result }
+pub fn write_order(listing: &mut [u8], t: &Catalogue, order: &Order) -> Answer
+    ensures { Listing listing.old listing.new (order_in t.now order.now) result }
 {
-    let size = (names_size(t, order, n) + 14) / 8;
+    let size = (names_size(t, order) + 14) / 8;
     if listing.len() < size {
         return Err(Refusal::ShortListing(size));
     }
-    write_bits(listing, t, order, n);
+    write_bits(listing, t, order);
     Ok(size)
 }

@@ -5,7 +5,8 @@ ghost use Rattle.std.specs.Prelude.{◌&&◌, not, ◌≡◌, eqb};
 ghost use Rattle.order_parents.specs.Parents.{KeysOf, Prepared, ParentsOf, ParentsPut};
 
 use catalogue::Catalogue;
-use sheet_draft::{Draft, Entry};
+use sheet_draft::Draft;
+use sheet_order::ByName;
 
 // A set of parents; and whether each name that was listed for it is that of a declared type, and not `self`. The set has the
 // declared parents also where some name is not.
@@ -15,11 +16,11 @@ pub struct Found {
     pub whole: bool,
 }
 
-// Whether a listed parent is declared, and not `self`.
-fn is_known(place: u64, key: u64, own: u64) -> bool
-    ensures { result ≡ (not (eqb place 0) && not (eqb key own)) }
+// Whether a listed parent is declared, and not `self`. `named` has the type of that name, if there is one.
+fn is_known(named: u64, key: u64, own: u64) -> bool
+    ensures { result ≡ (not (eqb named 0) && not (eqb key own)) }
 {
-    place != 0 && key != own
+    named != 0 && key != own
 }
 
 // The parents of the type in a row of the draft; `own` is the key of the name `self`.
@@ -31,29 +32,23 @@ fn parents_of(t: &Catalogue, d: &Draft, row: usize, own: u64) -> Found
     let mut whole = true;
     for k in 0..d.parent_count(row) {
         let key = d.parent(row, k);
-        let place = t.type_of(key);
-        set |= place;
-        whole &= is_known(place, key, own);
+        let named = t.type_of(key);
+        set |= named;
+        whole &= is_known(named, key, own);
     }
     Found { set, whole }
 }
 
 // The parents of each type into the catalogue. The answer has the types that are a parent, and whether each listed parent is
 // declared, and none is `self`: without that there is no order (FORMAT 3.2).
-pub fn put_parents(
-    t: &mut Catalogue,
-    d: &Draft,
-    entries: &[Entry; 64],
-    count: usize,
-    own: u64,
-) -> Found
-    requires prepared { Prepared d.now entries.now count }
-    ensures { ParentsPut d.now entries.now own count t.old t.new result }
+pub fn put_parents(t: &mut Catalogue, x: ByName, own: u64) -> Found
+    requires prepared { Prepared x.draft.now x.entries.now x.read.count }
+    ensures { ParentsPut x.entry.draft.now x.entry.entries.now own x.entry.read.count t.old t.new result }
 {
     let mut set: u64 = 0;
     let mut whole = true;
-    for a in 0..count {
-        let found = parents_of(t, d, entries[a].row, own);
+    for a in 0..x.read.count {
+        let found = parents_of(t, x.draft, x.entries[a].row, own);
         t.parents[a] = found.set;
         set |= found.set;
         whole &= found.whole;

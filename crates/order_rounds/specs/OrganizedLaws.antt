@@ -29,6 +29,7 @@ use Rattle.catalogue.specs.declared.Catalogue.{Catalogue}
 use Rattle.order_parents.specs.Known.{known, all_known}
 use Rattle.order_rounds.specs.Rounds.{SetsFor, Sets, Placed}
 use Rattle.order_rounds.specs.Organized.{Holds, Asked, Organized}
+use Rattle.order_rounds.specs.declared.sequence.Order.{Order}
 
 -- ---- lists
 
@@ -156,10 +157,10 @@ holds-true : (t : Catalogue) (n : ℕ) (w : Bool) → w ≡ true → (m : TypeMa
 holds-true t n w z m h = record { within = h.within; count = h.count; sets = h.sets; known = sym z ∙ h.known }
 
 -- a parent that is not known leaves no order
-pub none_found : (t : Catalogue) (n : ℕ) (w : Bool) (order : List ℕ) → w ≡ false → length order ≡ 64 → Organized t n w order false
-none_found t n w order z l = record {
-  long = l;
+pub none_found : (t : Catalogue) (n : ℕ) (w : Bool) (order : Order) → w ≡ false → Organized t n w order false
+none_found t n w order z = record {
   found = λ m h. sym (not_so (λ e. never (order-known m h.within e) (sym h.known ∙ z)));
+  counted = λ e. never e refl;
   names = λ m h e. never e refl;
   ordered = λ e. never e refl;
   within = λ e. never e refl;
@@ -173,63 +174,70 @@ asked-true t n w z a = record { map = a.map; holds = holds-true t n w z a.map a.
 pub some-sets : (t : Catalogue) (n : ℕ) (w : Bool) → w ≡ true → Asked t n w → Sets t n
 some-sets t n w z a = let h = holds-true t n w z a.map a.holds in record { compact = compact_of a.map h.within; right = sets-for a.map t n h }
 
-module _ (t : Catalogue) (n : ℕ) (order : List ℕ) (r : ℕ) (a : Asked t n true) (q : Placed t n order r) where
-  found-is : (m : TypeMap) → Holds m t n true → eqb r n ≡ has_order m
+module _ (t : Catalogue) (n : ℕ) (order : Order) (a : Asked t n true) (q : Placed t n order) where
+  -- how many were placed, and the places
+  abbrev r : ℕ
+  r = order.types.count
+
+  abbrev places : List ℕ
+  places = order.types.items
+
+  found-is : (m : TypeMap) → Holds m t n true → eqb order.types.count n ≡ has_order m
   found-is m h =
       let s = sets-for m t n h in
       let c = compact-reads m h.within in
       sym (order-found (compact_of m h.within) m c ∙ ap₂ (λ (x : Bool) (y : ℕ). not x && eqb y (compact_of m h.within).count) s.no_self (sym (q.count (compact_of m h.within) s)) ∙ ap (eqb r) s.count)
 
-  names-are : (m : TypeMap) → Holds m t n true → r ≡ n → map (λ (b : ℕ). (type_at m b).name) (take n order) ≡ organize_type_map m
+  names-are : (m : TypeMap) → Holds m t n true → order.types.count ≡ n → map (λ (b : ℕ). (type_at m b).name) (take n order.types.items) ≡ organize_type_map m
   names-are m h e =
       let s = sets-for m t n h in
-      ap (map (λ (b : ℕ). (type_at m b).name)) (ap (λ (k : ℕ). take k order) (sym e) ∙ q.places (compact_of m h.within) s)
+      ap (map (λ (b : ℕ). (type_at m b).name)) (ap (λ (k : ℕ). take k places) (sym e) ∙ q.places (compact_of m h.within) s)
       ∙ sym (order_is (compact_of m h.within) m (compact-reads m h.within))
 
-  module _ (e : r ≡ n) where
+  module _ (e : order.types.count ≡ n) where
     abbrev one : Parents
     one = compact_of a.map a.holds.within
 
     right : SetsFor (compact_of a.map a.holds.within) t n
     right = sets-for a.map t n a.holds
 
-    whole : take n order ≡ final one
-    whole = ap (λ (k : ℕ). take k order) (sym e) ∙ q.places one right
+    whole : take n order.types.items ≡ final one
+    whole = ap (λ (k : ℕ). take k places) (sym e) ∙ q.places one right
 
     size : length (final one) ≡ n
     size = sym (q.count one right) ∙ e
 
-    at : (i : ℕ) → i < n → get_or (final one) i 0 ≡ get_or order i 0
-    at i h = ap (λ (l : List ℕ). get_or l i 0) (sym whole) ∙ get_or-take n order i 0 h
+    at : (i : ℕ) → i < n → get_or (final one) i 0 ≡ get_or order.types.items i 0
+    at i h = ap (λ (l : List ℕ). get_or l i 0) (sym whole) ∙ get_or-take n places i 0 h
 
-    place-in : (i : ℕ) → i < n → get_or order i 0 < n
+    place-in : (i : ℕ) → i < n → get_or order.types.items i 0 < n
     place-in i h = let s = right in omega (arith, at i h, at-below one i (omega (arith, size)), s.count)
 
-    has_all : (b : ℕ) → b < n → elem b (take n order) ≡ true
+    has_all : (b : ℕ) → b < n → elem b (take n order.types.items) ≡ true
     unfolding final
     has_all b h = let s = right in rw whole (count-full one one.count (size ∙ sym s.count) b (omega (arith, s.count)))
 
-    ordered-is : Ordered order n t.parents
+    ordered-is : Ordered order.types.items n t.parents
     ordered-is =
         let s = right in
         record {
-          room = omega (arith, q.long, s.few);
+          room = omega (arith, order.types.long, s.few);
           few = s.few;
           place = λ i h. omega (arith, place-in i h, s.few);
           before = λ i b h k f.
-              let x = any_of (λ (y : Parent). eqb y.place b) (listed one (get_or order i 0)) (sym (s.bits (get_or order i 0) b (place-in i h)) ∙ f) in
+              let x = any_of (λ (y : Parent). eqb y.place b) (listed one (get_or places i 0)) (sym (s.bits (get_or places i 0) b (place-in i h)) ∙ f) in
               let z = parent-earlier one s.no_self i (omega (arith, size)) x.0 (subst (λ (y : ℕ). In x.0 (listed one y)) (sym (at i h)) x.1) in
-              ap₂ elem (sym (eqb-true x.0.place b x.2)) (sym (take-take i n order (omega arith)) ∙ ap (take i) whole) ∙ z;
+              ap₂ elem (sym (eqb-true x.0.place b x.2)) (sym (take-take i n places (omega arith)) ∙ ap (take i) whole) ∙ z;
         }
 
-pub organized : (t : Catalogue) (n : ℕ) (w : Bool) (order : List ℕ) (r : ℕ) → w ≡ true → Asked t n w → Placed t n order r → Organized t n w order (eqb r n)
-organized t n w order r z a q =
+pub organized : (t : Catalogue) (n : ℕ) (w : Bool) (order : Order) → w ≡ true → Asked t n w → Placed t n order → Organized t n w order (eqb order.types.count n)
+organized t n w order z a q =
     let b = asked-true t n w z a in
     record {
-      long = q.long;
-      found = λ m h. found-is t n order r b q m (holds-true t n w z m h);
-      names = λ m h e. names-are t n order r b q m (holds-true t n w z m h) (eqb-true r n e);
-      ordered = λ e. ordered-is t n order r b q (eqb-true r n e);
-      within = λ e. place-in t n order r b q (eqb-true r n e);
-      has = λ e. has_all t n order r b q (eqb-true r n e);
+      found = λ m h. found-is t n order b q m (holds-true t n w z m h);
+      counted = λ e. eqb-true order.types.count n e;
+      names = λ m h e. names-are t n order b q m (holds-true t n w z m h) (eqb-true order.types.count n e);
+      ordered = λ e. ordered-is t n order b q (eqb-true order.types.count n e);
+      within = λ e. place-in t n order b q (eqb-true order.types.count n e);
+      has = λ e. has_all t n order b q (eqb-true order.types.count n e);
     }

@@ -1,6 +1,7 @@
 -- The rounds over sets of parents: what each function of them answers.
-use Rattle.std.specs.Prelude.{Bool, true, false, ◌&&◌, ◌||◌, List, ◌++◌, ◌≡◌, ℕ, ◌+◌, ◌^◌, ◌≤◌, ◌<◌, eqb, ltb, length, get_or, take}
+use Rattle.std.specs.Prelude.{Bool, true, false, ◌&&◌, ◌||◌, List, ◌≡◌, ℕ, ◌^◌, ◌≤◌, ◌<◌, eqb, ltb, length, get_or}
 use Rattle.lists.specs.Lists.{any, all}
+use Rattle.bounded.specs.Items.{items_of}
 use Rattle.rows.specs.Rows.{has_bit}
 use Rattle.bitsets.specs.Bitsets.{members}
 use Rattle.ordering.specs.Lists.{elem}
@@ -10,6 +11,7 @@ use Rattle.ordering.specs.Rounds.{lists_self, final}
 use Rattle.ordering.specs.declared.Parents.{Parents}
 use Rattle.catalogue.specs.Layout.{parents_at}
 use Rattle.catalogue.specs.declared.Catalogue.{Catalogue}
+use Rattle.order_rounds.specs.declared.sequence.Order.{Order}
 
 -- Whether each type of a set is in a list.
 unfoldable pub all_listed_in : ℕ → List ℕ → Bool
@@ -39,12 +41,6 @@ pub record ChildrenPut (t : Catalogue) (n : ℕ) (children : List ℕ) (r : ℕ)
   pub bits : (b c : ℕ) → b < 64 → has_bit (get_or children b 0) c ≡ (ltb c n && has_bit (parents_at t c) b)
   pub free : (a : ℕ) → has_bit r a ≡ (ltb a n && eqb (parents_at t a) 0)
 
--- The types of a set stand behind the first n.
-pub record Appended (old new : List ℕ) (n types r : ℕ) : Type 0 where
-  pub long : length new ≡ length old
-  pub count : r ≡ n + length (members types)
-  pub taken : take r new ≡ take n old ++ members types
-
 -- The sets are the parents that a compact form lists, of which none is `self`.
 pub record SetsFor (p : Parents) (t : Catalogue) (n : ℕ) : Type 0 where
   pub few : n ≤ 64
@@ -59,7 +55,6 @@ pub record Sets (t : Catalogue) (n : ℕ) : Type 0 where
   pub right : SetsFor compact t n
 
 -- What all rounds place stands in the order.
-pub record Placed (t : Catalogue) (n : ℕ) (order : List ℕ) (r : ℕ) : Type 0 where
-  pub long : length order ≡ 64
-  pub places : (p : Parents) → SetsFor p t n → take r order ≡ final p
-  pub count : (p : Parents) → SetsFor p t n → r ≡ length (final p)
+pub record Placed (t : Catalogue) (n : ℕ) (order : Order) : Type 0 where
+  pub places : (p : Parents) → SetsFor p t n → items_of order.types ≡ final p
+  pub count : (p : Parents) → SetsFor p t n → order.types.count ≡ length (final p)

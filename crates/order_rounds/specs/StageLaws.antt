@@ -10,7 +10,7 @@ use borrow.Author.Tests.{eq-eqb, eqb-true, eqb-false, ltb-true, ltb-false, lt-lt
 use Rattle.std.specs.Int.Bits.{bit_and}
 use Rattle.std.proofs.lemmas.Nat.{and_le_l}
 use Rattle.std.proofs.Math.Dec.{eqb, ltb}
-use Rattle.std.proofs.Math.ListN.{length, take, length-append}
+use Rattle.std.proofs.Math.ListN.{length, length-append}
 use Rattle.lists.specs.Lists.{In, any, all}
 use Rattle.lists.specs.Tests.{by, never, same_test, not_so, and_left, and_right, or_elim, or_right, any-in, any_of, any-not, any_none, all_in, all_of}
 use Rattle.lists.specs.Appending.{any_append}
@@ -26,7 +26,7 @@ use Rattle.ordering.specs.declared.Parents.{Parents}
 use Rattle.item_spread.specs.Spread.{United}
 use Rattle.catalogue.specs.Layout.{parents_at}
 use Rattle.catalogue.specs.declared.Catalogue.{Catalogue}
-use Rattle.order_rounds.specs.Rounds.{all_listed_in, AllPlaced, ReadyIn, ChildrenPut, Appended, SetsFor}
+use Rattle.order_rounds.specs.Rounds.{all_listed_in, AllPlaced, ReadyIn, ChildrenPut, SetsFor}
 
 -- a set with a number in it has a member
 pub some-member : (x : ℕ) → x < 2 ^ 64 → (x ≡ 0 → ⊥) → 0 < length (members x)
@@ -47,19 +47,18 @@ some_of x h e = let b = some-bit 64 x h e in (b.0, b.1, eq-eqb _ _ b.2)
 and-small : (x y : ℕ) → x < 2 ^ 64 → bit_and x y < 2 ^ 64
 and-small x y h = omega (arith, and_le_l x y)
 
--- the types of a set that was appended are placed
-pub appended-placed : (old new : List ℕ) (n types r : ℕ) → types < 2 ^ 64 → Appended old new n types r → AllPlaced types (take r new)
-appended-placed old new n types r m a = record {
+-- the types of a set behind those placed are placed
+pub appended-placed : (out new : List ℕ) (types : ℕ) → types < 2 ^ 64 → new ≡ out ++ members types → AllPlaced types new
+appended-placed out new types m a = record {
   there = λ b h.
       let l : b < 64 = by (ltb b 64) (λ z. ltb-true b 64 z) (λ z. never h (bit_past 64 types b m (ltb-false b 64 z))) in
-      ap (elem b) a.taken ∙ elem-right b (take n old) (members types) (any-in (eqb b) (in_members types l h) (eq-eqb b b refl));
+      ap (elem b) a ∙ elem-right b out (members types) (any-in (eqb b) (in_members types l h) (eq-eqb b b refl));
 }
 
 module _ (p : Parents) (t : Catalogue) (n : ℕ) where
-  -- after k rounds: the order, the types that are ready now, and those that wait
-  pub record Stage (k size : ℕ) (order : List ℕ) (ready waiting : ℕ) : Type 0 where
-    pub many : size ≡ length (placed p k)
-    pub taken : take size order ≡ placed p k
+  -- after k rounds: the types placed, those that are ready now, and those that wait
+  pub record Stage (k : ℕ) (out : List ℕ) (ready waiting : ℕ) : Type 0 where
+    pub taken : out ≡ placed p k
     pub frees : (a : ℕ) → has_bit ready a ≡ (ltb a n && free p (placed p k) a)
     pub waits : (a : ℕ) → has_bit waiting a ≡ (ltb a n && not (elem a (placed p k)))
 
@@ -102,11 +101,10 @@ module _ (p : Parents) (t : Catalogue) (n : ℕ) where
         some-fails [] q = absurd (omega arith)
         some-fails (y ∷ l) q = refl
 
-    pub stage-none : (order children : List ℕ) (r w : ℕ) → ChildrenPut t n children r → w ≡ first_bits n → Stage 0 0 order r w
+    pub stage-none : (out children : List ℕ) (r w : ℕ) → out ≡ [] → ChildrenPut t n children r → w ≡ first_bits n → Stage 0 out r w
     unfolding placed free
-    stage-none order children r w q e = record {
-      many = refl;
-      taken = none-taken order;
+    stage-none out children r w z q e = record {
+      taken = z;
       frees = λ a.
           q.free a
           ∙ by (ltb a n)
@@ -121,10 +119,6 @@ module _ (p : Parents) (t : Catalogue) (n : ℕ) where
           ∙ sym (all-wait (ltb a n));
     }
       where
-        none-taken : (l : List ℕ) → take 0 l ≡ []
-        none-taken [] = refl
-        none-taken (x ∷ l) = refl
-
         less-of : (x : ℕ) → x ≤ 64 → min x 64 ≡ x
         less-of x h = omega arith
 
@@ -134,21 +128,21 @@ module _ (p : Parents) (t : Catalogue) (n : ℕ) where
 
     -- ---- a further round
 
-    pub next-members : (k size : ℕ) (order : List ℕ) (ready waiting : ℕ) → Stage k size order ready waiting → members ready ≡ next p (placed p k)
+    pub next-members : (k : ℕ) (out : List ℕ) (ready waiting : ℕ) → Stage k out ready waiting → members ready ≡ next p (placed p k)
     unfolding next
-    next-members k size order ready waiting g =
+    next-members k out ready waiting g =
         members-below ready n s.few (λ x h. g.frees x ∙ rw (le-ltb x n h))
         ∙ below-same (has_bit ready) (free p (placed p k)) n (λ x h. g.frees x ∙ rw (lt-ltb x n h))
         ∙ ap (below (free p (placed p k))) (sym s.count)
 
     -- there is room for it
-    pub room : (k size : ℕ) (order : List ℕ) (ready waiting : ℕ) → Stage k size order ready waiting → size + length (members ready) ≤ n
+    pub room : (k : ℕ) (out : List ℕ) (ready waiting : ℕ) → Stage k out ready waiting → length out + length (members ready) ≤ n
     unfolding placed round
-    room k size order ready waiting g =
+    room k out ready waiting g =
         omega (
           arith,
-          g.many,
-          ap length (next-members k size order ready waiting g),
+          ap length g.taken,
+          ap length (next-members k out ready waiting g),
           length-append (placed p k) (next p (placed p k)),
           count_most p (suc k),
           s.count,
@@ -232,11 +226,11 @@ module _ (p : Parents) (t : Catalogue) (n : ℕ) where
     unfolding free
     free-as k a h = ap (λ (b : Bool). not (elem a (placed p (suc k))) && b) (sym (ready-is a h (placed p (suc k))))
 
-    pub stage-more : (k size more : ℕ) (order new : List ℕ) (children : List ℕ) (c ready waiting left near r : ℕ) → Stage k size order ready waiting → Appended order new size ready more
-        → left ≡ less waiting ready → ChildrenPut t n children c → United ready children near → ReadyIn t (bit_and left near) (take more new) r → Stage (suc k) more new r left
-    stage-more k size more order new children c ready waiting left near r g o e v u q =
-        let m = next-members k size order ready waiting g in
-        let taken : take more new ≡ placed p (suc k) = o.taken ∙ ap₂ (λ (x y : List ℕ). x ++ y) g.taken m ∙ placed-more k in
+    pub stage-more : (k : ℕ) (out new children : List ℕ) (c ready waiting left near r : ℕ) → Stage k out ready waiting → new ≡ out ++ members ready
+        → left ≡ less waiting ready → ChildrenPut t n children c → United ready children near → ReadyIn t (bit_and left near) new r → Stage (suc k) new r left
+    stage-more k out new children c ready waiting left near r g o e v u q =
+        let m = next-members k out ready waiting g in
+        let taken : new ≡ placed p (suc k) = o ∙ ap₂ (λ (x y : List ℕ). x ++ y) g.taken m ∙ placed-more k in
         let waits : (a : ℕ) → has_bit left a ≡ (ltb a n && not (elem a (placed p (suc k)))) =
         λ a.
         ap (λ (x : ℕ). has_bit x a) e
@@ -247,7 +241,6 @@ module _ (p : Parents) (t : Catalogue) (n : ℕ) where
         (λ l. rw l (none-waits (elem a (placed p k)) (free p (placed p k) a) ∙ ap not (sym (elem-free k a (ltb-true a n l)))))
         (λ l. rw l) in
         record {
-          many = omega (arith, o.count, g.many, ap length m, ap length (placed-more k), length-append (placed p k) (next p (placed p k)));
           taken = taken;
           waits = waits;
           frees = λ a.
@@ -264,9 +257,8 @@ module _ (p : Parents) (t : Catalogue) (n : ℕ) where
 
     -- ---- the last round
 
-    pub stage-end : (k size : ℕ) (order : List ℕ) (ready waiting : ℕ) → Stage k size order ready waiting → ready ≡ 0 → k ≤ size → (take size order ≡ final p) × (size ≡ length (final p))
+    pub stage-end : (k : ℕ) (out : List ℕ) (ready waiting : ℕ) → Stage k out ready waiting → ready ≡ 0 → k ≤ length out → out ≡ final p
     unfolding final
-    stage-end k size order ready waiting g e h =
-        let none : next p (placed p k) ≡ [] = sym (next-members k size order ready waiting g) ∙ members-none ready e in
-        let l = rests p k p.count (omega (arith, g.many, count_most p k)) none in
-        (g.taken ∙ sym l, g.many ∙ ap length (sym l))
+    stage-end k out ready waiting g e h =
+        let none : next p (placed p k) ≡ [] = sym (next-members k out ready waiting g) ∙ members-none ready e in
+        g.taken ∙ sym (rests p k p.count (omega (arith, ap length g.taken, count_most p k)) none)

@@ -1,7 +1,7 @@
 -- The steps of the loops.
-use Rattle.std.specs.Prelude.{Bool, true, false, ◌&&◌, ◌||◌, not, List, [], ◌∷◌, ◌++◌, ◌≡◌, refl, ℕ, zero, suc, ◌+◌, ◌≤◌, ◌<◌, eqb, ltb, length, get_or, take, set}
+use Rattle.std.specs.Prelude.{Bool, true, false, ◌&&◌, ◌||◌, not, List, [], ◌∷◌, ◌++◌, ◌≡◌, refl, ℕ, zero, suc, ◌+◌, ◌≤◌, ◌<◌, eqb, ltb, length, get_or, set}
 use Rattle.std.proofs.Math.Bool.{or-false, or-true, and-true, and-false}
-use Rattle.std.proofs.Common.{append-nil, append_assoc, sym, ap, ap₂, ◌∙◌, add-one, arith, length-set, take-suc-set, get_or-set_same, get_or-set_other}
+use Rattle.std.proofs.Common.{append-nil, append_assoc, sym, ap, ap₂, ◌∙◌, arith, length-append, length-set, get_or-set_same, get_or-set_other}
 use borrow.Author.Tests.{eq-eqb, ne_eqb, eqb-true, eqb-false, lt-ltb, le-ltb}
 use Rattle.lists.specs.Tests.{by, same_test, and_left, or-false-both, all_in, all_of}
 use Rattle.rows.specs.Rows.{has_bit}
@@ -11,14 +11,17 @@ use Rattle.bitsets.specs.BitLaws.{bit-more, bit-less, rest-is, in_members, membe
 use Rattle.ordering.specs.Lists.{elem}
 use Rattle.catalogue.specs.Layout.{parents_at}
 use Rattle.catalogue.specs.declared.Catalogue.{Catalogue}
-use Rattle.order_rounds.specs.Rounds.{all_listed_in, AllPlaced, ReadyIn, ChildAdded, Childless, ChildrenPut, Appended}
+use Rattle.order_rounds.specs.Rounds.{all_listed_in, AllPlaced, ReadyIn, ChildAdded, Childless, ChildrenPut}
 
--- a number that stands at none of the first n places
-pub elem-none : (x : ℕ) (l : List ℕ) (n : ℕ) → ((i : ℕ) → i < n → get_or l i 0 ≡ x → ⊥) → elem x (take n l) ≡ false
-elem-none x [] zero h = refl
-elem-none x [] (suc n) h = refl
-elem-none x (y ∷ l) zero h = refl
-elem-none x (y ∷ l) (suc n) h = or-false-both (ne_eqb x y (λ e. h 0 (omega arith) (sym e))) (elem-none x l n (λ i k. h (suc i) (omega arith)))
+-- a number that stands at no place of a list, and one that stands at a place
+pub elem-none : (x : ℕ) (l : List ℕ) → ((i : ℕ) → i < length l → get_or l i 0 ≡ x → ⊥) → elem x l ≡ false
+elem-none x [] h = refl
+elem-none x (y ∷ l) h = or-false-both (ne_eqb x y (λ e. h 0 (omega arith) (sym e))) (elem-none x l (λ i k. h (suc i) (omega arith)))
+
+pub elem-there : (x : ℕ) (l : List ℕ) (i : ℕ) → i < length l → get_or l i 0 ≡ x → elem x l ≡ true
+elem-there x [] i h e = absurd (omega arith)
+elem-there x (y ∷ l) zero h e = rw (eq-eqb x y (sym e))
+elem-there x (y ∷ l) (suc i) h e = rw (elem-there x l i (omega arith) e, or-true (eqb x y))
 
 -- ---- the types without parents, and the children of each
 
@@ -205,41 +208,20 @@ module _ (t : Catalogue) (types : ℕ) (out : List ℕ) where
         ∙ p.bits a;
   }
 
--- ---- the types of a set behind those placed
-
-pub record AppendedTo (old : List ℕ) (n types : ℕ) (new : List ℕ) (at left : ℕ) : Type 0 where
-  pub long : length new ≡ length old
-  pub size : at + length (members left) ≡ n + length (members types)
-  pub taken : take at new ++ members left ≡ take n old ++ members types
-
-pub append-none : (old : List ℕ) (n types : ℕ) → AppendedTo old n types old n types
-append-none old n types = record { long = refl; size = refl; taken = refl }
+-- ---- the types of a set behind those placed: those that are left go behind those there
 
 -- there is room for one more
-pub append-room : (old : List ℕ) (n types : ℕ) (new : List ℕ) (at left k : ℕ) → Lowest left k → 0 < left → AppendedTo old n types new at left
-    → n + length (members types) ≤ 64 → at < 64
-append-room old n types new at left k l s p h = omega (arith, p.size, ap length (members-next left k _ l (rest-is left s)))
+pub append-room : (there : List ℕ) (left k : ℕ) (all : List ℕ) → Lowest left k → 0 < left → there ++ members left ≡ all → length all ≤ 64 → length there < 64
+append-room there left k all l s e h =
+    omega (arith, ap length e, length-append there (members left), ap length (members-next left k _ l (rest-is left s)), h)
 
-pub append-more : (old : List ℕ) (n types : ℕ) (new : List ℕ) (at left k rest : ℕ) → Lowest left k → Rest left rest → at < length new → AppendedTo old n types new at left
-    → AppendedTo old n types (set new at k) (at + 1) rest
-append-more old n types new at left k rest l s h p =
-    let e = members-next left k rest l s in
-    record {
-      long = length-set new at k ∙ p.long;
-      size = omega (arith, p.size, ap length e);
-      taken =
-          ap (λ (x : ℕ). take x (set new at k) ++ members rest) (add-one at)
-          ∙ ap (λ (x : List ℕ). x ++ members rest) (take-suc-set new at k h)
-          ∙ append_assoc (take at new) (k ∷ []) (members rest)
-          ∙ ap (λ (x : List ℕ). take at new ++ x) (sym e)
-          ∙ p.taken;
-    }
+pub append-more : (there more : List ℕ) (left k rest : ℕ) (all : List ℕ) → Lowest left k → Rest left rest → more ≡ there ++ (k ∷ []) → there ++ members left ≡ all
+    → more ++ members rest ≡ all
+append-more there more left k rest all l s e p =
+    ap (λ (x : List ℕ). x ++ members rest) e
+    ∙ append_assoc there (k ∷ []) (members rest)
+    ∙ ap (λ (x : List ℕ). there ++ x) (sym (members-next left k rest l s))
+    ∙ p
 
-pub append-all : (old : List ℕ) (n types : ℕ) (new : List ℕ) (at left : ℕ) → left ≡ 0 → AppendedTo old n types new at left → Appended old new n types at
-append-all old n types new at left e p =
-    let z = members-none left e in
-    record {
-      long = p.long;
-      count = omega (arith, p.size, ap length z);
-      taken = sym (append-nil (take at new)) ∙ ap (λ (x : List ℕ). take at new ++ x) (sym z) ∙ p.taken;
-    }
+pub append-all : (there : List ℕ) (left : ℕ) (all : List ℕ) → left ≡ 0 → there ++ members left ≡ all → there ≡ all
+append-all there left all e p = sym (append-nil there) ∙ ap (λ (x : List ℕ). there ++ x) (sym (members-none left e)) ∙ p

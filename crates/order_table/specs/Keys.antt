@@ -1,7 +1,7 @@
--- The listed parent that has the words of a key, and a place.
+-- The listed parent that has the name of a key, and a place.
 use Rattle.std.specs.Prelude.{ℕ}
-use Rattle.fields.specs.Keys.{first_of, second_of}
+use Rattle.fields.specs.Keys.{name_with}
 use Rattle.ordering.specs.declared.Parent.{Parent}
 
 abbrev pub parent_of : ℕ → ℕ → Parent
-parent_of key place = record { place = place; first = first_of key; second = second_of key }
+parent_of key place = record { place = place; name = name_with key }

@@ -14,7 +14,7 @@ use Rattle.definitions.specs.Records.{TypeInfo}
 use Rattle.definitions.specs.Comparisons.{same_name}
 use Rattle.definitions.specs.Map.{TypeMap}
 use Rattle.ordering.specs.Lists.{get_d_any, tab, tab-length, tab-at}
-use Rattle.ordering.specs.Reading.{no_parent, parent_at, how_many, listed, no_type, type_at, first_word, second_word, parent_in, is_name, Reads}
+use Rattle.ordering.specs.Reading.{no_name, no_parent, parent_at, how_many, listed, no_type, type_at, words_of, parent_in, is_name, Reads}
 use Rattle.ordering.specs.declared.Parent.{Parent}
 use Rattle.ordering.specs.declared.Parents.{Parents}
 
@@ -75,12 +75,11 @@ unfoldable pub compact_of : (m : TypeMap) → Within m → Parents
 compact_of m w = record {
   count = length m.types;
   self_word = m.self;
-  firsts = column 64 0 (map (λ (T : TypeInfo). first_word T.name) m.types);
-  seconds = column 64 0 (map (λ (T : TypeInfo). second_word T.name) m.types);
+  names = column 64 no_name (map (λ (T : TypeInfo). words_of T.name) m.types);
   counts = column 64 0 (map (λ (T : TypeInfo). length T.parents) m.types);
   parents = column 64 [] (map (λ (T : TypeInfo). column 8 no_parent (map (parent_in m) T.parents)) m.types);
   few = w.most;
-  short = counts-most m w;
+  short = λ t h. counts-most m w t;
 }
 
 module _ (m : TypeMap) (w : Within m) where
@@ -114,8 +113,7 @@ module _ (m : TypeMap) (w : Within m) where
     word = w.word;
     distinct = w.distinct;
     types = λ t h. record {
-      first = column-map 64 (λ (T : TypeInfo). first_word T.name) m.types t no_type 0 0 w.most h;
-      second = column-map 64 (λ (T : TypeInfo). second_word T.name) m.types t no_type 0 0 w.most h;
+      name = column-map 64 (λ (T : TypeInfo). words_of T.name) m.types t no_type no_name no_name w.most h;
       parents = listed-are t h;
       names = w.names t h;
       most = subst (λ (n : ℕ). n ≤ 8) (sym (count_at t h)) (w.parents t h);

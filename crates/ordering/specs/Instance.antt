@@ -5,8 +5,9 @@ use Rattle.std.specs.Prelude.{false, List, [], ◌∷◌, ◌++◌, refl, ℕ, z
 use Rattle.std.proofs.Common.{arith}
 use Rattle.definitions.specs.Records.{Name, domain, TypeInfo}
 use Rattle.definitions.specs.Map.{TypeMap}
+use Rattle.fields.specs.declared.Name as held
 use Rattle.ordering.specs.Lists.{all_most}
-use Rattle.ordering.specs.Reading.{no_parent, listed, place_in, parent_in, ReadsType, Reads}
+use Rattle.ordering.specs.Reading.{no_name, no_parent, listed, place_in, parent_in, ReadsType, Reads}
 use Rattle.ordering.specs.declared.Parent.{Parent}
 use Rattle.ordering.specs.declared.Parents.{Parents}
 
@@ -21,9 +22,12 @@ small = record {
   extensions = [];
 }
 
--- a listed parent, and the eight of a type
+-- a name, a listed parent, and the eight of a type
+abbrev pub words : ℕ → ℕ → held.Name
+words a b = record { first = a; second = b }
+
 abbrev pub parent : ℕ → ℕ → ℕ → Parent
-parent x a b = record { place = x; first = a; second = b }
+parent x a b = record { place = x; name = words a b }
 
 abbrev pub eight : List Parent → List Parent
 eight l = take 8 (l ++ replicate 8 no_parent)
@@ -32,19 +36,18 @@ abbrev pub compact : Parents
 compact = record {
   count = 3;
   self_word = 3;
-  firsts = 0 ∷ 1 ∷ 1 ∷ replicate 61 0;
-  seconds = 255 ∷ 255 ∷ 0 ∷ replicate 61 0;
+  names = words 0 255 ∷ words 1 255 ∷ words 1 0 ∷ replicate 61 no_name;
   counts = 2 ∷ 3 ∷ 0 ∷ replicate 61 0;
   parents = eight (parent 3 3 255 ∷ parent 3 4 255 ∷ []) ∷ eight (parent 2 1 0 ∷ parent 0 0 255 ∷ parent 1 1 255 ∷ []) ∷ replicate 62 (eight []);
   few = omega arith;
-  short = all_most 8 (2 ∷ 3 ∷ 0 ∷ replicate 61 0) refl;
+  short = λ t h. all_most 8 (2 ∷ 3 ∷ 0 ∷ replicate 61 0) refl t;
 }
 
 small-types : (t : ℕ) → t < 3 → ReadsType compact small t
 unfolding listed place_in parent_in
-small-types zero h = record { first = refl; second = refl; parents = refl; names = refl; most = omega arith }
-small-types (suc zero) h = record { first = refl; second = refl; parents = refl; names = refl; most = omega arith }
-small-types (suc (suc zero)) h = record { first = refl; second = refl; parents = refl; names = refl; most = omega arith }
+small-types zero h = record { name = refl; parents = refl; names = refl; most = omega arith }
+small-types (suc zero) h = record { name = refl; parents = refl; names = refl; most = omega arith }
+small-types (suc (suc zero)) h = record { name = refl; parents = refl; names = refl; most = omega arith }
 small-types (suc (suc (suc t))) h = absurd (omega arith)
 
 pub small-read : Reads compact small

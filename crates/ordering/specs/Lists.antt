@@ -1,5 +1,5 @@
 -- Laws of tests and of lists that the order is proved with. Nothing here knows of types.
-use Rattle.std.specs.Prelude.{Bool, true, false, ◌&&◌, ◌||◌, not, cond, ◌≡◌, refl, ℕ, zero, suc, ◌+◌, ◌≤◌, ◌<◌, eqb, ltb, length, get_or, set, take}
+use Rattle.std.specs.Prelude.{Bool, true, false, ◌&&◌, ◌||◌, not, cond, ◌≡◌, refl, ℕ, zero, suc, ◌+◌, ◌≤◌, ◌<◌, eqb, ltb, length, get_or, take}
 use Rattle.std.proofs.Math.Bool.{or-false, and-true, or-true, and-false}
 use mathlib.Core.List.{List, [], ◌∷◌, ◌++◌, map, append-nil, append_assoc, cons≢nil}
 use Rattle.std.proofs.Common.{⊎_elim, sym, ap, ap₂, ◌∙◌, subst, zero-le, le_of_suc-le-suc, not-suc-le-zero, le_of_eq, eq-or-lt_of_le, add-one, arith, length-append, ext_get_or, eq-eqb, ne_eqb, eqb-true, lt-ltb, ltb-true}
@@ -101,18 +101,11 @@ module _ {A : Type 0} where
   get_d_any (x ∷ l) zero d e h = refl
   get_d_any (x ∷ l) (suc i) d e h = get_d_any l i d e (le_of_suc-le-suc h)
 
--- a list of numbers at most k, and with one of them set
+-- a list of numbers at most k
 pub all_most : (k : ℕ) (l : List ℕ) → all (λ x. ltb x (suc k)) l ≡ true → (i : ℕ) → get_or l i 0 ≤ k
 all_most k [] e i = zero-le
 all_most k (x ∷ l) e zero = le_of_suc-le-suc (ltb-true x (suc k) (and_left (ltb x (suc k)) (all (λ y. ltb y (suc k)) l) e))
 all_most k (x ∷ l) e (suc i) = all_most k l (and_right (ltb x (suc k)) (all (λ y. ltb y (suc k)) l) e) i
-
-pub set_most : (k n : ℕ) → n ≤ k → (l : List ℕ) (i : ℕ) → ((j : ℕ) → get_or l j 0 ≤ k) → (j : ℕ) → get_or (set l i n) j 0 ≤ k
-set_most k n h [] i f j = f j
-set_most k n h (x ∷ l) zero f zero = h
-set_most k n h (x ∷ l) zero f (suc j) = f (suc j)
-set_most k n h (x ∷ l) (suc i) f zero = f 0
-set_most k n h (x ∷ l) (suc i) f (suc j) = set_most k n h l i (λ m. f (suc m)) j
 
 -- what a test fails of in the whole list, it fails of at each place
 pub any_at : {A : Type 0} (f : A → Bool) (l : List A) (d : A) (i : ℕ) → any f l ≡ false → i < length l → f (get_or l i d) ≡ false

@@ -1,32 +1,35 @@
 -- How the compact form reads a type map.
-use Rattle.std.specs.Prelude.{Bool, true, false, ◌&&◌, List, [], map, ◌≡◌, refl, ℕ, ◌≤◌, ◌<◌, eqb, ltb, length, get_or, replicate}
-use Rattle.std.proofs.Common.{zero-le}
+use Rattle.std.specs.Prelude.{Bool, true, false, ◌&&◌, List, [], map, ◌≡◌, ℕ, ◌≤◌, ◌<◌, eqb, ltb, length, get_or, replicate}
+use Rattle.std.proofs.Common.{zero-le, not-suc-le-zero}
 use Rattle.lists.specs.Lists.{all, repeats, place_of}
 use Rattle.definitions.specs.Records.{Name, domain, TypeInfo}
 use Rattle.definitions.specs.Comparisons.{same_name}
 use Rattle.definitions.specs.Map.{TypeMap}
 use Rattle.definitions.specs.Packing.{name_bytes}
-use Rattle.ordering.specs.Lists.{tab, tab-length, all_most}
+use Rattle.fields.specs.declared.Name as held
+use Rattle.ordering.specs.Lists.{tab, tab-length}
 use Rattle.ordering.specs.declared.Parent.{Parent}
 use Rattle.ordering.specs.declared.Parents.{Parents}
 
 -- ---- the compact form by itself
 
--- no parent
+-- no name, and no parent
+abbrev pub no_name : held.Name
+no_name = record { first = 0; second = 0 }
+
 abbrev pub no_parent : Parent
-no_parent = record { place = 0; first = 0; second = 0 }
+no_parent = record { place = 0; name = no_name }
 
 -- the form of no types
 unfoldable pub blank : Parents
 blank = record {
   count = 0;
   self_word = 0;
-  firsts = replicate 64 0;
-  seconds = replicate 64 0;
+  names = replicate 64 no_name;
   counts = replicate 64 0;
   parents = replicate 64 (replicate 8 no_parent);
   few = zero-le;
-  short = all_most 8 (replicate 64 0) refl;
+  short = λ t h. absurd (not-suc-le-zero h);
 }
 
 -- parent i of type t
@@ -46,7 +49,7 @@ listed-length p t = tab-length (λ i. parent_at p t i) (how_many p t)
 
 -- a parent that is spelled `self`
 abbrev pub self_in : Parents → Parent → Bool
-self_in p q = eqb q.first p.self_word && eqb q.second 255
+self_in p q = eqb q.name.first p.self_word && eqb q.name.second 255
 
 -- ---- the type map that it stands for
 
@@ -68,9 +71,12 @@ first_word n = get_or (name_bytes n) 0 255
 abbrev pub second_word : Name → ℕ
 second_word n = get_or (name_bytes n) 1 255
 
--- a listed parent as the compact form has it
+-- a name and a listed parent as the compact form has them
+abbrev pub words_of : Name → held.Name
+words_of n = record { first = first_word n; second = second_word n }
+
 unfoldable pub parent_in : TypeMap → Name → Parent
-parent_in m n = record { place = place_in m n; first = first_word n; second = second_word n }
+parent_in m n = record { place = place_in m n; name = words_of n }
 
 -- no word is the number that stands for none
 abbrev pub is_name : Name → Bool
@@ -78,8 +84,7 @@ is_name n = all (λ w. ltb w 255) n
 
 -- type t is read: its name, and its parents in their order
 pub record ReadsType (p : Parents) (m : TypeMap) (t : ℕ) : Type 0 where
-  pub first : get_or p.firsts t 0 ≡ first_word (type_at m t).name
-  pub second : get_or p.seconds t 0 ≡ second_word (type_at m t).name
+  pub name : get_or p.names t no_name ≡ words_of (type_at m t).name
   pub parents : listed p t ≡ map (parent_in m) (type_at m t).parents
   pub names : all is_name (type_at m t).parents ≡ true
   pub most : how_many p t ≤ 8

@@ -3,28 +3,28 @@
 
 ghost use Rattle.std.specs.Prelude.{◌≡◌, ◌<◌, ◌≤◌, ℕ, get_or};
 
-// A listed parent: the place of the type that it names, which is `count` where no type has the name, and its two words, 255 for
-// none. A parent spelled `self` has both too.
+use fields::Name;
+
+// A listed parent: the place of the type that it names, which is `count` where no type has the name, and its name. A parent
+// spelled `self` has both too.
 #[derive(Clone, Copy)]
 pub struct Parent {
     pub place: u16,
-    pub first: u8,
-    pub second: u8,
+    pub name: Name,
 }
 
-// The names and the parents of the types, in name order. A name is its two words, 255 for none. Type t lists the first counts[t]
-// of the eight parents in its place. Columns: the walks along the parents read no name of a type.
+// The names and the parents of the types, in name order. Type t lists the first counts[t] of the eight parents in its place.
+// Columns: the walks along the parents read no name of a type. A listed parent is asked for by its place in the list, since what is
+// said of a listing, that it is the first to reach its parent or hands on, is a bit at that place.
 #[derive(Drop)]
 pub struct Parents {
     pub count: usize,
     pub self_word: u8,
-    pub firsts: [u8; 64],
-    pub seconds: [u8; 64],
+    pub names: [Name; 64],
     pub counts: [u16; 64],
     pub parents: [[Parent; 8]; 64],
     pub ghost few: { count ≤ 64 },
-    // Of all 64, so that it holds while a form is filled.
-    pub ghost short: { (t : ℕ) → get_or counts t 0 ≤ 8 },
+    pub ghost short: { (t : ℕ) → t < count → get_or counts t 0 ≤ 8 },
 }
 
 impl Parents {
@@ -35,16 +35,15 @@ impl Parents {
     pub fn blank() -> Parents
         ensures { result ≡ blank }
     {
-        let none = Parent {
-            place: 0,
+        let name = Name {
             first: 0,
             second: 0,
         };
+        let none = Parent { place: 0, name };
         Parents {
             count: 0,
             self_word: 0,
-            firsts: [0; 64],
-            seconds: [0; 64],
+            names: [name; 64],
             counts: [0; 64],
             parents: [[none; 8]; 64],
         }
@@ -63,6 +62,7 @@ impl Parents {
         requires { (t < 64) × (i < 8) }
         ensures { result ≡ self_in self.now (parent_at self.now t i) }
     {
-        self.parents[t][i].first == self.self_word && self.parents[t][i].second == 255
+        let name = self.parents[t][i].name;
+        name.first == self.self_word && name.second == 255
     }
 }

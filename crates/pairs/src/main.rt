@@ -10,7 +10,7 @@ use annotations::AnnotationInfo;
 use records::Kind;
 use std::fmt::Display;
 use std::io::{BufReader, BufWriter, Read, Write};
-use std::{fmt, io};
+use std::{fmt, io, iter};
 
 // An annotation as a line holds it.
 #[derive(Clone, Copy)]
@@ -19,7 +19,7 @@ struct Numbers<'a>(&'a AnnotationInfo);
 impl fmt::Display for Numbers<'_> {
     fn fmt<W: fmt::Write>(&self, f: &mut fmt::Formatter<W>) -> fmt::Result {
         let x = self.0;
-        write!(f, "{} {} {}", x.kind.number(), x.tag, x.count)?;
+        write!(f, "{} {} {}", u8::from(x.kind), x.tag, x.count)?;
         for (word, dom) in x.words.iter().zip(x.doms.iter()).take(x.count) {
             write!(f, " {word} {}", dom.a)?;
         }
@@ -92,37 +92,21 @@ impl Pair {
     }
 }
 
-// The pairs of an input, each read when it is asked for.
-#[derive(Drop)]
-struct Pairs<R: Read + Drop> {
-    input: R,
-}
-
-impl<R: Read + Drop> Pairs<R> {
-    // None where the input ends before a pair; what it lacks within one counts as 0.
-    fn read_next(&mut self) -> io::Result<Option<Pair>> {
-        let Some(head) = console::read_array(&mut self.input)? else {
-            return Ok(None);
-        };
-        let x = read_annotation(&mut self.input, head)?;
-        let head = console::read_padded(&mut self.input)?;
-        let y = read_annotation(&mut self.input, head)?;
-        Ok(Some(Pair { x, y }))
-    }
-}
-
-impl<R: Read + Drop> Iterator for Pairs<R> {
-    type Item = io::Result<Pair>;
-
-    fn next(&mut self) -> Option<io::Result<Pair>> {
-        self.read_next().transpose()
-    }
+// The next pair of an input, or None where it ends before one; what it lacks within one counts as 0.
+fn read_pair<R: Read>(input: &mut R) -> io::Result<Option<Pair>> {
+    let Some(head) = console::read_array(input)? else {
+        return Ok(None);
+    };
+    let x = read_annotation(input, head)?;
+    let head = console::read_padded(input)?;
+    let y = read_annotation(input, head)?;
+    Ok(Some(Pair { x, y }))
 }
 
 fn main(rt: HostRuntime) -> io::Result<()> {
-    let input = BufReader::new(rt.alloc(), rt.reader())?;
+    let mut input = BufReader::new(rt.alloc(), rt.reader())?;
     let mut out = BufWriter::new(rt.alloc(), io::writer(&rt))?;
-    let pairs = Pairs { input };
+    let pairs = iter::from_fn(|| read_pair(&mut input).transpose());
     for pair in pairs.take(console::MANY) {
         pair?.answer(&mut out)?;
     }

@@ -6,8 +6,8 @@ use Rattle.std.proofs.Common.{arith}
 use Rattle.lists.specs.Tests.{cons-elim}
 use Rattle.definitions.specs.Map.{TypeMap}
 use Rattle.ordering.specs.Lists.{all_most}
-use Rattle.ordering.specs.Reading.{listed, place_in, parent_in, ReadsType, Reads}
-use Rattle.ordering.specs.Instance.{under, parent, eight}
+use Rattle.ordering.specs.Reading.{no_name, listed, place_in, parent_in, ReadsType, Reads}
+use Rattle.ordering.specs.Instance.{under, words, parent, eight}
 use Rattle.ordering.specs.declared.Parents.{Parents}
 use Rattle.parent_laws.specs.Placed.{ParentsBelow}
 
@@ -23,19 +23,18 @@ abbrev pub chained : Parents
 chained = record {
   count = 3;
   self_word = 4;
-  firsts = 0 ∷ 1 ∷ 2 ∷ replicate 61 0;
-  seconds = 255 ∷ 255 ∷ 255 ∷ replicate 61 0;
+  names = words 0 255 ∷ words 1 255 ∷ words 2 255 ∷ replicate 61 no_name;
   counts = 0 ∷ 1 ∷ 2 ∷ replicate 61 0;
   parents = eight [] ∷ eight (parent 0 0 255 ∷ []) ∷ eight (parent 1 1 255 ∷ parent 1 1 255 ∷ []) ∷ replicate 61 (eight []);
   few = omega arith;
-  short = all_most 8 (0 ∷ 1 ∷ 2 ∷ replicate 61 0) refl;
+  short = λ t h. all_most 8 (0 ∷ 1 ∷ 2 ∷ replicate 61 0) refl t;
 }
 
 chained-types : (t : ℕ) → t < 3 → ReadsType chained chain t
 unfolding listed place_in parent_in
-chained-types zero h = record { first = refl; second = refl; parents = refl; names = refl; most = omega arith }
-chained-types (suc zero) h = record { first = refl; second = refl; parents = refl; names = refl; most = omega arith }
-chained-types (suc (suc zero)) h = record { first = refl; second = refl; parents = refl; names = refl; most = omega arith }
+chained-types zero h = record { name = refl; parents = refl; names = refl; most = omega arith }
+chained-types (suc zero) h = record { name = refl; parents = refl; names = refl; most = omega arith }
+chained-types (suc (suc zero)) h = record { name = refl; parents = refl; names = refl; most = omega arith }
 chained-types (suc (suc (suc t))) h = absurd (omega arith)
 
 pub chained-reads : Reads chained chain

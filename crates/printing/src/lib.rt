@@ -1,7 +1,8 @@
 // What the programs do with a sheet: they lend the slices, call, and print what then stands in them; and with a packed schedule,
-// which is read into records and printed from these. All is written before a function returns.
+// which is read into records and printed from these.
 #![tactic(auto)]
 
+use access::Call;
 use answers::Refusal;
 use emitting::Report;
 use std::alloc::Global;
@@ -15,114 +16,6 @@ const LISTING: usize = 65536;
 // The number of the items as a schedule has it, in bytes.
 const ITEMS: usize = 2;
 
-// So many bytes for each of a schedule suffice for its records (FORMAT 12.2).
-const RECORDS: usize = 16;
-
-// A refusal without rows.
-fn print_refused<W: Write>(out: &mut W, number: usize) -> io::Result<()> {
-    let refused = Refused(number);
-    write!(out, "{refused}")?;
-    out.flush()
-}
-
-// A packed schedule in these words, or why it cannot be read.
-pub fn print_packed<W: Write>(
-    alloc: Global,
-    out: &mut W,
-    words: &Words,
-    schedule: &[u8],
-) -> io::Result<()> {
-    let room = schedule.len().saturating_mul(RECORDS);
-    let mut records = vec![in alloc; 0u8; room]?;
-    match schedule_records::read_schedule(words.width(), schedule, records.as_mut_slice()) {
-        Ok(_) => {
-            let lines = Schedule {
-                words,
-                records: records.as_slice(),
-            };
-            write!(out, "{lines}")?;
-            out.flush()
-        }
-        Err(fault) => print_refused(out, schedule_values::number_of(fault)),
-    }
-}
-
-// The packed schedule of a sheet, at the start of the listing.
-fn print_listed<W: Write>(
-    alloc: Global,
-    out: &mut W,
-    sheet: &[u8],
-    listing: &[u8],
-    size: usize,
-) -> io::Result<()> {
-    let Some(schedule) = listing.get(..size) else {
-        return Ok(());
-    };
-    let words = Words::of_sheet(alloc, sheet)?;
-    print_packed(alloc, out, &words, schedule)
-}
-
-// The rows of a report.
-fn print_rows<W: Write>(
-    alloc: Global,
-    out: &mut W,
-    sheet: &[u8],
-    written: &[u8],
-    report: Report,
-) -> io::Result<()> {
-    let words = Words::of_sheet(alloc, sheet)?;
-    let diagnosis = Diagnosis {
-        words: &words,
-        written,
-        rows: report.rows,
-        more: report.more,
-    };
-    write!(out, "{diagnosis}")?;
-    out.flush()
-}
-
-// Why a sheet is refused, with the rows of 8 and 9.
-fn print_refusal<W: Write>(
-    alloc: Global,
-    out: &mut W,
-    sheet: &[u8],
-    written: &[u8],
-    refusal: Refusal,
-) -> io::Result<()> {
-    print_refused(out, refusal.number())?;
-    match refusal {
-        Refusal::NoOrder(report) => print_rows(alloc, out, sheet, written, report),
-        Refusal::TypeRefused(report) => print_rows(alloc, out, sheet, written, report),
-        _ => Ok(()),
-    }
-}
-
-// The order-only call. What it lists is a schedule without items if their number, 0, stands behind it (FORMAT 6.1).
-pub fn print_order<W: Write>(alloc: Global, out: &mut W, sheet: &[u8]) -> io::Result<()> {
-    let mut listing = vec![in alloc; 0u8; LISTING]?;
-    let mut diagnosis = [0u8; answers::DIAGNOSIS];
-    match access::order(sheet, listing.as_mut_slice(), &mut diagnosis) {
-        Ok(size) => print_listed(
-            alloc,
-            out,
-            sheet,
-            listing.as_slice(),
-            size.saturating_add(ITEMS),
-        ),
-        Err(refusal) => print_refusal(alloc, out, sheet, &diagnosis, refusal),
-    }
-}
-
-// The schedule call.
-pub fn print_schedule<W: Write>(alloc: Global, out: &mut W, sheet: &[u8]) -> io::Result<()> {
-    let mut listing = vec![in alloc; 0u8; LISTING]?;
-    let mut diagnosis = [0u8; answers::DIAGNOSIS];
-    match access::schedule(sheet, listing.as_mut_slice(), &mut diagnosis) {
-        Ok(size) => print_listed(alloc, out, sheet, listing.as_slice(), size),
-        Err(refusal) => print_refusal(alloc, out, sheet, &diagnosis, refusal),
-    }
-}
-
 // Why a sheet cannot be read, by 1 to 7. A listing of one byte is too short or is filled: neither 8 nor 10 is asked for here.
 pub fn unread(sheet: &[u8]) -> Option<Refusal> {
     let mut diagnosis = [0u8; answers::DIAGNOSIS];
@@ -132,20 +25,97 @@ pub fn unread(sheet: &[u8]) -> Option<Refusal> {
     }
 }
 
-// A packed schedule in the words of a sheet that can be read, or the sheet's refusal. Whether the sheet has an order is not
-// asked: its words are there.
-pub fn print_shown<W: Write>(
-    alloc: Global,
-    out: &mut W,
-    sheet: &[u8],
-    schedule: &[u8],
-) -> io::Result<()> {
-    match unread(sheet) {
-        None => {
-            let words = Words::of_sheet(alloc, sheet)?;
-            print_packed(alloc, out, &words, schedule)
+// What the programs print with: all is written before a method returns.
+#[derive(Drop)]
+pub struct Printer<W: Write + Drop> {
+    pub alloc: Global,
+    pub out: W,
+}
+
+impl<W: Write + Drop> Printer<W> {
+    // A refusal without rows.
+    fn print_refused(&mut self, number: usize) -> io::Result<()> {
+        let refused = Refused(number);
+        write!(self.out, "{refused}")?;
+        self.out.flush()
+    }
+
+    // A packed schedule in these words, or why it cannot be read.
+    pub fn print_packed(&mut self, words: &Words, schedule: &[u8]) -> io::Result<()> {
+        let room = schedule.len().saturating_mul(schedule_records::RECORDS);
+        let mut records = vec![in self.alloc; 0u8; room]?;
+        match schedule_records::read_schedule(words.width(), schedule, records.as_mut_slice()) {
+            Ok(_) => {
+                let lines = Schedule {
+                    words,
+                    records: records.as_slice(),
+                };
+                write!(self.out, "{lines}")?;
+                self.out.flush()
+            }
+            Err(fault) => self.print_refused(schedule_values::number_of(fault)),
         }
-        Some(refusal) => print_refused(out, refusal.number()),
+    }
+
+    // The packed schedule of a sheet, at the start of the listing.
+    fn print_listed(&mut self, sheet: &[u8], listing: &[u8], size: usize) -> io::Result<()> {
+        let Some(schedule) = listing.get(..size) else {
+            return Ok(());
+        };
+        let words = Words::of_sheet(self.alloc, sheet)?;
+        self.print_packed(&words, schedule)
+    }
+
+    // The rows of a report.
+    fn print_rows(&mut self, sheet: &[u8], written: &[u8], report: Report) -> io::Result<()> {
+        let words = Words::of_sheet(self.alloc, sheet)?;
+        let diagnosis = Diagnosis {
+            words: &words,
+            written,
+            rows: report.rows,
+            more: report.more,
+        };
+        write!(self.out, "{diagnosis}")?;
+        self.out.flush()
+    }
+
+    // Why a sheet is refused, with the rows of 8 and 9.
+    fn print_refusal(&mut self, sheet: &[u8], written: &[u8], refusal: Refusal) -> io::Result<()> {
+        self.print_refused(refusal.number())?;
+        match refusal {
+            Refusal::NoOrder(report) => self.print_rows(sheet, written, report),
+            Refusal::TypeRefused(report) => self.print_rows(sheet, written, report),
+            _ => Ok(()),
+        }
+    }
+
+    // What a call answers. What the order-only call lists is a schedule without items if their number, 0, stands behind it
+    // (FORMAT 6.1).
+    pub fn print_answer(&mut self, call: Call, sheet: &[u8]) -> io::Result<()> {
+        let mut listing = vec![in self.alloc; 0u8; LISTING]?;
+        let mut diagnosis = [0u8; answers::DIAGNOSIS];
+        match call.run(sheet, listing.as_mut_slice(), &mut diagnosis) {
+            Ok(size) => {
+                let whole = match call {
+                    Call::Order => size.saturating_add(ITEMS),
+                    Call::Schedule => size,
+                };
+                self.print_listed(sheet, listing.as_slice(), whole)
+            }
+            Err(refusal) => self.print_refusal(sheet, &diagnosis, refusal),
+        }
+    }
+
+    // A packed schedule in the words of a sheet that can be read, or the sheet's refusal. Whether the sheet has an order is not
+    // asked: its words are there.
+    pub fn print_shown(&mut self, sheet: &[u8], schedule: &[u8]) -> io::Result<()> {
+        match unread(sheet) {
+            None => {
+                let words = Words::of_sheet(self.alloc, sheet)?;
+                self.print_packed(&words, schedule)
+            }
+            Some(refusal) => self.print_refused(refusal.number()),
+        }
     }
 }
 
@@ -175,31 +145,32 @@ mod tests {
 
     #[test]
     fn prints_sheets(rt: HostRuntime) -> Result<(), Fail> {
-        let mut out = Vec::new(rt.alloc());
-        print_schedule(rt.alloc(), &mut out, &SHEET)?;
-        assert_eq!(rt; out.as_slice(), LINES.as_bytes());
-        out.clear();
-        print_order(rt.alloc(), &mut out, &SHEET)?;
-        assert_eq!(rt; out.as_slice(), ORDER.as_bytes());
-        out.clear();
-        print_order(rt.alloc(), &mut out, b"")?;
-        assert_eq!(rt; out.as_slice(), b"refused 3\n".as_slice());
+        let mut printer = Printer {
+            alloc: rt.alloc(),
+            out: Vec::new(rt.alloc()),
+        };
+        printer.print_answer(Call::Schedule, &SHEET)?;
+        assert_eq!(rt; printer.out.as_slice(), LINES.as_bytes());
+        printer.out.clear();
+        printer.print_answer(Call::Order, &SHEET)?;
+        assert_eq!(rt; printer.out.as_slice(), ORDER.as_bytes());
+        printer.out.clear();
+        printer.print_answer(Call::Order, b"")?;
+        assert_eq!(rt; printer.out.as_slice(), b"refused 3\n".as_slice());
         Ok(())
     }
 
     #[test]
     fn prints_schedules(rt: HostRuntime) -> Result<(), Fail> {
-        let mut out = Vec::new(rt.alloc());
-        print_shown(rt.alloc(), &mut out, &SHEET, &SCHEDULE)?;
-        assert_eq!(rt; out.as_slice(), LINES.as_bytes());
-        out.clear();
-        print_packed(
-            rt.alloc(),
-            &mut out,
-            &Words::unknown(rt.alloc(), 4),
-            &SCHEDULE,
-        )?;
-        assert_eq!(rt; out.as_slice(), NUMBERS.as_bytes());
+        let mut printer = Printer {
+            alloc: rt.alloc(),
+            out: Vec::new(rt.alloc()),
+        };
+        printer.print_shown(&SHEET, &SCHEDULE)?;
+        assert_eq!(rt; printer.out.as_slice(), LINES.as_bytes());
+        printer.out.clear();
+        printer.print_packed(&Words::unknown(rt.alloc(), 4), &SCHEDULE)?;
+        assert_eq!(rt; printer.out.as_slice(), NUMBERS.as_bytes());
         Ok(())
     }
 }

@@ -44,7 +44,7 @@ impl<'a> Reader<'a> {
     }
 }
 
-// The n bits at a position of a sheet. Whoever calls this needs no proof by hand.
+// The n bits at a position of a sheet, and the position behind them.
 pub fn read_at(sheet: &[u8], at: Cursor, n: usize) -> Option<(usize, Cursor)>
     requires { (n ≤ 16) × (8 * length sheet.now < 2 ^ 64) }
     ensures { result ≡ read_at (bits_of sheet.now) at.at n }

@@ -5,9 +5,11 @@
 
 ghost use Rattle.std.specs.Prelude.{◌<◌, length};
 
+use access::Call;
+use printing::Printer;
 use std::alloc::Global;
-use std::io;
 use std::io::{BufReader, BufWriter, Read, Write};
+use std::{io, iter};
 
 // The most bytes of standard input.
 const MOST: u64 = 65536;
@@ -72,7 +74,8 @@ struct Record {
 }
 
 impl Record {
-    fn answer<W: Write>(&mut self, alloc: Global, out: &mut W) -> io::Result<()> {
+    fn answer<W: Write + Drop>(&mut self, printer: &mut Printer<W>) -> io::Result<()> {
+        let out = &mut printer.out;
         match self.mode {
             Mode::Alone => {
                 print(out, self.sheet.as_slice())?;
@@ -86,49 +89,33 @@ impl Record {
                 print_all_flipped(out, self.sheet.as_mut_slice())?;
                 writeln!(out)
             }
-            Mode::Printed => printing::print_order(alloc, out, self.sheet.as_slice()),
+            Mode::Printed => printer.print_answer(Call::Order, self.sheet.as_slice()),
         }
     }
 }
 
-// The records of an input, each read when it is asked for: two bytes for the length of its sheet, its mode, and the sheet.
-#[derive(Drop)]
-struct Records<R: Read + Drop> {
-    alloc: Global,
-    input: R,
-}
-
-impl<R: Read + Drop> Records<R> {
-    // None where the input ends.
-    fn read_next(&mut self) -> io::Result<Option<Record>> {
-        let Some(head) = console::read_array(&mut self.input)? else {
-            return Ok(None);
-        };
-        let [high, low, mode]: [u8; 3] = head;
-        let size = console::two([high, low]);
-        let Some(sheet) = console::read_part(self.alloc, &mut self.input, size, size)? else {
-            return Ok(None);
-        };
-        let mode = Mode::from(mode);
-        Ok(Some(Record { mode, sheet }))
-    }
-}
-
-impl<R: Read + Drop> Iterator for Records<R> {
-    type Item = io::Result<Record>;
-
-    fn next(&mut self) -> Option<io::Result<Record>> {
-        self.read_next().transpose()
-    }
+// The next record of an input, or None where it ends: two bytes for the length of its sheet, its mode, and the sheet.
+fn read_record<R: Read>(alloc: Global, input: &mut R) -> io::Result<Option<Record>> {
+    let Some(head) = console::read_array(input)? else {
+        return Ok(None);
+    };
+    let [high, low, mode]: [u8; 3] = head;
+    let size = console::two([high, low]);
+    let Some(sheet) = console::read_part(alloc, input, size, size)? else {
+        return Ok(None);
+    };
+    let mode = Mode::from(mode);
+    Ok(Some(Record { mode, sheet }))
 }
 
 fn main(rt: HostRuntime) -> io::Result<()> {
     let alloc = rt.alloc();
-    let input = BufReader::new(alloc, rt.reader().take(MOST))?;
-    let mut out = BufWriter::new(alloc, io::writer(&rt))?;
-    let records = Records { alloc, input };
+    let mut input = BufReader::new(alloc, rt.reader().take(MOST))?;
+    let out = BufWriter::new(alloc, io::writer(&rt))?;
+    let mut printer = Printer { alloc, out };
+    let records = iter::from_fn(|| read_record(alloc, &mut input).transpose());
     for record in records.take(console::MANY) {
-        record?.answer(alloc, &mut out)?;
+        record?.answer(&mut printer)?;
     }
-    out.flush()
+    printer.out.flush()
 }

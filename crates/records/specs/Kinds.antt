@@ -1,5 +1,7 @@
 -- The numbers of the kinds of annotations (FORMAT 2.7).
-use Rattle.std.specs.Prelude.{ℕ}
+use Rattle.std.specs.Prelude.{◌≡◌, ℕ, ◌<◌, Result, MatchResult}
+use Rattle.fields.specs.declared.Fault.{Fault}
+use Rattle.fields.specs.declared.Fault.TheVariants.{NotAllowed}
 use Rattle.records.specs.declared.Kind.{Kind}
 use Rattle.records.specs.declared.Kind.TheVariants.{MakeList, Associate, NestAssociate, Alias, Inherit, Derive, NoDerive}
 
@@ -11,3 +13,7 @@ number_of Alias = 3
 number_of Inherit = 4
 number_of Derive = 5
 number_of NoDerive = 6
+
+-- The kind of a number, or why there is none (FORMAT 2.7).
+abbrev pub IsKind : ℕ → Result Kind Fault → Type 0
+IsKind n r = MatchResult r (λ kind. number_of kind ≡ n) (λ fault. (fault ≡ NotAllowed) × (6 < n))

@@ -7,7 +7,7 @@ ghost use Rattle.definitions.specs.Parse.{next, pure, repeat, counted};
 ghost use Rattle.definitions.specs.Reading.{annotation, mark};
 ghost use Rattle.bits.specs.Reading.{Addressable};
 ghost use Rattle.fields.specs.Fields.{of_parsed, of_field, bits_in, of_names};
-ghost use Rattle.records.specs.Kinds.{number_of};
+ghost use Rattle.records.specs.Kinds.{number_of, IsKind};
 ghost use Rattle.records.specs.Annotations.{rows_for, with_kind, annotation_of, of_annotations};
 ghost use Rattle.records.specs.Marks.{mark_of, of_marks};
 
@@ -27,10 +27,8 @@ pub enum Kind {
     NoDerive,
 }
 
-// No TryFrom: who reads a kind tests the bounds of its number first (`read_between`), so the error would never come. No From for
-// the way back: `number` tells what the byte is.
 impl Kind {
-    // The kind of a number.
+    // The kind of a number that is known to have one.
     pub fn of(number: usize) -> Kind
         requires { number ≤ 6 }
         ensures { number_of result ≡ number }
@@ -45,12 +43,29 @@ impl Kind {
             _ => Kind::NoDerive,
         }
     }
+}
 
-    // Its number.
-    pub fn number(self) -> u8
-        ensures { result ≡ number_of self }
-    {
-        self as u8
+// The kind of any three bits: 7 is none (FORMAT 2.7).
+impl TryFrom<usize> for Kind {
+    type Error = Fault;
+
+    ghost try_from_gives = { IsKind };
+
+    fn try_from(number: usize) -> Result<Self, Fault> {
+        if number <= 6 {
+            Ok(Kind::of(number))
+        } else {
+            Err(Fault::NotAllowed)
+        }
+    }
+}
+
+// The number of a kind.
+impl From<Kind> for u8 {
+    ghost from_gives = { λ kind number. number ≡ number_of kind };
+
+    fn from(kind: Kind) -> u8 {
+        kind as u8
     }
 }
 
@@ -145,7 +160,7 @@ pub fn read_annotation(s: Sheet, c: Cursor, single: bool) -> Parsed<Annotation>
     Ok((with_kind(kind, rows), end))
 }
 
-// n annotations: a loop of its own, as each kind of list has.
+// n annotations: a loop of its own, as each kind of list has that is kept.
 #[tactic(auto, using(crate::specs::AnnotationLaws::annotations_none))]
 fn read_each_annotation(s: Sheet, c: Cursor, single: bool, n: usize) -> Parsed<Annotations>
     requires { n ≤ 12 }
@@ -182,7 +197,7 @@ pub fn read_mark(s: &[u8], c: Cursor) -> Parsed<Mark>
     }
 }
 
-// n marks: a loop of its own, as each kind of list has.
+// n marks: a loop of its own, as each kind of list has that is kept.
 #[tactic(auto, using(crate::specs::MarkLaws::marks_none))]
 fn read_each_mark(s: &[u8], c: Cursor, n: usize) -> Parsed<Marks>
     requires { Addressable s.now × (n ≤ 7) }

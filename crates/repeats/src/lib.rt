@@ -8,14 +8,8 @@ ghost use Rattle.definitions.specs.Checks.{same_annotation};
 ghost use Rattle.records.specs.Annotations.{annotation_of, word_of_rows, zero_annotation, of_annotations};
 ghost use Rattle.repeats.specs.Repeats.{words_of, rows_of, row_at, repeats_word, same_content, repeats_in};
 
+use bits::byte_at;
 use records::{Annotation, Annotations, Kind};
-
-// The byte at i; 0 past the array.
-fn byte_at(bytes: &[u8; 15], i: usize) -> u8
-    ensures { result ≡ get_or bytes.now i 0 }
-{
-    bytes.get(i).copied().unwrap_or(0)
-}
 
 // Whether w is among the words from place `from` on.
 fn has_word_from(a: &Annotation, w: u8, from: usize) -> bool
@@ -95,24 +89,14 @@ pub fn is_same_annotation(a: Annotation, b: Annotation) -> bool
     a.kind == b.kind && is_same_content(a.kind, &a, &b)
 }
 
-fn no_annotation() -> Annotation
-    ensures { annotation_of result ≡ annotation_of zero_annotation }
-{
-    Annotation {
-        kind: Kind::MakeList,
-        count: 0,
-        words: [0u8; 15],
-        doms: [0u8; 15],
-    }
-}
-
 // The annotation at i; MakeList past the array.
+#[tactic(auto, using(crate::specs::RepeatLaws::no_rows))]
 fn annotation_at(t: &Annotations, i: usize) -> Annotation
     ensures { annotation_of result ≡ annotation_of (get_or t.now.items i zero_annotation) }
 {
     match t.items.get(i) {
         Some(x) => *x,
-        None => no_annotation(),
+        None => Annotation::BLANK,
     }
 }
 

@@ -1,13 +1,7 @@
--- What a stored answer means.
+-- How much is stored of what a call writes.
 use Rattle.std.specs.Prelude.{ℕ, cond, nat_eq, min, ◌*◌, ◌^◌, ◌-◌}
-use Rattle.definitions.specs.Answer.{Answer}
-use Rattle.answers.specs.Answers.{parts}
-use Rattle.replaying.specs.declared.expected.Expected.{Expected}
-
--- the answer that is expected
-abbrev pub answer_of : Expected → Answer
-answer_of e = parts e.number e.size e.rows e.more
+use Rattle.answers.specs.declared.Parts.{Parts}
 
 -- how many bytes the call must write: its size, or six for each row
-abbrev pub written_of : Expected → ℕ
+abbrev pub written_of : Parts → ℕ
 written_of e = cond (nat_eq e.number 0) e.size (min (e.rows * 6) (2 ^ 64 - 1))

@@ -1,6 +1,8 @@
 // A case as it was read, and how it is run.
-use crate::expected::Expected;
-use crate::head::{Call, Head};
+use crate::expected;
+use crate::head::Head;
+use access::Call;
+use answers::Parts;
 use std::alloc::{AllocError, Global};
 
 // A byte of a lent slice before the call.
@@ -9,15 +11,12 @@ const LENT: u8 = 170;
 // Listings of every length are tried where the call writes no more bytes than these.
 const SMALL: usize = 255;
 
-// So many bytes for each of a schedule suffice for its records (FORMAT 12.2).
-const RECORDS: usize = 16;
-
 // A call, its sheet, and what it must answer and write.
 #[derive(Clone, Copy)]
 pub(crate) struct Case<'a> {
     pub(crate) call: Call,
     pub(crate) sheet: &'a [u8],
-    pub(crate) expected: Expected,
+    pub(crate) expected: Parts,
     pub(crate) written: &'a [u8],
 }
 
@@ -30,7 +29,7 @@ impl Case<'_> {
         if !self.agrees(listing.as_mut_slice(), diagnosis.as_mut_slice()) {
             return Ok(false);
         }
-        if !self.expected.is_accepted() {
+        if !expected::is_accepted(&self.expected) {
             return Ok(true);
         }
         if head.shorter_too
@@ -48,11 +47,11 @@ impl Case<'_> {
     fn agrees(&self, listing: &mut [u8], diagnosis: &mut [u8]) -> bool {
         listing.fill(LENT);
         diagnosis.fill(LENT);
-        let answer = Expected::from(self.call.run(self.sheet, listing, diagnosis));
+        let answer = Parts::from(self.call.run(self.sheet, listing, diagnosis));
         if answer != self.expected {
             return false;
         }
-        if self.expected.is_accepted() {
+        if expected::is_accepted(&self.expected) {
             is_left(listing, self.written) && is_left(diagnosis, b"")
         } else {
             is_left(listing, b"") && is_left(diagnosis, self.written)
@@ -80,7 +79,7 @@ impl Case<'_> {
         let short = Case {
             call: self.call,
             sheet: self.sheet,
-            expected: Expected::short_listing(size),
+            expected: expected::short_listing(size),
             written: b"",
         };
         short.agrees(listing, diagnosis)
@@ -89,7 +88,7 @@ impl Case<'_> {
     // Whether the schedule is read into records, and these are written as the same bytes (FORMAT 12.1).
     fn reads_back(&self, alloc: Global, lent: &mut [u8]) -> Result<bool, AllocError> {
         let w = text::width(self.sheet);
-        let room = self.written.len().saturating_mul(RECORDS);
+        let room = self.written.len().saturating_mul(schedule_records::RECORDS);
         let mut records = vec![in alloc; 0u8; room]?;
         let read = schedule_records::read_schedule(w, self.written, records.as_mut_slice());
         let Ok(n) = read else {

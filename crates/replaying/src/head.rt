@@ -1,24 +1,9 @@
 // The head of a stored case.
-use crate::expected::Expected;
-use answers::Answer;
+use access::Call;
+use answers::Parts;
 
 // A sheet of so many bytes stands for the one before it.
 pub(crate) const SAME_SHEET: usize = 65535;
-
-#[derive(Clone, Copy)]
-pub(crate) enum Call {
-    Order,
-    Schedule,
-}
-
-impl Call {
-    pub(crate) fn run(self, sheet: &[u8], listing: &mut [u8], diagnosis: &mut [u8]) -> Answer {
-        match self {
-            Call::Order => access::order(sheet, listing, diagnosis),
-            Call::Schedule => access::schedule(sheet, listing, diagnosis),
-        }
-    }
-}
 
 // Which call is run, with listings of which lengths, and what it must answer; the lengths of the name, the sheet, and the slices
 // that are lent.
@@ -26,7 +11,7 @@ impl Call {
 pub(crate) struct Head {
     pub(crate) call: Call,
     pub(crate) shorter_too: bool,
-    pub(crate) expected: Expected,
+    pub(crate) expected: Parts,
     pub(crate) name: usize,
     pub(crate) sheet: usize,
     pub(crate) listing: usize,
@@ -42,7 +27,7 @@ impl From<[u8; 16]> for Head {
                 Call::Schedule
             },
             shorter_too: 1 < bytes[0],
-            expected: Expected {
+            expected: Parts {
                 number: bytes[1] as usize,
                 more: bytes[2] == 1,
                 rows: console::two([bytes[4], bytes[5]]),

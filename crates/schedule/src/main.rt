@@ -1,11 +1,17 @@
 // The access schedule of a sheet. Reads the sheet on standard input to its end, and prints the schedule or why there is none.
 #![tactic(auto)]
 
+use access::Call;
+use printing::Printer;
 use std::io;
 use std::io::BufWriter;
 
 fn main(rt: HostRuntime) -> io::Result<()> {
     let sheet = console::read_up_to(rt.alloc(), &mut rt.reader(), console::SHEET)?;
-    let mut out = BufWriter::new(rt.alloc(), io::writer(&rt))?;
-    printing::print_schedule(rt.alloc(), &mut out, sheet.as_slice())
+    let out = BufWriter::new(rt.alloc(), io::writer(&rt))?;
+    let mut printer = Printer {
+        alloc: rt.alloc(),
+        out,
+    };
+    printer.print_answer(Call::Schedule, sheet.as_slice())
 }

@@ -1,12 +1,11 @@
 -- Laws of the places.
 use Rattle.std.specs.Prelude.{◌≡◌, ℕ, zero, suc, ◌-◌, ◌^◌, ◌≤◌, ◌<◌}
 use Rattle.std.proofs.Math.Path.{refl}
-use Rattle.std.proofs.Common.{sym, subst, ◌∙◌, arith}
+use Rattle.std.proofs.Common.{arith}
 use Rattle.definitions.specs.ScheduleFields.{Fields, end, field, times, flag_fields, word_fields, pick, name_fields, parent_fields, mark_fields, marks_fields, made_fields}
 use Rattle.definitions.specs.ScheduleFields.{line_fields, item_fields, schedule_fields}
 use Rattle.schedule_fields.specs.declared.Place.{Place}
-use Rattle.schedule_fields.specs.declared.Rule.{Rule}
-use Rattle.schedule_fields.specs.Places.{width_of, most_of, follow_of, fields_at, fields_left, RuleOf, Comes, Follows}
+use Rattle.schedule_fields.specs.Places.{width_of, most_of, fields_at, fields_left}
 
 -- ---- so many left, and flags
 
@@ -27,25 +26,6 @@ pick-none (suc v) a b e = absurd (omega arith)
 pub pick-one : (v : ℕ) (a b : Fields) → 0 < v → pick v a b ≡ a
 pick-one zero a b h = absurd (omega arith)
 pick-one (suc v) a b h = refl
-
--- ---- a place that is known
-
--- the rule of a field whose numbers are these
-pub as-rule : {r q : Rule} {f : Fields} → r ≡ q → RuleOf q f → RuleOf r f
-as-rule {r} {q} {f} e h = subst (λ x. RuleOf x f) (sym e) h
-
--- the rule at a place
-pub ruled : (W : ℕ) {place known : Place} (r : Rule) → place ≡ known → RuleOf r (fields_at W known) → RuleOf r (fields_at W place)
-ruled W {place} {known} r e h = subst (λ p. RuleOf r (fields_at W p)) (sym e) h
-
--- what follows there
-pub stepped : {place known r : Place} {v : ℕ} → place ≡ known → Follows known v r → Follows place v r
-stepped {place} {known} {r} {v} e h = subst (λ p. Follows p v r) (sym e) h
-
--- a place at which the fields come that follow
-pub comes : {place r : Place} {v n : ℕ} {f : ℕ → Fields} → Comes r f n → ((W : ℕ) → f W ≡ follow_of (fields_at W place) v)
-    → ((W : ℕ) → 0 < width_of (fields_at W place) → v ≤ most_of (fields_at W place) → n < fields_left place) → Follows place v r
-comes c s l = record { same = λ W. c.same W ∙ s W; less = λ W h m. omega (arith, c.few, l W h m) }
 
 -- ---- every field of the grammar
 

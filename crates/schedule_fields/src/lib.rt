@@ -1,6 +1,6 @@
 // A place in the grammar of a schedule's fields, by value: what the field there is, and the place behind its value
 // (FORMAT 6.1 to 6.3, 12.2). Whoever reads, writes or walks a schedule goes from place to place.
-#![tactic(auto)]
+#![tactic(auto, unfolding(definitions::specs::ScheduleFields::name_fields, definitions::specs::ScheduleFields::parent_fields, definitions::specs::ScheduleFields::mark_fields, definitions::specs::ScheduleFields::marks_fields, definitions::specs::ScheduleFields::made_fields, definitions::specs::ScheduleFields::line_fields, definitions::specs::ScheduleFields::item_fields, definitions::specs::ScheduleFields::schedule_fields))]
 
 ghost use Rattle.std.specs.Prelude.{◌≡◌, ◌+◌, ◌-◌, ◌<◌};
 ghost use Rattle.schedule_fields.specs.Places.{fields_at, RuleOf, Comes, names_at, items_at, parents_at, words_at, marks_at};
@@ -99,28 +99,28 @@ pub fn rule_at(place: Place, w: usize) -> Rule
 {
     match place {
         Place::Names => count_rule(7, 0, MOST_NAMES),
-        Place::NameWord(n) => word_rule(w),
-        Place::NameFlag(n) => flag_rule(),
-        Place::NameSecond(n) => word_rule(w),
         Place::Items => count_rule(16, 0, MOST_ITEMS),
-        Place::Lead(n) => flag_rule(),
-        Place::MadeWord(n) => word_rule(w),
-        Place::MadeFlag(n) => flag_rule(),
-        Place::MadeSecond(n) => word_rule(w),
-        Place::MadeResource(n) => word_rule(w),
-        Place::MadeVirtual(n) => flag_rule(),
-        Place::Parents(n) => count_rule(5, LEAST_PARENTS, MOST_PARENTS),
-        Place::ParentWords(n, p) => count_rule(2, 1, MOST_PARENT_WORDS),
-        Place::ParentWord(n, p, k) => word_rule(w),
-        Place::Marks(n) => count_rule(9, 0, MOST_MARKS),
-        Place::Mark(n, m) => flag_rule(),
-        Place::Tag(n, m) => count_rule(8, 0, MOST_TAG),
-        Place::LineWord(n) => word_rule(w),
-        Place::LineFlag(n) => flag_rule(),
-        Place::LineSecond(n) => word_rule(w),
-        Place::LineVirtual(n) => flag_rule(),
-        Place::LineTrait(n) => flag_rule(),
-        Place::LineResource(n) => word_rule(w),
+        Place::Parents(_) => count_rule(5, LEAST_PARENTS, MOST_PARENTS),
+        Place::ParentWords(..) => count_rule(2, 1, MOST_PARENT_WORDS),
+        Place::Marks(_) => count_rule(9, 0, MOST_MARKS),
+        Place::Tag(..) => count_rule(8, 0, MOST_TAG),
+        Place::NameFlag(_)
+        | Place::Lead(_)
+        | Place::MadeFlag(_)
+        | Place::MadeVirtual(_)
+        | Place::Mark(..)
+        | Place::LineFlag(_)
+        | Place::LineVirtual(_)
+        | Place::LineTrait(_) => flag_rule(),
+        Place::NameWord(_)
+        | Place::NameSecond(_)
+        | Place::MadeWord(_)
+        | Place::MadeSecond(_)
+        | Place::MadeResource(_)
+        | Place::ParentWord(..)
+        | Place::LineWord(_)
+        | Place::LineSecond(_)
+        | Place::LineResource(_) => word_rule(w),
         Place::End => count_rule(0, 0, 0),
     }
 }

@@ -64,19 +64,15 @@ left-field from to (field n least most follow) xs room bs h = go (ltb room (to n
 pub laid-up : (down : Bool) (buf : List ℕ) (p n v : ℕ) → down ≡ false → Penned down buf buf p (p + n) (to_bits n v)
 laid-up down buf p n v d = record { next = ap (λ (i : ℕ). p + i) (sym (length-to_bits n v)); holds = rw d refl }
 
--- a field that is, in eight bytes
-pub laid-wide : (buf after : List ℕ) (p n v : ℕ) → after ≡ put buf p (to_bits n v) → Penned true buf after p (p + n) (to_bits n v)
-laid-wide buf after p n v w = record { next = ap (λ (i : ℕ). p + i) (sym (length-to_bits n v)); holds = w }
-
 -- a field that is, where the pen is down
-pub laid-packed : {down : Bool} {buf after : List ℕ} {p q : ℕ} {bs : List Bool} → down ≡ true → Penned true buf after p q bs → Penned down buf after p q bs
-laid-packed {down} {buf} {after} {p} {q} {bs} d w = record { next = w.next; holds = rw d w.holds }
+pub laid-packed : (down : Bool) (buf after : List ℕ) (p n v : ℕ) → down ≡ true → after ≡ put buf p (to_bits n v) → Penned down buf after p (p + n) (to_bits n v)
+laid-packed down buf after p n v d w = record { next = ap (λ (i : ℕ). p + i) (sym (length-to_bits n v)); holds = rw d w }
 
 -- a record that is
 pub laid-down : (down packed : Bool) (buf : List ℕ) (p n v : ℕ) → Aligned packed n p → packed ≡ false → (after : List ℕ) → down ≡ true
-    → after ≡ put buf (8 * (p / 8)) (to_bits 16 v) → Penned down buf after p (p + 16) (to_bits n v)
+    → after ≡ put buf (8 * (p / 8)) (to_bits 16 v) → Penned down buf after p (p + n) (to_bits n v)
 laid-down down packed buf p n v a e after d w = record {
-  next = omega (arith, length-to_bits n v, a.wide e);
+  next = ap (λ (i : ℕ). p + i) (sym (length-to_bits n v));
   holds = rw d (w ∙ ap₂ (λ (i k : ℕ). put buf i (to_bits k v)) (omega (arith, a.even e)) (sym (a.wide e)));
 }
 
@@ -100,11 +96,6 @@ room-left room q k h = by (ltb room (q + k))
 pub in-form : (packed : Bool) (n : ℕ) → n ≤ 16 → (n ≤ form_of packed n) × (form_of packed n ≤ 16)
 in-form true n h = (omega arith, h)
 in-form false n h = (h, omega arith)
-
--- both widths together are a record's and the field's own
-pub other-form : (packed : Bool) (w n : ℕ) → n ≡ form_of packed w → w + 16 - n ≡ form_of (not packed) w
-other-form true w n e = omega (arith, e)
-other-form false w n e = omega (arith, e)
 
 -- what the pen has written has the length of what was lent
 pub as_long : (down : Bool) (lent : List ℕ) (xs : List Bool) → length (cond down (put lent 0 xs) lent) ≡ length lent

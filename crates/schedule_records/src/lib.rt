@@ -18,6 +18,9 @@ use schedule_fields::Place;
 // The bits of a record (FORMAT 12.2).
 const RECORD: usize = 16;
 
+// So many bytes for each of a schedule suffice for its records: a field has a bit at least.
+pub const RECORDS: usize = 16;
+
 // How wide a field of n bits is in a form, packed or a record (FORMAT 12.2).
 fn in_form(packed: bool, n: usize) -> usize
     ensures { result ≡ form_of packed n }
@@ -25,34 +28,12 @@ fn in_form(packed: bool, n: usize) -> usize
     if packed { n } else { RECORD }
 }
 
-// How wide it is in the other one: n is its width in a form, and both together are a record's and its own.
-fn in_other_form(packed: bool, width: usize, n: usize) -> usize
-    requires { (n ≡ form_of packed width) × (width ≤ 16) }
-    ensures { result ≡ form_of (not packed) width }
-{
-    width + RECORD - n
-}
-
 // A record into the two bytes from i on, the high one first (FORMAT 12.2).
-fn put_record(target: &mut [u8], i: usize, v: u64)
+fn put_record(target: &mut [u8], i: usize, v: u16)
     requires { i + 2 ≤ length target.old }
     ensures { target.new ≡ put target.old (8 * i) (to_bits 16 v) }
 {
-    target[i] = ((v >> 8) % 256) as u8;
-    target[i + 1] = (v % 256) as u8;
-}
-
-// A field at bit `at`, in eight bytes at once where there are as many. The answer is the bit behind it.
-fn put_packed(target: &mut [u8], at: usize, f: Field) -> usize
-    requires room { Room true target.old at f.width }
-    requires width_nonzero { 0 < f.width }
-    ensures { Penned true target.old target.new at result (to_bits f.width f.value) }
-{
-    if at / 8 + 8 <= target.len() {
-        item_pen::put_wide(target, at, f);
-        return at + f.width;
-    }
-    item_pen::put(target, at, true, f)
+    target[i..i + 2].copy_from_slice(&v.to_be_bytes());
 }
 
 // With the pen down a field goes to bit `at`, packed or as a record; with the pen up nothing is touched. The answer is the bit
@@ -66,10 +47,11 @@ fn lay(target: &mut [u8], at: usize, down: bool, packed: bool, f: Field) -> usiz
         return at + f.width;
     }
     if packed {
-        return put_packed(target, at, f);
+        item_pen::put_bits(target, at, f);
+        return at + f.width;
     }
-    put_record(target, at / 8, f.value);
-    at + RECORD
+    put_record(target, at / 8, f.value as u16);
+    at + f.width
 }
 
 // All fields of a source in one form, into a target in the other: packed into records where `reading`, else records into packed.
@@ -93,7 +75,7 @@ fn pass(
     // No range: which field comes next each value says, and how many there are shows at the last.
     while rule.width != 0 {
         let n = in_form(reading, rule.width);
-        let m = in_other_form(reading, rule.width, n);
+        let m = in_form(!reading, rule.width);
         let value = schedule_values::meet(source, end, at, n, room < to + m, rule)?;
         at += n;
         let field = Field {

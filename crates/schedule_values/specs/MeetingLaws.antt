@@ -1,10 +1,8 @@
 -- Laws of reading one field of a schedule.
 use Rattle.std.specs.Prelude.{Bool, true, false, ◌&&◌, List, ◌≡◌, ℕ, ◌+◌, ◌*◌, ◌≤◌, ◌<◌, leb, ltb, length, drop}
-use Rattle.std.proofs.Math.Bool.{and-false}
 use Rattle.std.proofs.Math.Path.{refl}
-use Rattle.std.proofs.Common.{sym, ◌∙◌, arith, le-leb, le-ltb, lt-ltb, ltb-true, ltb-false}
-use Rattle.std.proofs.lemmas.Bool.{lt-leb}
-use Rattle.lists.specs.Tests.{by, or-false-left, or-false-right}
+use Rattle.std.proofs.Common.{sym, ◌∙◌, arith, leb-true, le-ltb, lt-ltb, ltb-true, ltb-false}
+use Rattle.lists.specs.Tests.{by, and_right, or-false-left, or-false-right}
 use Rattle.definitions.specs.Bits.{bits_of, num}
 use Rattle.fields.specs.declared.Fault.{Fault}
 use Rattle.definitions.specs.Parse.{not_allowed, pure, refuse, choose, allowed}
@@ -43,19 +41,15 @@ module _ (short : Bool) (n : ℕ) (rule : Rule) (source : List ℕ) (p : ℕ) wh
   unfolding allowed
   tested v e h l q = rw (e, field_in (bits_of source) p n (p + n) h refl (omega (arith, length-bits_of source)), ← q) refl
 
-  pub meets-below : (v : ℕ) → short ≡ false → 0 < n → p + n ≤ 8 * length source → v ≡ num n (drop p (bits_of source)) → v < rule.least
-      → Missed short n rule source p Fault.NotAllowed
-  meets-below v e h l q b = record { same = tested v e h l q ∙ rw (lt-leb rule.least v b) refl }
+  pub meets-outside : (v : ℕ) → short ≡ false → 0 < n → p + n ≤ 8 * length source → v ≡ num n (drop p (bits_of source))
+      → (leb rule.least v && leb v rule.most) ≡ false → Missed short n rule source p Fault.NotAllowed
+  meets-outside v e h l q b = record { same = tested v e h l q ∙ rw b refl }
 
-  pub meets-above : (v : ℕ) → short ≡ false → 0 < n → p + n ≤ 8 * length source → v ≡ num n (drop p (bits_of source)) → rule.most < v
-      → Missed short n rule source p Fault.NotAllowed
-  meets-above v e h l q b = record { same = tested v e h l q ∙ rw (lt-leb v rule.most b, and-false (leb rule.least v)) refl }
-
-  pub meets-value : (v : ℕ) → short ≡ false → 0 < n → p + n ≤ 8 * length source → v ≡ num n (drop p (bits_of source)) → rule.least ≤ v
-      → v ≤ rule.most → Met short n rule source p v
-  meets-value v e h l q a b = record {
-    same = tested v e h l q ∙ rw (le-leb rule.least v a, le-leb v rule.most b) refl;
-    few = b;
+  pub meets-value : (v : ℕ) → short ≡ false → 0 < n → p + n ≤ 8 * length source → v ≡ num n (drop p (bits_of source))
+      → (leb rule.least v && leb v rule.most) ≡ true → Met short n rule source p v
+  meets-value v e h l q b = record {
+    same = tested v e h l q ∙ rw b refl;
+    few = leb-true v rule.most (and_right (leb rule.least v) (leb v rule.most) b);
     within = l;
     long = e;
   }

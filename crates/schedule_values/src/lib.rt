@@ -40,7 +40,7 @@ pub fn number_of(fault: Fault) -> usize
 pub fn is_bad_width(w: usize) -> bool
     ensures { result ≡ bad_width w }
 {
-    (w < LEAST_WORDS) | (MOST_WORDS < w)
+    !(LEAST_WORDS..=MOST_WORDS).contains(&w)
 }
 
 // The bits of so many bytes, or as many as no schedule has in either form: those of longer slices may be more than a number
@@ -51,7 +51,9 @@ pub fn bits_within(bytes: usize) -> usize
     bytes.min(MOST_BYTES) * 8
 }
 
-// The n bits at a place, 0 for those past the end.
+// The n bits at a place, 0 for those past the end. `wide` makes the same test: here it is made in line, since a call of `wide` for
+// each field takes a fifth more instructions.
+#[inline(always)]
 fn value_at(source: &[u8], at: usize, n: usize) -> usize
     requires { (0 < n) × (n ≤ 16) }
     ensures { result ≡ num n (drop at (bits_of source.now)) }
@@ -63,7 +65,9 @@ fn value_at(source: &[u8], at: usize, n: usize) -> usize
 }
 
 // The n bits at a place as the value of a field, where the source has `end` bits, and `short` tells that the other form has no
-// room for it: both ends before the value (FORMAT 12.3).
+// room for it: both ends before the value (FORMAT 12.3). In line, since a call for each field takes a fifth more instructions, and
+// twice as many where a schedule is walked.
+#[inline(always)]
 pub fn meet(
     source: &[u8],
     end: usize,
@@ -76,17 +80,11 @@ pub fn meet(
     ensures { Meets short n rule source.now at result }
 {
     let value = value_at(source, at, n);
-    if short {
-        return Err(Fault::Past); // no room for it
+    if short || end < at + n {
+        return Err(Fault::Past); // there is no room for it, or it is cut
     }
-    if end < at + n {
-        return Err(Fault::Past); // it is cut
-    }
-    if value < rule.least {
-        return Err(Fault::NotAllowed); // too small
-    }
-    if rule.most < value {
-        return Err(Fault::NotAllowed); // too great
+    if !(rule.least..=rule.most).contains(&value) {
+        return Err(Fault::NotAllowed);
     }
     Ok(value)
 }

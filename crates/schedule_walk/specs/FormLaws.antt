@@ -37,6 +37,15 @@ pub reads-rule : {r : Rule} {f : Fields} (source : List ℕ) (p : ℕ) (m : Resu
     → Reads (width_of f) (least_of f) (most_of f) source p m
 reads-rule source p m e h = rw (← e.width, ← e.least, ← e.most) h
 
+-- a flag has a bit's value
+bit-flag : (v : ℕ) → v ≤ 1 → bit (eqb v 1) ≡ v
+bit-flag zero l = refl
+bit-flag (suc zero) l = refl
+bit-flag (suc (suc v)) l = absurd (omega arith)
+
+pub has-flag : {source : List ℕ} {p v : ℕ} → Has 1 0 1 source p v → Has 1 0 1 source p (bit (eqb v 1))
+has-flag {source} {p} {v} h = rw (bit-flag v h.few) h
+
 -- the values by another name
 pub gone-as : {A : Type 0} {F : Fields → Fields} {f g : A → List ℕ} {ok : A → Type 0} {b p q : ℕ} {source : List ℕ}
     → ((x : A) → f x ≡ g x) → Gone F f ok b source p q → Gone F g ok b source p q
@@ -208,11 +217,6 @@ module _ (source : List ℕ) (p : ℕ) where
   marks-goes v h i e (Err f) s = field-then-stops h (λ c. times c mark_fields) (stops-from e s)
 
 -- ---- items
-
-bit-flag : (v : ℕ) → v ≤ 1 → bit (eqb v 1) ≡ v
-bit-flag zero l = refl
-bit-flag (suc zero) l = refl
-bit-flag (suc (suc v)) l = absurd (omega arith)
 
 sort-flag : (v : ℕ) → v ≤ 1 → cond (eqb v 1) 1 0 ≡ v
 sort-flag zero l = refl

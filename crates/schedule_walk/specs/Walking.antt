@@ -1,7 +1,7 @@
 -- What the functions that go through a packed schedule owe: each goes through one form of the grammar, whatever follows it.
-use Rattle.std.specs.Prelude.{false, List, [], ◌∷◌, ◌++◌, ◌≡◌, ℕ, ◌+◌, ◌*◌, ◌≤◌, ◌<◌, length, drop, Result, MatchResult}
+use Rattle.std.specs.Prelude.{Bool, false, List, [], ◌∷◌, ◌++◌, ◌≡◌, ℕ, ◌+◌, ◌*◌, ◌≤◌, ◌<◌, length, drop, Result, MatchResult}
 use Rattle.lists.specs.Lists.{each}
-use Rattle.definitions.specs.Bits.{bits_of}
+use Rattle.definitions.specs.Bits.{bit, bits_of}
 use Rattle.definitions.specs.Parse.{Parsed, done, refused}
 use Rattle.definitions.specs.Records.{Name, Mark, Item}
 use Rattle.definitions.specs.Legal.{Every}
@@ -51,6 +51,10 @@ Lacks n least most source p f = Missed false n (rule_of n least most) source p f
 
 abbrev pub Reads : ℕ → ℕ → ℕ → List ℕ → ℕ → Result ℕ Fault → Type 0
 Reads n least most source p r = Meets false n (rule_of n least most) source p r
+
+-- A field of one bit, as a test of it.
+abbrev pub ReadsFlag : List ℕ → ℕ → Result Bool Fault → Type 0
+ReadsFlag source p r = MatchResult r (λ b. Has 1 0 1 source p (bit b)) (λ f. Lacks 1 0 1 source p f)
 
 -- A form was gone through: some x of which `ok` holds stands there, in at most so many bits.
 pub record Gone {A : Type 0} (F : Fields → Fields) (values : A → List ℕ) (ok : A → Type 0) (bits : ℕ) (source : List ℕ) (p q : ℕ) : Type 0 where

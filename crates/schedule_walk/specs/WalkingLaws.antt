@@ -1,6 +1,10 @@
 -- Laws of going through fields: one form after the other, and a form many times.
-use Rattle.std.specs.Prelude.{List, [], ◌∷◌, ◌++◌, ◌≡◌, refl, ℕ, ◌+◌, ◌*◌, ◌-◌, ◌≤◌, ◌<◌, drop, Result, IsErrAnd, MatchResult}
-use Rattle.std.proofs.Common.{append_assoc, sym, ◌∙◌, ap₂, subst, arith, length-append}
+use Rattle.std.specs.Prelude.{List, [], ◌∷◌, ◌++◌, ◌≡◌, refl, ℕ, ◌+◌, ◌*◌, ◌-◌, ◌≤◌, ◌<◌, length, drop, Option, None, Some, MatchOption, Result, Ok, Err, IsErrAnd, MatchResult}
+use Rattle.std.specs.Iterator.{Yields}
+use Rattle.std.specs.List.{FoldsTo}
+use Rattle.std.specs.declared.ops.Range.{Range}
+use Rattle.std.proofs.Common.{add-zero, append_assoc, sym, ◌∙◌, ap₂, subst, arith, length-append}
+use Rattle.std.proofs.iter.Yields.{nat_range_steps}
 use Rattle.std.proofs.Math.Path.{ap}
 use Rattle.std.proofs.Math.Nat.{sub-zero}
 use Rattle.std.proofs.lemmas.Result.{err_from_is_err_and}
@@ -12,7 +16,7 @@ use Rattle.definitions.specs.Legal.{Every}
 use Rattle.definitions.specs.ScheduleFields.{Fields, field, times, packed, unwritten, read_fields}
 use Rattle.schedule_fields.specs.PlaceLaws.{times_none, times_more}
 use Rattle.fields.specs.declared.Fault.{Fault}
-use Rattle.schedule_walk.specs.Walking.{from, onto, Runs, Stops, Has, Lacks, Gone, Many}
+use Rattle.schedule_walk.specs.Walking.{from, onto, Runs, Stops, Has, Lacks, Gone, Goes, Many}
 
 onto-onto : (us vs : List ℕ) (x : Parsed (List ℕ)) → onto us (onto vs x) ≡ onto (us ++ vs) x
 onto-onto us vs (done ws rest) = ap (λ (l : List ℕ). done l rest) (sym (append_assoc us vs ws))
@@ -132,3 +136,30 @@ module _ {A : Type 0} (F : Fields → Fields) (values : A → List ℕ) (ok : A 
 
   pub been-all : (i q : ℕ) (xs : List A) → n ≤ i → i ≤ n → Been i q xs → Gone (times n F) (each values) (Many ok n) (n * bits) source p q
   been-all i q xs h l b = let t = been-runs i q xs h l b in record { x = xs; fine = t.0; runs = t.1; few = t.2 }
+
+  -- behind the numbers that a fold was given, where each turn goes through the form once
+  module _ {C : Type 0} (f : C) (R : C × ℕ → ℕ → C × ℕ → Type 0)
+      (turn : (s t : C × ℕ) (x : ℕ) → R s x t → s.0 ≡ f → (t.0 ≡ f) × Gone F values ok bits source s.1 t.1) where
+    folded_from : (is : List ℕ) (s t : C × ℕ) (i : ℕ) (xs : List A) → i + length is ≤ n → s.0 ≡ f → Been i s.1 xs → FoldsTo R s is t
+        → (t.0 ≡ f) × (ys : List A) × Been (i + length is) t.1 ys
+    folded_from [] s t i xs l e b h =
+        (ap (λ (z : C × ℕ). z.0) (sym h) ∙ e, xs, subst (λ (z : C × ℕ). Been (i + 0) z.1 xs) h (subst (λ (j : ℕ). Been j s.1 xs) (sym (add-zero i)) b))
+    folded_from (j ∷ is) s t i xs l e b h =
+        let o = turn s h.0 j h.1 e in
+        let r = folded_from is h.0 t (i + 1) (xs ++ o.1.x ∷ []) (omega arith) o.0 (been-more i s.1 xs b (omega arith) h.0.1 o.1) h.2 in
+        (r.0, r.1, subst (λ (k : ℕ). Been k t.1 r.1) (omega arith) r.2)
+
+    pub folded : (is : List ℕ) (t : C × ℕ) → length is ≤ n → FoldsTo R (f, p) is t → (t.0 ≡ f) × (ys : List A) × Been (length is) t.1 ys
+    folded is t l h = let r = folded_from is (f, p) t 0 [] (omega arith) refl been-none h in (r.0, r.1, subst (λ (k : ℕ). Been k t.1 r.1) (omega arith) r.2)
+
+  -- what such a fold answers
+  pub told : (o : Option ℕ) (r : Result ℕ Fault) (i gap from_here to_here q : ℕ) (xs : List A) (Z : ℕ → Type 0) → i + gap ≡ n → Been i q xs
+      → MatchOption o ((gap ≡ 0) × (to_here ≡ from_here)) (λ x. (0 < gap) × (x ≡ from_here) × (to_here ≡ from_here + 1)) → MatchOption o (r ≡ Ok q) Z
+      → ((x : ℕ) → Z x → (e : Fault) × (r ≡ Err e) × Stops F source q e) → Goes (times n F) (each values) (Many ok n) (n * bits) source p r
+  told None r i gap from_here to_here q xs Z l b g z stop = rw z (been-all i q xs (omega (arith, g.0)) (omega arith) b)
+  told (Some x) r i gap from_here to_here q xs Z l b g z stop = let e = stop x z in rw e.1 (been-stops i q xs b (omega (arith, g.0)) e.2)
+
+-- a range that has given so many numbers
+pub ranged : (is : List ℕ) (s t : Range ℕ) → Yields nat_range_steps s is t → length is + (t.end - t.start) ≡ s.end - s.start
+ranged [] s t y = omega (arith, ap (λ (r : Range ℕ). r.end - r.start) y)
+ranged (j ∷ is) s t y = omega (arith, ranged is y.0 t y.2, y.1.0, y.1.1.0, y.1.1.2)

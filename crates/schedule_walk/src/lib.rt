@@ -4,6 +4,7 @@
 
 ghost use Rattle.std.specs.Prelude.{[], ◌∷◌, ◌≡◌, ◌+◌, ◌*◌, ◌≤◌, ◌<◌, length};
 ghost use Rattle.lists.specs.Lists.{each};
+ghost use Rattle.definitions.specs.Bits.{bit};
 ghost use Rattle.definitions.specs.Legal.{Every};
 ghost use Rattle.definitions.specs.LegalSchedule.{most_parents, most_items};
 ghost use Rattle.definitions.specs.ScheduleFields.{times, word_fields, name_fields, parent_fields, mark_fields, marks_fields, made_fields, line_fields, item_fields};
@@ -12,7 +13,7 @@ ghost use Rattle.definitions.specs.Values.{name_values, parent_values, mark_valu
 ghost use Rattle.schedule_values.specs.Meeting.{bits_within, most_bits};
 ghost use Rattle.tariff_definitions.specs.DecodedLaws.{OneOrTwo};
 ghost use Rattle.schedule_walk.specs.Sorts.{number_of};
-ghost use Rattle.schedule_walk.specs.Walking.{Reads, Goes, GoesItem, one, Anything, Many, NamedWord, named_values, ManyParents, listed_values, names_fields, name_bits, parent_bits, mark_bits, marks_bits, line_bits, made_bits, item_bits, names_bits};
+ghost use Rattle.schedule_walk.specs.Walking.{Reads, ReadsFlag, Goes, GoesItem, one, Anything, Many, NamedWord, named_values, ManyParents, listed_values, names_fields, name_bits, parent_bits, mark_bits, marks_bits, line_bits, made_bits, item_bits, names_bits};
 
 use fields::Fault;
 use schedule_fields::{Place, Rule};
@@ -37,13 +38,15 @@ impl From<Sort> for usize {
     }
 }
 
-// The sort of a resource, by its flag. No TryFrom: a flag was read as 0 or 1, and `made` would have to open an error that never
-// comes.
-fn of_flag(flag: usize) -> Sort
-    requires { flag ≤ 1 }
-    ensures { number_of result ≡ flag }
+// The sort of a resource, by its flag.
+fn of_flag(is_virtual: bool) -> Sort
+    ensures { number_of result ≡ bit is_virtual }
 {
-    if flag == 0 { Sort::Real } else { Sort::Virtual }
+    if is_virtual {
+        Sort::Virtual
+    } else {
+        Sort::Real
+    }
 }
 
 // An item that was gone through: the bit behind it, its sort and its number of parents.
@@ -79,7 +82,8 @@ impl<'a> Walk<'a> {
 
     // ---- single fields
 
-    // The field with a rule.
+    // The field with a rule. In line, so that what is known of the rule where a field is met decides there.
+    #[inline(always)]
     fn field(self, at: usize, rule: Rule) -> Result<usize, Fault>
         requires { (at + rule.width ≤ most_bits) × (0 < rule.width) × (rule.width ≤ 16) }
         ensures { Reads rule.width rule.least rule.most self.entry.source.now at result }
@@ -88,11 +92,13 @@ impl<'a> Walk<'a> {
     }
 
     // A flag, or any field of one bit (FORMAT 2.1).
-    fn flag(self, at: usize) -> Result<usize, Fault>
+    fn flag(self, at: usize) -> Result<bool, Fault>
         requires { at + 1 ≤ most_bits }
-        ensures { Reads 1 0 1 self.entry.source.now at result }
+        ensures { ReadsFlag self.entry.source.now at result }
     {
-        self.field(at, schedule_fields::rule_at(Place::NameFlag(0), 1))
+        let rule = schedule_fields::rule_at(Place::NameFlag(0), 1);
+        let value = self.field(at, rule)?;
+        Ok(value == 1)
     }
 
     // A word, which is below W (FORMAT 2.5).
@@ -115,23 +121,19 @@ impl<'a> Walk<'a> {
         ensures { Goes (name_fields self.entry.words) name_values OneOrTwo name_bits self.entry.source.now at result }
     {
         let first = self.word(at)?;
-        let second = self.flag(first)?;
-        if second == 0 {
+        let has_second = self.flag(first)?;
+        if !has_second {
             return Ok(first + 1);
         }
         self.word(first + 1)
     }
 
-    // So many names. The four loops over a form stay apart: one over a closure needs a contract that is longer than they are.
+    // So many names.
     fn each_name(self, at: usize, n: usize) -> Result<usize, Fault>
         requires { at + n * name_bits ≤ most_bits }
         ensures { Goes (times n (name_fields self.entry.words)) (each name_values) (Many OneOrTwo n) (n * name_bits) self.entry.source.now at result }
     {
-        let mut q = at;
-        for _ in 0..n {
-            q = self.name(q)?;
-        }
-        Ok(q)
+        (0..n).try_fold(at, |q, _| self.name(q))
     }
 
     // The names of a schedule, their number first (FORMAT 6.1).
@@ -159,11 +161,7 @@ impl<'a> Walk<'a> {
         requires { at + n * 8 ≤ most_bits }
         ensures { Goes (times n (word_fields self.entry.words)) (each one) (Many Anything n) (n * 8) self.entry.source.now at result }
     {
-        let mut q = at;
-        for _ in 0..n {
-            q = self.word(q)?;
-        }
-        Ok(q)
+        (0..n).try_fold(at, |q, _| self.word(q))
     }
 
     // A parent: how many words, and the words (FORMAT 6.2).
@@ -182,11 +180,7 @@ impl<'a> Walk<'a> {
         requires { at + n * parent_bits ≤ most_bits }
         ensures { Goes (times n (parent_fields self.entry.words)) (each parent_values) (Many Anything n) (n * parent_bits) self.entry.source.now at result }
     {
-        let mut q = at;
-        for _ in 0..n {
-            q = self.parent(q)?;
-        }
-        Ok(q)
+        (0..n).try_fold(at, |q, _| self.parent(q))
     }
 
     // A mark (FORMAT 2.9).
@@ -194,8 +188,8 @@ impl<'a> Walk<'a> {
         requires { at + mark_bits ≤ most_bits }
         ensures { Goes mark_fields mark_values Anything mark_bits self.entry.source.now at result }
     {
-        let derive = self.flag(at)?;
-        if derive == 0 {
+        let is_derive = self.flag(at)?;
+        if !is_derive {
             return Ok(at + 1);
         }
         let rule = schedule_fields::rule_at(Place::Tag(0, 0), 1);
@@ -208,11 +202,7 @@ impl<'a> Walk<'a> {
         requires { at + n * mark_bits ≤ most_bits }
         ensures { Goes (times n mark_fields) (each mark_values) (Many Anything n) (n * mark_bits) self.entry.source.now at result }
     {
-        let mut q = at;
-        for _ in 0..n {
-            q = self.mark(q)?;
-        }
-        Ok(q)
+        (0..n).try_fold(at, |q, _| self.mark(q))
     }
 
     // The marks of a resource, their number first (FORMAT 6.2).
@@ -284,8 +274,8 @@ impl<'a> Walk<'a> {
         requires { at + item_bits ≤ most_bits }
         ensures { GoesItem (item_fields self.entry.words) [] item_bits self.entry.source.now at result }
     {
-        let lead = self.flag(at)?;
-        if lead == 0 {
+        let is_line = self.flag(at)?;
+        if !is_line {
             return self.made(at + 1);
         }
         self.line(at + 1)

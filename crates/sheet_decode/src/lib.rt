@@ -13,6 +13,7 @@ use bits::Cursor;
 use catalogue::Catalogue;
 use fields::{Fault, Sheet};
 use sheet_draft::{Decoding, Draft, Entry};
+use sheet_order::ByName;
 use sheet_words::WordsRead;
 
 // What was read, the place behind the last field, and whether words are refused: a flag and no Err, as 7 is told before 5
@@ -77,7 +78,12 @@ pub fn decode(
     }
     let n = l.read;
     sheet_order::order_by_key(d, n.count, entries);
-    if sheet_repeats::is_something_twice(s, n, d, entries, t) {
+    let x = ByName {
+        draft: d,
+        entries,
+        read: n,
+    };
+    if sheet_repeats::is_something_twice(s, x, t) {
         return Err(Refusal::Repeats);
     }
     Ok(n)

@@ -1,4 +1,4 @@
-// Counts, words and tags out of four bytes that are there, and near the end as `fields` reads them.
+// Counts and words out of four bytes that are there, and near the end as `fields` reads them.
 #![tactic(auto)]
 
 ghost use Rattle.std.specs.Prelude.{◌≡◌, ◌+◌, ◌/◌, ◌≤◌, ◌<◌, length, drop};

@@ -1,21 +1,28 @@
 -- Laws of stepping over.
-use Rattle.std.specs.Prelude.{Bool, true, false, ◌≡◌, eqb, length, drop}
 use mathlib.Core.List.{List, [], ◌∷◌, ◌++◌}
-use Rattle.std.proofs.Math.Path.{refl}
-use Rattle.std.proofs.Common.{sym, ap, ◌∙◌, sub-one, arith, eqb-true}
 use Prim.Native.Nat.{ℕ, zero, suc, ◌+◌, ◌-◌, ◌*◌, ◌%◌, ◌≤◌, ◌<◌}
+use Rattle.std.specs.Prelude.{Bool, true, false, ◌≡◌, eqb, length, drop, Option, Some, None, Result, Ok, Err, MatchOption}
+use Rattle.std.specs.Iterator.{Yields}
+use Rattle.std.specs.List.{FoldsTo}
+use Rattle.std.specs.declared.ops.Range.{Range}
+use Rattle.std.proofs.Common.{sym, ap, ◌∙◌, sub-one, add-zero, zero-add, arith, eqb-true}
+use Rattle.std.proofs.Math.Path.{refl}
+use Rattle.std.proofs.iter.Yields.{nat_range_steps}
 use Rattle.std.proofs.lemmas.Bool.{eqb-false}
 use Rattle.lists.specs.Tests.{by}
 use Rattle.bits.specs.NumberLaws.{num-lt}
+use Rattle.bits.specs.declared.Cursor.{Cursor}
 use Rattle.definitions.specs.Bits.{num}
 use Rattle.definitions.specs.Parse as parse
 use Rattle.definitions.specs.Parse.{allowed, Parsed, done, refused, Parser, next, pure, refuse, choose, field, between, repeat_onto, repeat, counted, not_allowed}
 use Rattle.definitions.specs.Reading.{word_field, annotation, mark}
 use Rattle.definitions.specs.Records.{Annotation}
+use Rattle.fields.specs.Fields.{fault_of}
+use Rattle.fields.specs.declared.Fault.{Fault}
 use Rattle.records.specs.Annotations.{annotation_as, row_of_word, row_of_tag, rows_for}
 use Rattle.records.specs.AnnotationLaws.{annotation-rows}
 use Rattle.sheet_window.specs.WindowLaws.{field_in, split}
-use Rattle.sheet_notes.specs.Notes.{Notes, notes, forget, steps, nested_in_two}
+use Rattle.sheet_notes.specs.Notes.{Notes, notes, forget, steps, of_skip, nested_in_two}
 
 module _ {A : Type 0} (m : Parser A) where
   pub step-none : (n : ℕ) (bs : List Bool) → n ≤ 0 → steps m n bs ≡ done 0 bs
@@ -27,12 +34,6 @@ module _ {A : Type 0} (m : Parser A) where
   unfolding steps
   step-done zero bs rest h e = absurd (omega arith)
   step-done (suc n) bs rest h e = rw (sub-one (suc n), e)
-
-  -- the same where i of n are behind
-  pub step-next : (n i : ℕ) (bs rest : List Bool) → i < n → forget (m bs) ≡ done 0 rest → steps m (n - i) bs ≡ steps m (n - (i + 1)) rest
-  step-next n i bs rest h e =
-      let q : n - i - 1 ≡ n - (i + 1) = omega arith in
-      step-done (n - i) bs rest (omega arith) e ∙ ap (λ (k : ℕ). steps m k rest) q
 
   pub step-refused : (n : ℕ) (bs : List Bool) (r : parse.Fault) → 0 < n → forget (m bs) ≡ refused r → steps m n bs ≡ refused r
   unfolding steps
@@ -57,6 +58,39 @@ module _ {A : Type 0} (m : Parser A) where
       go : (x : Parsed ℕ) → forget (next x (λ k. repeat m k)) ≡ next x (λ k. steps m k)
       go (done k rest) = steps-onto k [] rest
       go (refused r) = refl
+
+-- a range that has given so many numbers
+pub ranged : (xs : List ℕ) (s t : Range ℕ) → Yields nat_range_steps s xs t → s.start ≤ s.end → (t.end ≡ s.end) × (t.start ≡ s.start + length xs) × (t.start ≤ t.end)
+ranged [] s t y l =
+    let e = ap (λ (r : Range ℕ). r.end) (sym y) in
+    let f = ap (λ (r : Range ℕ). r.start) (sym y) in
+    (e, f ∙ sym (add-zero s.start), omega (arith, e, f, l))
+ranged (x ∷ xs) s t y l =
+    let h = ranged xs y.0 t y.2 (omega (arith, y.1.0, y.1.1.0, y.1.1.2)) in
+    (h.0 ∙ y.1.0, omega (arith, h.1, y.1.1.2), h.2)
+
+module _ {A : Type 0} (m : Parser A) (bs : List Bool) {F : Type 0} (f : F) (R : F × Cursor → ℕ → F × Cursor → Type 0)
+    (one : (p q : F × Cursor) (x : ℕ) → R p x q → p.0 ≡ f → (q.0 ≡ f) × (forget (m (drop p.1.at bs)) ≡ done 0 (drop q.1.at bs))) where
+  pub folded : (xs : List ℕ) (p q : F × Cursor) (k : ℕ) → p.0 ≡ f → FoldsTo R p xs q → (q.0 ≡ f) × (steps m (length xs + k) (drop p.1.at bs) ≡ steps m k (drop q.1.at bs))
+  folded [] p q k e h = (ap (λ (z : F × Cursor). z.0) (sym h) ∙ e, rw (zero-add k) (ap (λ (z : F × Cursor). steps m k (drop z.1.at bs)) h))
+  folded (x ∷ xs) p q k e h =
+      let o = one p h.0 x h.1 e in
+      let r = folded xs h.0 q k o.0 h.2 in
+      let n : suc (length xs) + k - 1 ≡ length xs + k = omega arith in
+      (r.0, step-done m (suc (length xs) + k) (drop p.1.at bs) (drop h.0.1.at bs) (omega arith) o.1 ∙ ap (λ (j : ℕ). steps m j (drop h.0.1.at bs)) n ∙ r.1)
+
+-- what a fold of steps tells at its end
+pub ended : {A F : Type 0} (m : Parser A) (bs : List Bool) (n : ℕ) (o : Option ℕ) (r : Result Cursor Fault) (start last : Cursor) (len gap i j : ℕ) (f g' : F) (Z : ℕ → Type 0)
+    → MatchOption o ((gap ≡ 0) × (j ≡ i)) (λ x. (0 < gap) × (x ≡ i) × (j ≡ i + 1)) → MatchOption o (r ≡ Ok last) Z
+    → ((k : ℕ) → (g' ≡ f) × (steps m (len + k) (drop start.at bs) ≡ steps m k (drop last.at bs))) → len + gap ≡ n
+    → ((x : ℕ) → Z x → g' ≡ f → (e : Fault) × (r ≡ Err e) × (forget (m (drop last.at bs)) ≡ refused (fault_of e)))
+    → of_skip bs r ≡ steps m n (drop start.at bs)
+ended m bs n None r start last len gap i j f g' Z g q d l z =
+    let k : len + gap ≡ len + 0 = omega (arith, g.0) in
+    rw q (sym (rw (← l, k) ((d 0).1 ∙ step-none m 0 (drop last.at bs) (omega arith))))
+ended m bs n (Some x) r start last len gap i j f g' Z g q d l z =
+    let e = z x q (d 0).0 in
+    rw e.1 (sym (rw (← l) ((d gap).1 ∙ step-refused m gap (drop last.at bs) (fault_of e.0) g.0 e.2)))
 
 -- what is made of a value does not matter
 pub forget-pure : {A B : Type 0} (x : Parsed A) (f : A → B) → forget (next x (λ a. pure (f a))) ≡ forget x

@@ -15,16 +15,18 @@ use bits::Cursor;
 use fields::{Fault, Sheet};
 use records::Kind;
 
-// n names. This loop and those over annotations and marks are apart: the clauses of one over a closure are longer than all three.
+fn skip_name(s: Sheet, c: Cursor) -> Result<Cursor, Fault>
+    ensures { of_skip (bits_in s.entry) result ≡ forget (name s.entry.words (drop c.at (bits_in s.entry))) }
+{
+    let (_, end) = sheet_keys::read_key(s, c)?;
+    Ok(end)
+}
+
+// So many names.
 pub fn skip_each_name(s: Sheet, c: Cursor, n: usize) -> Result<Cursor, Fault>
     ensures { of_skip (bits_in s.entry) result ≡ steps (name s.entry.words) n (drop c.at (bits_in s.entry)) }
 {
-    let mut next = c;
-    for _ in 0..n {
-        let (_, end) = sheet_keys::read_key(s, next)?;
-        next = end;
-    }
-    Ok(next)
+    (0..n).try_fold(c, |next, _| skip_name(s, next))
 }
 
 fn skip_names(s: Sheet, c: Cursor) -> Result<Cursor, Fault>
@@ -68,11 +70,7 @@ fn skip_annotation(s: Sheet, c: Cursor, single: bool) -> Result<Cursor, Fault>
 fn skip_each_annotation(s: Sheet, c: Cursor, single: bool, n: usize) -> Result<Cursor, Fault>
     ensures { of_skip (bits_in s.entry) result ≡ steps (annotation s.entry.words single) n (drop c.at (bits_in s.entry)) }
 {
-    let mut next = c;
-    for _ in 0..n {
-        next = skip_annotation(s, next, single)?;
-    }
-    Ok(next)
+    (0..n).try_fold(c, |next, _| skip_annotation(s, next, single))
 }
 
 fn skip_annotations(s: Sheet, c: Cursor, single: bool) -> Result<Cursor, Fault>
@@ -102,11 +100,7 @@ fn skip_each_mark(s: &[u8], c: Cursor, n: usize) -> Result<Cursor, Fault>
     requires { Addressable s.now }
     ensures { of_skip (bits_of s.now) result ≡ steps mark n (drop c.at (bits_of s.now)) }
 {
-    let mut next = c;
-    for _ in 0..n {
-        next = skip_mark(s, next)?;
-    }
-    Ok(next)
+    (0..n).try_fold(c, |next, _| skip_mark(s, next))
 }
 
 fn skip_marks(s: &[u8], c: Cursor) -> Result<Cursor, Fault>
@@ -130,10 +124,8 @@ pub fn skip_notes(s: Sheet, c: Cursor, single: bool) -> Result<Cursor, Fault>
     ensures { of_skip (bits_in s.entry) result ≡ forget (notes s.entry.words single (drop c.at (bits_in s.entry))) }
 {
     let at = c.at;
-    if at / 8 + 4 <= s.bytes.len() {
-        if sheet_window::window(s.bytes, at, 7) == 0 {
-            return Ok(Cursor { at: at + 7 });
-        }
+    if at / 8 + 4 <= s.bytes.len() && sheet_window::window(s.bytes, at, 7) == 0 {
+        return Ok(Cursor { at: at + 7 });
     }
     skip_lists(s, c, single)
 }

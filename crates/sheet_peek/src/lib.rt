@@ -4,7 +4,8 @@
 ghost use Rattle.std.specs.Prelude.{◌≡◌, ◌≤◌, drop};
 ghost use Rattle.definitions.specs.Bits.{bits_of, num};
 
-// The n bits at a place.
+// The n bits at a place. `sheet_window::wide` is the same over eight bytes: in one function for both a const parameter would choose
+// how many bytes are tested, the reader and the type, and only the `if` would be shared.
 pub fn peek(s: &[u8], at: usize, n: usize) -> usize
     requires { n ≤ 25 }
     ensures { result ≡ num n (drop at (bits_of s.now)) }

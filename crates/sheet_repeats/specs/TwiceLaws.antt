@@ -1,6 +1,7 @@
 -- Laws of what stands twice.
-use Rattle.std.specs.Prelude.{Bool, true, false, ◌&&◌, ◌||◌, cond, ◌≡◌, refl, ℕ, ◌-◌, ◌/◌, ◌%◌, ◌≤◌, ◌<◌, length, take, drop}
-use Rattle.std.proofs.Math.Bool.{not}
+use Rattle.std.specs.Prelude.{Bool, true, false, ◌&&◌, ◌||◌, cond, ◌≡◌, refl, ℕ, zero, suc, ◌+◌, ◌-◌, ◌/◌, ◌%◌, ◌≤◌, ◌<◌, length, take, drop}
+use Rattle.std.specs.List.{IsAllAdjacentAnswer, list_any, range_with_len}
+use Rattle.std.proofs.Math.Bool.{not, and-false}
 use mathlib.Core.List.Memᴰ
 use mathlib.Core.List.Permᴰ
 use mathlib.Core.List.{List, [], ◌∷◌, map}
@@ -12,12 +13,14 @@ use Rattle.std.proofs.Math.Dec.{eqb}
 use Rattle.std.proofs.Math.ListN.{get_or}
 use Rattle.lists.specs.Lists.{In, Sorted, any, repeats, ascends, sort, same_list}
 use Rattle.lists.specs.Tests.{by, never, same_test, and_left, and_right, and_both, or-false-both, any_none, cons-elim}
+use Rattle.lists.specs.Places.{any_step, any-end, repeats-step, repeats-end}
 use Rattle.lists.specs.Sorting.{sorted-imp, sorted-ascends, repeats-not, perm-sorted, sort-perm}
 use Rattle.lists.specs.Appending.{repeats-map, repeats-alike}
 use Rattle.lists.specs.Tabulating.{tabulate, map-tabulate, length-tabulate, get_d_tabulate, tabulate-of}
 use Rattle.definitions.specs.Comparisons.{same_name}
 use Rattle.definitions.specs.Checks.{something_twice}
 use Rattle.definitions.specs.Records as records
+use Rattle.repeats.specs.RangeLaws.{any-range}
 use Rattle.repeats.specs.Repeats.{repeats_in, type_repeats, same_type_name, same_extension_key}
 use Rattle.repeats.specs.RepeatLaws.{something-twice}
 use Rattle.sheet_keys.specs.Keys.{name_of_key}
@@ -26,7 +29,7 @@ use Rattle.sheet_draft.specs.declared.Decoding.{Decoding}
 use Rattle.sheet_draft.specs.declared.Draft.{Draft}
 use Rattle.sheet_draft.specs.declared.entry.Entry.{Entry}
 use Rattle.sheet_draft.specs.Draft.{key_at, place_at, notes_of, notes_at, type_in, types_in}
-use Rattle.sheet_draft.specs.Drafted.{entry_at, entry_before, entries_of, Entered}
+use Rattle.sheet_draft.specs.Drafted.{no_entry, entry_at, entry_before, entries_of, Entered}
 use Rattle.sheet_order.specs.Entries.{UpTo}
 use Rattle.sheet_order.specs.EntryLaws.{up-sort}
 use Rattle.catalogue.specs.declared.Catalogue.{Catalogue}
@@ -116,6 +119,29 @@ neighbours l =
       up k u.1 v.1,
     )
 
+behind : (k : ℕ) → suc k + 1 ≡ suc (k + 1)
+behind k = omega arith
+
+-- what the library's test of neighbours answers
+pub neighbours-ascend : (l : List Entry) (r : Bool) → IsAllAdjacentAnswer (λ x y b. b ≡ entry_before x y) l r → r ≡ ascends entry_before l
+neighbours-ascend l true h = sym (up l h)
+  where
+    up : (l : List Entry) → ((k : ℕ) (d : Entry) → k + 1 < length l → true ≡ entry_before (get_or l k d) (get_or l (k + 1) d)) → ascends entry_before l ≡ true
+    up [] h = refl
+    up (x ∷ []) h = refl
+    up (x ∷ y ∷ l) h =
+        and_both (sym (h 0 x (omega arith)))
+        (up (y ∷ l) (λ k d q. h (suc k) d (omega arith) ∙ ap (λ j. entry_before (get_or (y ∷ l) k d) (get_or (x ∷ y ∷ l) j d)) (behind k)))
+neighbours-ascend l false h = sym (down l h.0 h.1 (h.2 no_entry))
+  where
+    down : (l : List Entry) (k : ℕ) → k + 1 < length l → false ≡ entry_before (get_or l k no_entry) (get_or l (k + 1) no_entry) → ascends entry_before l ≡ false
+    down [] k q e = absurd (omega arith)
+    down (x ∷ []) k q e = absurd (omega arith)
+    down (x ∷ y ∷ l) zero q e = ap (λ b. b && ascends entry_before (y ∷ l)) (sym e)
+    down (x ∷ y ∷ l) (suc k) q e =
+        let s = e ∙ ap (λ j. entry_before (get_or (y ∷ l) k no_entry) (get_or (x ∷ y ∷ l) j no_entry)) (behind k) in
+        ap (λ b. entry_before x y && b) (down (y ∷ l) k (omega arith) s) ∙ and-false (entry_before x y)
+
 module _ (W : ℕ) (bs : List Bool) (d : Draft) (n : ℕ) where
   as-entries : types_in W bs d n ≡ map (λ (e : Entry). type_in W bs d e.row) (entries_of d n)
   unfolding types_in entries_of
@@ -148,6 +174,30 @@ pub key_in : (t : Catalogue) (n i : ℕ) → i < n → get_or (keys_in t n) i 0 
 unfolding keys_in
 key_in t n i h = get_d_tabulate (extension_key_at t) n i 0 h
 
+-- a test of the keys from a place on
+pub keys-any : (t : Catalogue) (n key from : ℕ) →
+    list_any (λ j. eqb key (extension_key_at t j)) (range_with_len from (n - from)) ≡ any (eqb key) (drop from (keys_in t n))
+keys-any t n key from =
+    any-range
+    (λ j. eqb key (extension_key_at t j))
+    (λ j. any (eqb key) (drop j (keys_in t n)))
+    n
+    (λ j h. any_step (eqb key) (keys_in t n) j 0 (omega (arith, length-keys t n)) ∙ rw (key_in t n j h))
+    (λ j h. any-end (eqb key) (keys_in t n) j (omega (arith, length-keys t n)))
+    from
+
+-- a key and the keys behind it
+pub keys-behind : (t : Catalogue) (n : ℕ) →
+    list_any (λ i. any (eqb (extension_key_at t i)) (drop (i + 1) (keys_in t n))) (range_with_len 0 (n - 0)) ≡ repeats eqb (keys_in t n)
+keys-behind t n =
+    any-range
+    (λ i. any (eqb (extension_key_at t i)) (drop (i + 1) (keys_in t n)))
+    (λ i. repeats eqb (drop i (keys_in t n)))
+    n
+    (λ i h. repeats-step eqb (keys_in t n) i 0 (omega (arith, length-keys t n)) ∙ rw (key_in t n i h))
+    (λ i h. repeats-end eqb (keys_in t n) i (omega (arith, length-keys t n)))
+    0
+
 same-record : (k l : ℕ) → (same_name (name_of_key (k / 256)) (name_of_key (l / 256)) && eqb (k % 256) (l % 256)) ≡ eqb k l
 same-record k l =
     ap (λ (b : Bool). b && eqb (k % 256) (l % 256)) (same_key (k / 256) (l / 256))
@@ -179,6 +229,22 @@ pub row-repeats : (W : ℕ) (bs : List Bool) (d : Draft) (n i : ℕ) (T : record
     type_repeats (get_or (types_in W bs d n) i T) ≡ repeats_in (notes_of (notes W (eqb (key_at d i % 256) 0) (drop (place_at d i) bs))).annotations
 unfolding types_in type_in notes_at
 row-repeats W bs d n i T h = ap type_repeats (get_d_tabulate (type_in W bs d) n i T h)
+
+-- the test of one type
+abbrev pub row_repeats : ℕ → List Bool → Draft → ℕ → Bool
+row_repeats W bs d i = repeats_in (notes_of (notes W (eqb (key_at d i % 256) 0) (drop (place_at d i) bs))).annotations
+
+pub types-repeat : (W : ℕ) (bs : List Bool) (d : Draft) (n : ℕ) → list_any (row_repeats W bs d) (range_with_len 0 (n - 0)) ≡ any type_repeats (types_in W bs d n)
+types-repeat W bs d n =
+    let T = type_in W bs d 0 in
+    let L = types_in W bs d n in
+    any-range
+    (row_repeats W bs d)
+    (λ i. any type_repeats (drop i L))
+    n
+    (λ i h. any_step type_repeats L i T (omega (arith, length_types W bs d n)) ∙ rw (row-repeats W bs d n i T h))
+    (λ i h. any-end type_repeats L i (omega (arith, length_types W bs d n)))
+    0
 
 -- ---- refusal 6
 

@@ -14,33 +14,24 @@ ghost use Rattle.sheet_repeats.specs.Twice.{keys_in, Few, twice_in};
 
 use catalogue::Catalogue;
 use fields::Sheet;
-use sheet_draft::{Decoding, Draft, Entry};
+use sheet_draft::{Draft, Entry};
+use sheet_order::ByName;
 
 // Whether two of the first n entries, which ascend, have one key: two neighbours have then.
+// No `ByName`: with one, the proof did not find how long the array is that it lends.
 fn has_name_twice(entries: &[Entry; 64], n: usize) -> bool
     requires { n ≤ 64 }
     ensures { result ≡ not (ascends entry_before (take n entries.now)) }
 {
-    for i in 1..n {
-        if entries[i].key <= entries[i - 1].key {
-            return true;
-        }
-    }
-    false
+    !entries[..n].is_sorted_by(|a, b| a.key < b.key)
 }
 
 // Whether a key is that of one of the n extension records, from a place on.
-// Two loops as in `sheet_within`, over numbers got in another way: a closure for that is no shorter.
 fn has_key_from(t: &Catalogue, key: u64, from: usize, n: usize) -> bool
     requires { n ≤ 32 }
     ensures { result ≡ any (eqb key) (drop from (keys_in t.now n)) }
 {
-    for j in from..n {
-        if key == t.extension_keys[j] {
-            return true;
-        }
-    }
-    false
+    (from..n).any(|j| key == t.extensions[j].key)
 }
 
 // Whether two of the n extension records have one key.
@@ -48,12 +39,7 @@ fn has_key_twice(t: &Catalogue, n: usize) -> bool
     requires { n ≤ 32 }
     ensures { result ≡ repeats eqb (keys_in t.now n) }
 {
-    for i in 0..n {
-        if has_key_from(t, t.extension_keys[i], i + 1, n) {
-            return true;
-        }
-    }
-    false
+    (0..n).any(|i| has_key_from(t, t.extensions[i].key, i + 1, n))
 }
 
 // Whether one of the first n types repeats something within itself.
@@ -61,34 +47,22 @@ fn is_one_repeating(s: Sheet, d: &Draft, n: usize) -> bool
     requires { (n ≤ 64) × NotesRead s.words (bits_in s) d.now n }
     ensures { result ≡ any type_repeats (types_in s.entry.words (bits_in s.entry) d.now n) }
 {
-    for i in 0..n {
+    (0..n).any(|i| {
         let row = &d.rows[i];
-        if sheet_within::is_repeating_at(s, row.place, row.key % 256 == 0) {
-            return true;
-        }
-    }
-    false
+        sheet_within::is_repeating_at(s, row.place, row.key % 256 == 0)
+    })
 }
 
 // Any of these, in draft and catalogue.
-pub fn is_something_twice(
-    s: &[u8],
-    n: Decoding,
-    d: &Draft,
-    entries: &[Entry; 64],
-    t: &Catalogue,
-) -> bool
-    requires { Addressable s.now × Few n × NotesRead n.width (bits_of s.now) d.now n.count }
-    ensures { result ≡ twice_in n (bits_of s.now) d.now entries.now t.now }
+pub fn is_something_twice(s: &[u8], x: ByName, t: &Catalogue) -> bool
+    requires { Addressable s.now × Few x.read × NotesRead x.read.width (bits_of s.now) x.draft.now x.read.count }
+    ensures { result ≡ twice_in x.entry.read (bits_of s.now) x.entry.draft.now x.entry.entries.now t.now }
 {
-    has_name_twice(entries, n.count)
-        || has_key_twice(t, n.extensions)
-        || is_one_repeating(
-            Sheet {
-                bytes: s,
-                words: n.width,
-            },
-            d,
-            n.count,
-        )
+    let sheet = Sheet {
+        bytes: s,
+        words: x.read.width,
+    };
+    has_name_twice(x.entries, x.read.count)
+        || has_key_twice(t, x.read.extensions)
+        || is_one_repeating(sheet, x.draft, x.read.count)
 }

@@ -76,8 +76,8 @@ fn read_type(s: Sheet, c: Cursor, row: &mut DraftRow) -> Result<Cursor, Fault>
     sheet_notes::skip_notes(s, next, key % 256 == 0)
 }
 
-// n types: how many, and the cursor behind them. A loop of its own, as each kind of list has: one for all would need a trait with
-// its parser, and more lines than it spares.
+// n types: how many, and the cursor behind them. A loop of its own, as each kind of list has that is
+// kept (`fields`).
 fn read_each_type(s: Sheet, c: Cursor, n: usize, d: &mut Draft) -> Parsed<usize>
     requires { n ≤ 64 }
     ensures { (of_types_read s.entry.words (bits_in s.entry) d.new result ≡ repeat (type_info s.entry.words) n (drop c.at (bits_in s.entry))) × IfOk result (λ v. (v.0 ≤ 64) × NotesRead s.entry.words (bits_in s.entry) d.new v.0) }

@@ -1,16 +1,28 @@
 -- Laws of a window of eight bytes.
-use Rattle.std.specs.Prelude.{List, ◌≡◌, refl, ℕ, ◌+◌, ◌*◌, ◌-◌, ◌/◌, ◌%◌, ◌^◌, ◌≤◌, ◌<◌, drop}
-use Rattle.std.proofs.Common.{sym, ap, ◌∙◌, add-mul, mul_assoc, arith}
+use Rattle.std.specs.Prelude.{List, [], ◌∷◌, ◌≡◌, refl, ℕ, ◌+◌, ◌*◌, ◌-◌, ◌/◌, ◌%◌, ◌^◌, ◌≤◌, ◌<◌, drop, get_or}
+use Rattle.std.proofs.Common.{sym, ap, ◌∙◌, add_assoc, add-mul, mul_assoc, arith}
+use Rattle.std.specs.Int.{w64, from_be_bytes}
 use Rattle.std.proofs.Math.Pow
 use Rattle.std.proofs.Math.Seq
 use Rattle.definitions.specs.Bits.{bits_of, num}
 use Rattle.bits.specs.NumberLaws.{num-lt, num-split, drop-bits_of}
+use Rattle.sheet_window.specs.WindowLaws.{num-four-at}
 
 -- two numbers of four bytes are one of eight
 pub num-eight-at : (s : List ℕ) (b x y : ℕ) → x ≡ num 32 (bits_of (drop b s)) → y ≡ num 32 (bits_of (drop (b + 4) s)) → x * 4294967296 + y ≡ num 64 (bits_of (drop b s))
 num-eight-at s b x y e f =
     let d : drop 32 (bits_of (drop b s)) ≡ bits_of (drop (b + 4) s) = drop-bits_of 4 (drop b s) ∙ ap bits_of (Seq.drop-drop 4 b s) in
     sym (num-split 32 32 (bits_of (drop b s)) ∙ rw (d, ← e, ← f) refl)
+
+-- eight bytes that were read are one number
+pub num-eight-of : (s : List ℕ) (b x y z w x' y' z' w' : ℕ) → (x ≡ get_or s b 0) × (x < 256) → (y ≡ get_or s (b + 1) 0) × (y < 256) →
+    (z ≡ get_or s (b + 2) 0) × (z < 256) → (w ≡ get_or s (b + 3) 0) × (w < 256) → (x' ≡ get_or s (b + 4) 0) × (x' < 256) →
+    (y' ≡ get_or s (b + 5) 0) × (y' < 256) → (z' ≡ get_or s (b + 6) 0) × (z' < 256) → (w' ≡ get_or s (b + 7) 0) × (w' < 256) →
+    from_be_bytes w64 (x ∷ y ∷ z ∷ w ∷ x' ∷ y' ∷ z' ∷ w' ∷ []) ≡ num 64 (bits_of (drop b s))
+num-eight-of s b x y z w x' y' z' w' hx hy hz hw hx' hy' hz' hw' =
+    let at : (j : ℕ) → get_or s (b + (4 + j)) 0 ≡ get_or s (b + 4 + j) 0 = λ j. ap (λ (k : ℕ). get_or s k 0) (sym (add_assoc b 4 j)) in
+    let low = num-four-at s (b + 4) x' y' z' w' hx' (hy'.0 ∙ at 1, hy'.1) (hz'.0 ∙ at 2, hz'.1) (hw'.0 ∙ at 3, hw'.1) in
+    omega (arith, num-eight-at s b _ _ (num-four-at s b x y z w hx hy hz hw) low)
 
 -- a number shifted to the left and back loses its first o of 64 bits and all behind the next n
 shifted : (o n k a b c : ℕ) → o + (n + k) ≡ 64 → b < 2 ^ n → c < 2 ^ k → (a * 2 ^ (n + k) + (b * 2 ^ k + c)) * 2 ^ o % 2 ^ 64 / 2 ^ (64 - n) ≡ b

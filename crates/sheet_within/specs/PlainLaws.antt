@@ -1,11 +1,13 @@
 -- Laws of the quick tests.
-use Rattle.std.specs.Prelude.{Bool, true, false, ◌&&◌, ◌||◌, not, ℕ, zero, suc, ◌+◌, ◌*◌, ◌/◌, ◌%◌, ◌≤◌, ◌<◌, eqb, length, drop, get_or}
+use Rattle.std.specs.Prelude.{Bool, true, false, ◌&&◌, ◌||◌, not, ℕ, zero, suc, ◌+◌, ◌*◌, ◌-◌, ◌/◌, ◌%◌, ◌≤◌, ◌<◌, eqb, length, drop, get_or}
 use mathlib.Core.List.{List, [], ◌∷◌, map}
+use Rattle.std.specs.List.{list_any, range_with_len}
 use Rattle.std.proofs.Math.Path.{◌≡◌, refl, sym}
-use Rattle.std.proofs.Common.{ap, ◌∙◌, arith}
+use Rattle.std.proofs.Common.{ap, ◌∙◌, arith, ◌⊎◌, inl, inr}
 use borrow.Author.Tests.{le-leb}
 use Rattle.std.proofs.Math.Dec.{leb}
-use Rattle.lists.specs.Lists.{repeats}
+use Rattle.lists.specs.Lists.{any, repeats}
+use Rattle.lists.specs.Places.{any_step, any-end, repeats-step, repeats-end}
 use Rattle.lists.specs.Tests.{never}
 use Rattle.lists.specs.Tabulating.{tabulate, length-tabulate, get_d_tabulate, map-tabulate}
 use Rattle.lists.specs.Appending.{repeats-map}
@@ -17,6 +19,10 @@ use Rattle.bits.specs.NumberLaws.{num-lt}
 use Rattle.fields.specs.ParseLaws.{repeat-length}
 use Rattle.records.specs.Annotations.{resource_of, annotation_as, rows_for}
 use Rattle.records.specs.AnnotationLaws.{annotation-rows}
+use Rattle.records.specs.Kinds.{number_of}
+use Rattle.records.specs.declared.Kind.{Kind}
+use Rattle.records.specs.declared.Kind.TheVariants.{MakeList, Alias, Inherit, Derive, NoDerive}
+use Rattle.repeats.specs.RangeLaws.{any-range}
 use Rattle.repeats.specs.Repeats.{same_word, repeats_word, repeats_in}
 use Rattle.sheet_window.specs.WindowLaws.{field_in, split}
 use Rattle.sheet_keys.specs.Keys.{name_of_key, names_in}
@@ -32,6 +38,30 @@ length-words k n = length-tabulate (λ i. get_or k i 0 / 256) n
 pub word_in : (k : List ℕ) (n i : ℕ) → i < n → get_or (words_in k n) i 0 ≡ get_or k i 0 / 256
 unfolding words_in
 word_in k n i h = get_d_tabulate (λ i. get_or k i 0 / 256) n i 0 h
+
+-- a test of the words from a place on
+pub words-any : (k : List ℕ) (n w from : ℕ) →
+    list_any (λ j. eqb w (get_or k j 0 / 256)) (range_with_len from (n - from)) ≡ any (eqb w) (drop from (words_in k n))
+words-any k n w from =
+    any-range
+    (λ j. eqb w (get_or k j 0 / 256))
+    (λ j. any (eqb w) (drop j (words_in k n)))
+    n
+    (λ j h. any_step (eqb w) (words_in k n) j 0 (omega (arith, length-words k n)) ∙ rw (word_in k n j h))
+    (λ j h. any-end (eqb w) (words_in k n) j (omega (arith, length-words k n)))
+    from
+
+-- a word and the words behind it
+pub words-twice : (k : List ℕ) (n : ℕ) →
+    list_any (λ i. any (eqb (get_or k i 0 / 256)) (drop (i + 1) (words_in k n))) (range_with_len 0 (n - 0)) ≡ repeats eqb (words_in k n)
+words-twice k n =
+    any-range
+    (λ i. any (eqb (get_or k i 0 / 256)) (drop (i + 1) (words_in k n)))
+    (λ i. repeats eqb (drop i (words_in k n)))
+    n
+    (λ i h. repeats-step eqb (words_in k n) i 0 (omega (arith, length-words k n)) ∙ rw (word_in k n i h))
+    (λ i h. repeats-end eqb (words_in k n) i (omega (arith, length-words k n)))
+    0
 
 -- the words of names that are held as keys
 key-words : (k : List ℕ) (n : ℕ) → repeats same_word (map resource_of (names_in k n)) ≡ repeats eqb (words_in k n)
@@ -80,6 +110,14 @@ other-kind (suc (suc (suc (suc zero)))) rows a b = refl
 other-kind (suc (suc (suc (suc (suc zero))))) rows a b = refl
 other-kind (suc (suc (suc (suc (suc (suc zero)))))) rows a b = refl
 other-kind (suc (suc (suc (suc (suc (suc (suc k))))))) rows a b = refl
+
+-- the number of another kind
+pub no-associate : (k : Kind) (n : ℕ) → number_of k ≡ n → (k ≡ MakeList) ⊎ ((k ≡ Alias) ⊎ ((k ≡ Inherit) ⊎ ((k ≡ Derive) ⊎ (k ≡ NoDerive)))) → (n ≡ 1 → ⊥) × (n ≡ 2 → ⊥)
+no-associate k n e (inl h) = let q = ap number_of h in (λ z. absurd (omega (arith, e, q, z)), λ z. absurd (omega (arith, e, q, z)))
+no-associate k n e (inr (inl h)) = let q = ap number_of h in (λ z. absurd (omega (arith, e, q, z)), λ z. absurd (omega (arith, e, q, z)))
+no-associate k n e (inr (inr (inl h))) = let q = ap number_of h in (λ z. absurd (omega (arith, e, q, z)), λ z. absurd (omega (arith, e, q, z)))
+no-associate k n e (inr (inr (inr (inl h)))) = let q = ap number_of h in (λ z. absurd (omega (arith, e, q, z)), λ z. absurd (omega (arith, e, q, z)))
+no-associate k n e (inr (inr (inr (inr h)))) = let q = ap number_of h in (λ z. absurd (omega (arith, e, q, z)), λ z. absurd (omega (arith, e, q, z)))
 
 -- it alone repeats nothing else
 alone : (x : Annotation) → repeats_in (x ∷ []) ≡ repeats_word x

@@ -12,6 +12,7 @@ ghost use Rattle.sheet_within.specs.Within.{words_in, PlainNames, PlainNotes, Na
 
 use bits::Cursor;
 use fields::Sheet;
+use records::Kind;
 
 // The annotations by value: for whatever the tests below leave open. `single`, here and below, is that of `records`: a fact of
 // the sheet, which the definitions take as a Bool too.
@@ -30,12 +31,7 @@ fn has_word_from(k: &[u64; 15], w: u64, from: usize, n: usize) -> bool
     requires { n ≤ 15 }
     ensures { result ≡ any (eqb w) (drop from (words_in k.now n)) }
 {
-    for j in from..n {
-        if w == k[j] / 256 {
-            return true;
-        }
-    }
-    false
+    (from..n).any(|j| w == k[j] / 256)
 }
 
 // Whether two of n names have one first word.
@@ -43,12 +39,7 @@ fn has_word_twice(k: &[u64; 15], n: usize) -> bool
     requires { n ≤ 15 }
     ensures { result ≡ repeats eqb (words_in k.now n) }
 {
-    for i in 0..n {
-        if has_word_from(k, k[i] / 256, i + 1, n) {
-            return true;
-        }
-    }
-    false
+    (0..n).any(|i| has_word_from(k, k[i] / 256, i + 1, n))
 }
 
 // Whether n names at a place are there and have first words that differ.
@@ -104,14 +95,14 @@ fn associate_up(s: Sheet, at: usize, single: bool, low: usize) -> Option<Up>
     if w % 16 == 0 {
         return None;
     }
-    // The kind as its three bits: 7 is none, so a `Kind` would want a test more.
-    if w / 16 == 1 {
-        return names_up(s, at + 7, w % 16, low);
+    let Ok(kind) = Kind::try_from(w / 16) else {
+        return None;
+    };
+    match kind {
+        Kind::Associate => names_up(s, at + 7, w % 16, low),
+        Kind::NestAssociate if single => names_up(s, at + 7, w % 16, low),
+        _ => None,
     }
-    if single && w / 16 == 2 {
-        return names_up(s, at + 7, w % 16, low);
-    }
-    None
 }
 
 // Whether n annotations are associates whose first words ascend from one to the next.
@@ -143,15 +134,13 @@ fn is_plain_in(s: Sheet, at: usize, single: bool) -> bool
     if 256 <= w {
         return is_plain_each(s, at + 4, single, w / 128);
     }
-    // The three bits of the kind, as above.
-    let kind = w / 16 % 8;
-    if kind == 1 {
-        return is_plain_list(s, at + 11, w % 16);
+    let Ok(kind) = Kind::try_from(w / 16 % 8) else {
+        return true;
+    };
+    match kind {
+        Kind::Associate | Kind::NestAssociate => is_plain_list(s, at + 11, w % 16),
+        Kind::MakeList | Kind::Alias | Kind::Inherit | Kind::Derive | Kind::NoDerive => true,
     }
-    if kind == 2 {
-        return is_plain_list(s, at + 11, w % 16);
-    }
-    true
 }
 
 // Whether the annotations at a place repeat something.

@@ -29,7 +29,7 @@ pub text-last : (bs : List Bool) (p n v : ℕ) → v ≡ num (8 * n) (drop p bs)
 unfolding spelt
 text-last bs p n v e = rw e (ap (all is_word_byte) (bytes-num n (drop p bs)))
 
-six-more : (bs : List Bool) (p n v : ℕ) → 6 < n → v ≡ num 48 (drop p bs) →
+six-more : (bs : List Bool) (p n v : ℕ) → 6 ≤ n → v ≡ num 48 (drop p bs) →
     all is_word_byte (pack_to n (drop p bs)) ≡ (spelt 6 v && all is_word_byte (pack_to (n - 6) (drop (p + 48) bs)))
 six-more bs p n v h e =
     let k : n ≡ 6 + (n - 6) = omega arith in
@@ -38,11 +38,11 @@ six-more bs p n v h e =
     ∙ all_append is_word_byte (pack_to 6 (drop p bs)) (pack_to (n - 6) (drop 48 (drop p bs)))
     ∙ ap₂ (λ (x : Bool) (l : List Bool). x && all is_word_byte (pack_to (n - 6) l)) (sym (text-last bs p 6 v e)) (Seq.drop-drop 48 p bs)
 
-pub text-six : (bs : List Bool) (p n v : ℕ) → 6 < n → v ≡ num 48 (drop p bs) → spelt 6 v ≡ true →
+pub text-six : (bs : List Bool) (p n v : ℕ) → 6 ≤ n → v ≡ num 48 (drop p bs) → spelt 6 v ≡ true →
     all is_word_byte (pack_to n (drop p bs)) ≡ all is_word_byte (pack_to (n - 6) (drop (p + 48) bs))
 text-six bs p n v h e t = six-more bs p n v h e ∙ rw t refl
 
-pub text-not : (bs : List Bool) (p n v : ℕ) → 6 < n → v ≡ num 48 (drop p bs) → spelt 6 v ≡ false → all is_word_byte (pack_to n (drop p bs)) ≡ false
+pub text-not : (bs : List Bool) (p n v : ℕ) → 6 ≤ n → v ≡ num 48 (drop p bs) → spelt 6 v ≡ false → all is_word_byte (pack_to n (drop p bs)) ≡ false
 text-not bs p n v h e t = six-more bs p n v h e ∙ rw t refl
 
 pub text-none : (n : ℕ) (bs : List Bool) → n ≡ 0 → all is_word_byte (pack_to n bs) ≡ true

@@ -17,6 +17,27 @@ mod spelt;
 use bits::Cursor;
 use fields::Fault;
 use spelt::{Source, Spelt};
+use std::cmp::Ordering;
+
+// A one in each of six bytes: its products have one byte six times.
+const EACH: u64 = 0x0101_0101_0101;
+
+// The top bits of six bytes.
+const TOPS: u64 = 0x8080_8080_8080;
+
+// One more than the greatest number of six bytes.
+const SIX_BYTES: u64 = 0x1_0000_0000_0000;
+
+// The bytes of `resour`, and of `ce` with four zeros behind them.
+const RESOUR: u64 = 0x7265_736f_7572;
+
+const CE: u64 = 0x6365_0000_0000;
+
+// The bytes of `self`, with two zeros behind them.
+const SELF: u64 = 0x7365_6c66_0000;
+
+// The first seven bits of a head that begins with r or s, which differ in the eighth alone.
+const R_OR_S: u64 = 57;
 
 // Whether the words so far ascend, and the numbers of `resource` and `self`. No Option: for a word that is missing the law's own
 // number is the count of all words (`number_of` of the definitions), and that stands here for one that is not found yet.
@@ -39,17 +60,16 @@ pub struct WordsRead {
 }
 
 // Of six bytes below 128, the top bit of each that may stand in a word. A capital is made small; a byte is in a range where only
-// one of two sums has the top bit.
+// one of two sums has the top bit: with 31, which is 128 less `a`, and with 5, which is 127 less `z`; for digits and `_` likewise.
 fn marked(v: u64) -> u64
     requires { v < 2 ^ 48 }
     ensures { result ≡ marks v }
 {
-    let each: u64 = 1103823438081;
-    let small = v | (each * 32);
-    let letter = (small + each * 31) ^ (small + each * 5);
-    let digit = (v + each * 80) ^ (v + each * 70);
-    let line = (v + each * 33) ^ (v + each * 32);
-    (letter ^ digit ^ line) & (each * 128)
+    let small = v | (EACH * 32);
+    let letter = (small + EACH * 31) ^ (small + EACH * 5);
+    let digit = (v + EACH * 80) ^ (v + EACH * 70);
+    let line = (v + EACH * 33) ^ (v + EACH * 32);
+    (letter ^ digit ^ line) & TOPS
 }
 
 // Whether the n bytes of a number may all stand in a word (FORMAT 1.1).
@@ -57,9 +77,8 @@ fn is_spelt(v: u64, n: usize) -> bool
     requires { (n ≤ 6) × (v < 2 ^ (8 * n)) }
     ensures { result ≡ spelt n v }
 {
-    let tops: u64 = 141289400074368;
-    if v & tops == 0 {
-        return marked(v) == tops >> (48 - 8 * n);
+    if v & TOPS == 0 {
+        return marked(v) == TOPS >> (48 - 8 * n);
     }
     false
 }
@@ -69,22 +88,19 @@ fn is_text(s: Source, at: usize, n: usize) -> bool
     requires { at + 8 * n ≤ 8 * length s.bytes.now }
     ensures { result ≡ all is_word_byte (pack_to n (drop at (bits_in s.entry))) }
 {
-    // A `while`, since what is left is asked again behind the loop.
-    let mut p = at;
-    let mut left = n;
-    while 6 < left {
-        let v = sheet_window::wide(s.bytes, p, 48);
-        if is_spelt(v, 6) {
-            p += 48;
-            left -= 6;
-        } else {
+    for i in 0..n / 6 {
+        if !is_spelt(sheet_window::wide(s.bytes, at + 48 * i, 48), 6) {
             return false;
         }
     }
+    let left = n % 6;
     if left == 0 {
         return true;
     }
-    is_spelt(sheet_window::wide(s.bytes, p, 8 * left), left)
+    is_spelt(
+        sheet_window::wide(s.bytes, at + 8 * (n - left), 8 * left),
+        left,
+    )
 }
 
 // The first six of n bytes from a place on, as one number.
@@ -190,7 +206,7 @@ fn read_word(s: Source, at: usize) -> Result<Spelt, Fault>
         let w = sheet_window::wide_in(s.bytes, at, 53);
         let n = (w >> 48) as usize;
         if 0 < n {
-            let x = w % 281474976710656;
+            let x = w % SIX_BYTES;
             if n <= 6 {
                 return short_word(s, at, n, x);
             }
@@ -223,13 +239,11 @@ fn rest_before(a: Spelt, b: Spelt) -> bool
 fn is_before(a: Spelt, b: Spelt) -> bool
     ensures { result ≡ bytes_before (bytes_of a.entry) (bytes_of b.entry) }
 {
-    if a.head < b.head {
-        return true;
+    match a.head.cmp(&b.head) {
+        Ordering::Less => true,
+        Ordering::Equal => rest_before(a, b),
+        Ordering::Greater => false,
     }
-    if b.head < a.head {
-        return false;
-    }
-    rest_before(a, b)
 }
 
 // Whether words still ascend with one more.
@@ -243,11 +257,11 @@ fn still_up(up: bool, a: Spelt, b: Spelt) -> bool
 fn is_resource(w: Spelt) -> bool
     ensures { result ≡ same_list eqb resource_bytes (bytes_of w.entry) }
 {
-    if w.head == 125780053947762 {
+    if w.head == RESOUR {
         if w.count < 6 {
             return false;
         }
-        return head_at(w.source, w.at + 48, w.count - 6) == 109285442846720;
+        return head_at(w.source, w.at + 48, w.count - 6) == CE;
     }
     false
 }
@@ -267,7 +281,7 @@ fn with_name(t: Found, up: bool, w: Spelt, i: usize, n: usize) -> Found
     Found {
         up,
         resource: first_place(is_resource(w), t.resource, i, n),
-        own: first_place(w.head == 126879447515136, t.own, i, n),
+        own: first_place(w.head == SELF, t.own, i, n),
     }
 }
 
@@ -276,7 +290,7 @@ fn with_word(t: Found, last: Spelt, w: Spelt, i: usize, n: usize) -> Found
     ensures { With t last.entry w.entry i n result }
 {
     let up = still_up(t.up, last, w);
-    if w.head / 2199023255552 == 57 {
+    if w.head >> 41 == R_OR_S {
         return with_name(t, up, w, i, n);
     }
     Found {

@@ -1,38 +1,31 @@
 -- What stands in the store, an element for each type.
-use Rattle.std.specs.Prelude.{List, [], ◌≡◌, ℕ, ◌<◌, get_or, length}
+use Rattle.std.specs.Prelude.{List, [], map, ◌≡◌, ℕ, ◌<◌, get_or, length, replicate}
 use Rattle.std.proofs.Common.{arith, refl}
 use Rattle.rows.specs.declared.Row.{Row}
 use Rattle.rows.specs.Rows.{empty}
-use Rattle.records.specs.declared.Kind.TheVariants.{MakeList, Associate}
-use Rattle.dedup.specs.Entries.{Entries}
+use Rattle.bounded.specs.declared.UpTo.{UpTo}
+use Rattle.bounded.specs.Items.{items_of}
+use Rattle.dedup.specs.Entries.{Entries, entries_of}
 use Rattle.dedup.specs.declared.Entry.{Entry}
 use Rattle.dedup.specs.declared.inherited.Inherited.{Inherited}
 use Rattle.dedup.specs.Entries.{nil}
 use Rattle.dedup.specs.Keeping.{table_of}
-use Rattle.store.specs.Saving.{entry_of, Fit}
+use Rattle.store.specs.Saving.{entries_in, Fit}
 use Rattle.store.specs.declared.Saved.{Saved}
 
-pub none-fit : Fit 0 [] []
-none-fit = record { few = omega arith; apart = nil; full = refl; clean = λ w l c. refl }
-
 -- what a read past the end gives
+abbrev none : UpTo Row 200
+none = record { count = 0; items = replicate 200 empty; few = omega arith; long = refl }
+
+pub none-fit : Fit none []
+none-fit = record { apart = nil; full = refl; clean = λ w l c. refl }
+
 abbrev pub nothing : Saved
-nothing = record { count = 0; words = []; doms = []; fit = none-fit }
+nothing = record { words = none; doms = []; fit = none-fit }
 
-abbrev pub zeros : Entry
-zeros = record { kind = MakeList; words = empty; parents = 0 }
-
--- each of the entries is an Associate
-abbrev pub Associates : Entries → Type 0
-Associates l = (i : ℕ) → i < l.count → (get_or l.items i zeros).kind ≡ Associate
-
--- these are the words of the entries
-abbrev pub WordsAt : List Row → Entries → Type 0
-WordsAt rs l = (i : ℕ) → i < l.count → table_of rs i ≡ (get_or l.items i zeros).words
-
--- and these are the entries with such words
-abbrev pub EntriesAt : List Row → Entries → Type 0
-EntriesAt rs l = (i : ℕ) → i < l.count → entry_of (table_of rs i) ≡ get_or l.items i zeros
+-- the words of the entries
+abbrev pub words_of : Entries → List Row
+words_of l = map (λ (e : Entry). e.words) (entries_of l)
 
 -- these are the dom sets
 abbrev pub DomsAt : List Row → List Row → Type 0
@@ -40,8 +33,7 @@ DomsAt rs ds = (w : ℕ) → w < 200 → table_of rs w ≡ table_of ds w
 
 -- the list h is kept there
 pub record Holds (s : Saved) (h : Inherited) : Type 0 where
-  pub count : s.count ≡ h.list.count
-  pub entries : WordsAt s.words h.list
+  pub entries : items_of s.words ≡ words_of h.list
   pub doms : DomsAt s.doms h.doms
 
 -- in r the list h is kept at the place of the type t, and all else is as in s
@@ -52,6 +44,5 @@ pub record Stores (s : List Saved) (t : ℕ) (h : Inherited) (r : List Saved) : 
 
 -- r is what is kept there, without parents
 pub record Fetched (s : Saved) (r : Inherited) : Type 0 where
-  pub count : s.count ≡ r.list.count
-  pub entries : EntriesAt s.words r.list
+  pub entries : entries_of r.list ≡ entries_in s.words
   pub doms : DomsAt s.doms r.doms

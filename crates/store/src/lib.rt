@@ -11,13 +11,11 @@ use dedup::{Entry, Inherited};
 use records::Kind;
 use rows::Row;
 
-// An array beside its count: fixed memory, and no heap.
 #[derive(Clone, Copy)]
 pub struct Saved {
-    pub count: usize,
-    pub words: [Row; 200],
+    pub words: UpTo<Row, 200>,
     pub doms: [Row; 200],
-    pub ghost fit: { Fit count words doms } by { Prim.hlevel (props, Apart-prop) },
+    pub ghost fit: { Fit words doms } by { Prim.hlevel (props, Apart-prop) },
 }
 
 impl Saved {
@@ -26,33 +24,25 @@ impl Saved {
 
     // That a type inherits nothing.
     pub fn nothing() -> Saved
-        ensures { result.count ≡ 0 }
+        ensures { result.words.count ≡ 0 }
     {
-        let none = rows::empty_row();
+        let words = UpTo::new(rows::empty_row());
         let doms = dedup::no_doms();
-        Saved {
-            count: 0,
-            words: [none; 200],
-            doms,
-        }
+        Saved { words, doms }
     }
 
     // What the type inherits.
     pub fn fetch(&self) -> Inherited
         ensures { Fetched self.now result }
     {
-        let mut items = dedup::no_entries();
-        for i in 0..self.count {
-            items[i] = Entry {
+        let mut list = dedup::no_entries();
+        for words in self.words.as_slice() {
+            list.push(Entry {
                 kind: Kind::Associate,
-                words: self.words[i],
+                words: *words,
                 parents: 0,
-            };
+            });
         }
-        let list = UpTo {
-            count: self.count,
-            items,
-        };
         Inherited {
             list,
             doms: self.doms,
@@ -63,13 +53,11 @@ impl Saved {
     pub fn of(h: &Inherited) -> Saved
         ensures { Holds result h.now }
     {
-        let none = rows::empty_row();
-        let mut words = [none; 200];
-        for i in 0..h.list.count {
-            words[i] = h.list.items[i].words;
+        let mut words = UpTo::new(rows::empty_row());
+        for e in h.list.as_slice() {
+            words.push(e.words);
         }
         Saved {
-            count: h.list.count,
             words,
             doms: h.doms,
         }

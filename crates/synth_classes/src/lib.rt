@@ -18,7 +18,7 @@ pub use numbers::{Doms, Numbers};
 use rows::Row;
 pub use site::Site;
 
-// What it comes from: the doms of its classes, and the direct parents that pass it on, of which an own one has none.
+// What a making comes from: the doms of its classes, and the direct parents that pass it on, of which an own one has none.
 #[derive(Clone, Copy)]
 pub struct Origin {
     pub doms: Row,
@@ -26,7 +26,8 @@ pub struct Origin {
 }
 
 // The place of the type of that name, if one is declared (FORMAT 1.5): its first word, and one more than its second, or 0 where
-// it has none. A word past those of the sheet is that of no name.
+// it has none. A word past those of the sheet is that of no name. These are the parts of a key: a Name has 255 where it has no
+// second word, and would be made of them to be taken apart again.
 #[tactic(auto, using(crate::specs::ClassLaws::place_first, crate::specs::ClassLaws::place_second, crate::specs::ClassLaws::place_there))]
 pub fn place_of(t: &Catalogue, first: usize, second: usize) -> Option<usize>
     requires { (first < 256) × (second < 256) }

@@ -6,44 +6,38 @@ ghost use Rattle.std.specs.Prelude.{◌<◌};
 ghost use Rattle.definitions.specs.Bits.{bits_of};
 ghost use Rattle.own_associates.specs.Owning.{Noted};
 ghost use Rattle.sheet_draft.specs.Draft.{notes_at};
+ghost use Rattle.item_entries.specs.Entries.{row_in};
 ghost use Rattle.synth_places.specs.Places.{ReadAt, Readable, Located};
 
 use own_associates::Location;
-use sheet_draft::{Draft, Entry};
+use sheet_order::ByName;
 
-// Where the annotations of the type in a row of the draft stand, if it has any. The width is how many words the sheet has.
+// Where the annotations of the type at a place in name order stand, if it has any.
 #[tactic(auto, using(crate::specs::PlaceLaws::none_there, crate::specs::PlaceLaws::some_there))]
-fn location_of(s: &[u8], d: &Draft, row: usize, width: usize) -> Option<Location>
-    requires row_bound { (row < 64) × (width < 256) }
-    requires read_at { ReadAt width (bits_of s.now) d.now row }
-    ensures { Noted (bits_of s.now) result (notes_at width (bits_of s.now) d.now row).annotations }
+fn location_of(s: &[u8], x: ByName, a: usize) -> Option<Location>
+    requires bounds { (a < 64) × (row_in x.entries.now a < 64) × (x.read.width < 256) }
+    requires read_at { ReadAt x.read.width (bits_of s.now) x.draft.now (row_in x.entries.now a) }
+    ensures { Noted (bits_of s.now) result (notes_at x.entry.read.width (bits_of s.now) x.entry.draft.now (row_in x.entry.entries.now a)).annotations }
 {
-    let at = d.rows[row].place;
-    if sheet_peek::peek(s, at, 4) == 0 {
+    let row = x.row(a);
+    if sheet_peek::peek(s, row.place, 4) == 0 {
         return None;
     }
     Some(Location {
-        at,
-        words: width as u8,
-        single: d.rows[row].key % 256 == 0,
+        at: row.place,
+        words: x.read.width as u8,
+        single: row.key % 256 == 0,
     })
 }
 
 // Those of all types.
 #[tactic(auto, using(crate::specs::PlaceLaws::located_more))]
-pub fn fill(
-    out: &mut [Option<Location>; 64],
-    s: &[u8],
-    d: &Draft,
-    entries: &[Entry; 64],
-    count: usize,
-    width: usize,
-)
-    requires width_bound { width < 256 }
-    requires readable { Readable width (bits_of s.now) d.now entries.now count }
-    ensures { Located width (bits_of s.now) d.now entries.now count out.new }
+pub fn fill(out: &mut [Option<Location>; 64], s: &[u8], x: ByName)
+    requires width_bound { x.read.width < 256 }
+    requires readable { Readable x.read.width (bits_of s.now) x.draft.now x.entries.now x.read.count }
+    ensures { Located x.entry.read.width (bits_of s.now) x.entry.draft.now x.entry.entries.now x.entry.read.count out.new }
 {
-    for a in 0..count {
-        out[a] = location_of(s, d, entries[a].row, width);
+    for a in 0..x.read.count {
+        out[a] = location_of(s, x, a);
     }
 }

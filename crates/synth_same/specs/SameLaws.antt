@@ -6,7 +6,10 @@ use Rattle.std.proofs.Math.Path.{sym, ap, subst}
 use Rattle.std.proofs.Common.{ap₂, ◌∙◌, arith, ext_get_or}
 use Prim.Native.Nat.{ℕ, zero, suc, ◌≤◌, ◌<◌}
 use borrow.Author.Tests.{ltb-true, ltb-false}
-use Rattle.std.specs.List.{list_any}
+use Rattle.std.specs.Bool.{MatchBool}
+use Rattle.std.specs.List.{list_any, range_with_len}
+use Rattle.std.specs.List as ranges
+use Rattle.std.proofs.lemmas.List.FromFn.{length-range_with_len, get_or-range_with_len}
 use Rattle.lists.specs.Lists.{all, filter, null, each}
 use Rattle.lists.specs.Tests.{by, never, not_so, each_of}
 use Rattle.lists.specs.Appending.{all_map, each-each, each_map, each_same}
@@ -24,7 +27,7 @@ use Rattle.line_laws.specs.Declarations.{type-of}
 use Rattle.line_laws.specs.SameItem.{same_item_lem, item-same}
 use Rattle.law_classes.specs.Sets.{type_at}
 use Rattle.catalogue.specs.Layout.{head_at, marks_at}
-use Rattle.catalogue.specs.Catalogue.{virtual_head, marks-wide}
+use Rattle.catalogue.specs.Catalogue.{virtual_head}
 use Rattle.catalogue.specs.declared.Catalogue.{Catalogue}
 use Rattle.item_refusal.specs.MarkLaws.{AllWithin, one_code}
 use Rattle.synth_classes.specs.declared.site.Site.{Site}
@@ -71,6 +74,19 @@ pub marks-alike : (t : Catalogue) (word : ℕ) (d e : Row) (n m i : ℕ) → n �
     → SameMarks t word d e true
 marks-alike t word d e n m i p q h l k =
     record { yes = λ z. ext_get_or false (bits_in t d word) (bits_in t e word) (sym p ∙ h ∙ q) (λ j b. k j (omega (arith, p, l))); no = λ z. never refl z }
+
+-- what a search for a bit in which two lists of marks differ answers
+pub marks-all : (t : Catalogue) (word : ℕ) (d e : Row) (n m : ℕ) (r : Bool) → n ≡ length (bits_in t d word) → m ≡ length (bits_in t e word) → n ≡ m
+    → MatchBool r (ranges.AllWithin (λ i. get_or (bits_in t d word) i false ≡ get_or (bits_in t e word) i false) (range_with_len 0 n) 0 (length (range_with_len 0 n)))
+    ((k : ℕ) × (k < length (range_with_len 0 n)) × ranges.HoldsAt (λ i. get_or (bits_in t d word) i false ≡ get_or (bits_in t e word) i false → ⊥) (range_with_len 0 n) k)
+    → SameMarks t word d e r
+marks-all t word d e n m true p q h f =
+    marks-alike t word d e n m n p q h (omega arith)
+    (λ j l.
+    let z : get_or (range_with_len 0 n) j 0 ≡ j = omega (arith, get_or-range_with_len 0 n j 0 l) in
+    subst (λ (i : ℕ). get_or (bits_in t d word) i false ≡ get_or (bits_in t e word) i false) z (f j 0 (omega arith) (omega (arith, length-range_with_len 0 n))))
+marks-all t word d e n m false p q h f =
+    record { yes = λ z. never z refl; no = λ z b. f.2 0 (ap (λ (l : List Bool). get_or l (get_or (range_with_len 0 n) f.0 0) false) b) }
 
 -- ---- in a map
 
@@ -130,7 +146,7 @@ module _ (s : Sheet) (t : Catalogue) (known : Known s t) where
       let p = place_in t word k in
       let l = ltb-true p 64 e in
       let x = known.listed.entry p (class_low s t known word k l) in
-      rw e (ap (each mark_bits) (append-nil (type_at M p).marks) ∙ sym (marks-wide s t p x) ∙ ap (λ (y : ℕ). to_bits y (marks_at t p)) (width-there t p l)))
+      rw e (ap (each mark_bits) (append-nil (type_at M p).marks) ∙ sym x.mark_bits ∙ ap (λ (y : ℕ). to_bits y (marks_at t p)) (width-there t p l)))
       (λ e. rw e (ap (λ (y : ℕ). to_bits y (marks_at t (place_in t word k))) (width-none t (place_in t word k) (ltb-false _ _ e)))))
 
   bits-known : (doms : Row) (word : ℕ) → word < 255 → each mark_bits (marks_of M (classes_of doms word)) ≡ bits_in t doms word

@@ -22,7 +22,8 @@ fn same_doms(d: Row, e: Row) -> bool
     Doms::of(d).eq(Doms::of(e))
 }
 
-// Whether the class of a dom and r is P.r for the type P at a place: the dom is the word that P is named.
+// Whether the class of a dom and r is P.r for the type P at a place: the dom is the word that P is named. The key of a name of
+// one word is that word times 256, so that one comparison does, and no name is made of the key.
 fn is_class(t: &Catalogue, dom: u8, place: usize) -> bool
     requires { place < 64 }
     ensures { result ≡ class_of t.now dom place }
@@ -30,7 +31,8 @@ fn is_class(t: &Catalogue, dom: u8, place: usize) -> bool
     dom != 0 && t.keys[place] == (dom - 1) as u64 * 256
 }
 
-// Whether the classes of the doms are P.r for each of the types P in turn.
+// Whether the classes of the doms are P.r for each of the types P in turn. No zip: it ends with the shorter of the two, and
+// which of them that was would be asked behind it.
 fn same_classes(t: &Catalogue, doms: Row, types: u64) -> bool
     ensures { result ≡ same_list (class_of t.now) (below (has doms) 201) (members types) }
 {
@@ -98,9 +100,10 @@ fn mark_bit(t: &Catalogue, site: Site, doms: Row, i: usize) -> bool
     let mut left = i;
     for dom in Doms::of(doms) {
         if let Some(place) = synth_classes::class_place(t, dom as usize, site.word) {
-            let width = t.mark_width(place);
+            let marks = t.marks_of(place);
+            let width = marks.width as usize;
             if left < width {
-                return bitsets::has(t.marks[place], width - 1 - left);
+                return bitsets::has(marks.bits, width - 1 - left);
             }
             left -= width;
         }
@@ -109,7 +112,7 @@ fn mark_bit(t: &Catalogue, site: Site, doms: Row, i: usize) -> bool
 }
 
 // Whether the marks of two lists of classes are the same (FORMAT 4.7): no mark's bits begin with another's. They are compared as
-// bits, and not as derived equality would, since two columns have them: how many a class has, and which.
+// bits: those of several classes stand in several numbers, so that no derived equality compares them.
 fn same_marks(t: &Catalogue, site: Site, d: Row, e: Row) -> bool
     ensures { SameMarks t.now site.word d e result }
 {
@@ -117,12 +120,7 @@ fn same_marks(t: &Catalogue, site: Site, d: Row, e: Row) -> bool
     if n != marks_width(t, site, e) {
         return false;
     }
-    for i in 0..n {
-        if mark_bit(t, site, d, i) != mark_bit(t, site, e, i) {
-            return false;
-        }
-    }
-    true
+    (0..n).all(|i| mark_bit(t, site, d, i) == mark_bit(t, site, e, i))
 }
 
 // Whether both are virtual or neither is (FORMAT 4.6).

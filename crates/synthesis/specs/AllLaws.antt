@@ -1,11 +1,11 @@
 -- All types, in the order of the trail.
 use mathlib.Core.Bool.{Bool, true, false}
-use Rattle.std.specs.Prelude.{List, [], ◌∷◌, refl, eqb, ltb, length, get_or, Option}
+use Rattle.std.specs.Prelude.{List, [], ◌∷◌, refl, eqb, get_or, Option}
 use Rattle.std.proofs.Math.Bool.{or-false}
 use Rattle.std.proofs.Math.Path.{◌≡◌, sym, ap, subst}
 use Rattle.std.proofs.Common.{◌∙◌, arith}
 use Prim.Native.Nat.{ℕ, zero, suc, ◌+◌, ◌<◌, ◌≤◌}
-use borrow.Author.Tests.{eqb-true, eqb-false, eq-eqb, ne_eqb, ltb-true}
+use borrow.Author.Tests.{eqb-true, eqb-false, eq-eqb, ne_eqb}
 use Rattle.lists.specs.Lists.{any}
 use Rattle.lists.specs.Tests.{by, never}
 use Rattle.lists.specs.Appending.{any_append}
@@ -21,7 +21,7 @@ use Rattle.ordering.specs.declared.Parents.{Parents}
 use Rattle.own_associates.specs.declared.Location.{Location}
 use Rattle.catalogue.specs.declared.Catalogue.{Catalogue}
 use Rattle.emitting.specs.declared.Writer.{Writer}
-use Rattle.emitting.specs.Writing.{state, same_self, same_then}
+use Rattle.emitting.specs.Writing.{counted, state, counted-over, same_self, same_then}
 use Rattle.interpretation.specs.Emit.{emit}
 use Rattle.visit_laws.specs.Trail as visit
 use Rattle.visit_laws.specs.Trail.{Reached, seen_in, flags_of, got_from, play, play_all, nothing_played}
@@ -112,21 +112,14 @@ module _ (tb : Catalogue) (bs : List Bool) (ns : List (Option Location)) (p : Pa
       ∙ sym (emitting.emit-append row_bytes w₀.limit (state w₀) d.rows rs)
       ∙ ap (λ (x : visit.Played). emit w₀.limit (state w₀) x.rows) (sym (play-last m nothing_played (tab g n) (g n))))
 
-  pub played-full : (i : ℕ) (st : List Saved) (w : Writer) (ok : ℕ) → i ≤ r.arrivals.count → ltb w.limit w.count ≡ true → w₀.count ≤ w₀.limit + 1 → PlayedTo tb bs ns p w₀ r i st w ok
+  pub played-full : (i : ℕ) (st : List Saved) (w : Writer) (ok : ℕ) → i ≤ r.arrivals.count → w.more ≡ true → PlayedTo tb bs ns p w₀ r i st w ok
       → AllPlayed tb bs ns p w₀ r w
-  played-full i st w ok l f c g =
+  played-full i st w ok l f g =
       record {
         same = g.same;
         emits = λ s z.
             let m = type_map_of s in
             let e = (g.going s z).emits in
-            let k : w.count ≡ w₀.limit + 1 =
-            omega (
-              arith,
-              ltb-true w.limit w.count f,
-              g.same.limit,
-              ap (λ (x : emitting.State). x.1) e,
-              emitting.emit-most row_bytes w₀.limit (state w₀) (play_all m nothing_played (tab (reached_at p m r) i)).rows c,
-            ) in
+            let k : counted w ≡ w₀.limit + 1 = omega (arith, counted-over w f, g.same.limit) in
             full-stays m (reached_at p m r) i r.arrivals.count (state w) k l e;
       }

@@ -1,5 +1,5 @@
 -- What the functions of the synthesis require and ensure.
-use Rattle.std.specs.Prelude.{Bool, false, List, [], ◌∷◌, ◌++◌, ◌≡◌, ℕ, ◌+◌, ◌≤◌, ◌<◌, length, Option}
+use Rattle.std.specs.Prelude.{Bool, false, List, [], ◌∷◌, ◌++◌, ◌≡◌, ℕ, ◌<◌, length, Option}
 use Rattle.lists.specs.Lists.{all}
 use Rattle.definitions.specs.Records.{Sheet}
 use Rattle.definitions.specs.Map.{TypeMap, type_map_of}
@@ -61,7 +61,6 @@ pub record AllReady (tb : Catalogue) (bs : List Bool) (ns : List (Option Locatio
   pub sheet : Sheet
   pub so : Synthesizes sheet tb bs ns p
   pub trail : TrailOf p r
-  pub count : w.count ≤ w.limit + 1
 
 -- the first i types of the trail were played
 pub record PlayedTo (tb : Catalogue) (bs : List Bool) (ns : List (Option Location)) (p : Parents) (w : Writer) (r : Trail) (i : ℕ) (st : List Saved) (w' : Writer) (ok : ℕ) : Type 0 where

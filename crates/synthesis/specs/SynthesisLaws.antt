@@ -12,7 +12,7 @@ use Rattle.own_associates.specs.declared.Location.{Location}
 use Rattle.catalogue.specs.declared.Catalogue.{Catalogue}
 use Rattle.emitting.specs.declared.Report.{Report}
 use Rattle.emitting.specs.declared.Writer.{Writer}
-use Rattle.emitting.specs.Writing.{Begins, Tells, emits_begun}
+use Rattle.emitting.specs.Writing.{counted, Begins, Tells, told-rows, told-more, emits_begun}
 use Rattle.interpretation.specs.Emit.{emit}
 use Rattle.visit_laws.specs.Trail.{nothing_played, play_all}
 use Rattle.visiting.specs.Trails.{reached_at, TrailOf}
@@ -27,12 +27,12 @@ module _ (tb : Catalogue) (bs : List Bool) (ns : List (Option Location)) (p : Pa
       → Begins slice most_rows w → AllPlayed tb bs ns p w r w' → Tells w' a → new ≡ w'.buf.now → Synthesized tb bs ns p slice.now new a.rows a.more
   synthesized-by slice w w' a new h b g t q =
       let k : w'.limit ≡ most_rows = g.same.limit ∙ b.limit in
-      rw (t.rows, t.more, k, q)
+      rw (told-rows w' a t, told-more w' a t, k, q)
       (record {
         written = λ s z.
             let m = type_map_of s in
             let rs = (play_all m nothing_played (tab (reached_at p m r) r.arrivals.count)).rows in
-            as_written (synthesis m).rows slice.now w'.buf.now w'.count h
+            as_written (synthesis m).rows slice.now w'.buf.now (counted w') h
             (emits_begun row_bytes slice most_rows w w' rs b (record { same = g.same; state = g.emits s z })
             ∙ ap (emit most_rows (slice.now, 0)) (sym (rows-along p r y m z.held.reads)));
       })

@@ -27,6 +27,7 @@ struct Tables<'a> {
     catalogue: &'a Catalogue,
     order: &'a Parents,
     notes: &'a [Option<Location>; 64],
+    ghost countable: { Addressable sheet.now },
 }
 
 // A type at its turn: its place, which of its listings were the first to reach their parent, as bits, and the types whose call
@@ -41,7 +42,6 @@ pub struct Visit {
 // What type t gets from the listings with a flag. What it inherits where all hand on is kept for its children: it is the same
 // where no call failed.
 fn receive(m: Tables, store: &mut [Saved; 64], t: usize, flags: Flags) -> Inherited
-    requires addressable { Addressable m.sheet.now }
     requires ready { Ready m.order.now (bits_of m.sheet.now) m.notes.now store.old t 255 }
     requires flagged { Flagged m.order.now t flags }
     ensures { Receives m.entry.order.now (bits_of m.entry.sheet.now) m.entry.notes.now store.old t flags store.new result }
@@ -57,8 +57,7 @@ fn receive(m: Tables, store: &mut [Saved; 64], t: usize, flags: Flags) -> Inheri
 // A type takes what its parents hand on and is interpreted; its parents were, in the loop that calls this and not by recursion.
 // The types whose call succeeded, as bits.
 fn inherit_annotations(m: Tables, store: &mut [Saved; 64], out: &mut Writer<'_>, v: Visit) -> u64
-    requires addressable { Addressable m.sheet.now }
-    requires turn { Turn m.catalogue.now (bits_of m.sheet.now) m.notes.now m.order.now store.old v.place }
+    requires { Turn m.catalogue.now (bits_of m.sheet.now) m.notes.now m.order.now store.old v.place }
     ensures { Plays m.entry.catalogue.now (bits_of m.entry.sheet.now) m.entry.notes.now m.entry.order.now store.old out.old v store.new out.new result }
 {
     let place = v.place;
@@ -72,16 +71,14 @@ fn inherit_annotations(m: Tables, store: &mut [Saved; 64], out: &mut Writer<'_>,
 // The types in the order in which they are reached. One past the limit what is written stays as it is, so that no type more is
 // played.
 fn play_all(m: Tables, store: &mut [Saved; 64], out: &mut Writer<'_>, trail: Trail)
-    requires addressable { Addressable m.sheet.now }
-    requires all_ready { AllReady m.catalogue.now (bits_of m.sheet.now) m.notes.now m.order.now out.old trail }
+    requires { AllReady m.catalogue.now (bits_of m.sheet.now) m.notes.now m.order.now out.old trail }
     ensures { AllPlayed m.entry.catalogue.now (bits_of m.entry.sheet.now) m.entry.notes.now m.entry.order.now out.old trail out.new }
 {
     let mut ok: u64 = 0;
-    for i in 0..trail.arrivals.count {
+    for arrival in trail.arrivals.as_slice() {
         if out.is_over() {
             return;
         }
-        let arrival = trail.arrivals.items[i];
         let v = Visit {
             place: arrival.place as usize,
             fresh: arrival.fresh,
@@ -93,8 +90,7 @@ fn play_all(m: Tables, store: &mut [Saved; 64], out: &mut Writer<'_>, trail: Tra
 
 // The same in a store for 64 types.
 fn play(m: Tables, out: &mut Writer<'_>, trail: Trail)
-    requires addressable { Addressable m.sheet.now }
-    requires all_ready { AllReady m.catalogue.now (bits_of m.sheet.now) m.notes.now m.order.now out.old trail }
+    requires { AllReady m.catalogue.now (bits_of m.sheet.now) m.notes.now m.order.now out.old trail }
     ensures { AllPlayed m.entry.catalogue.now (bits_of m.entry.sheet.now) m.entry.notes.now m.entry.order.now out.old trail out.new }
 {
     let mut store = [Saved::nothing(); 64];

@@ -1,5 +1,6 @@
 // The lines of a refusal (FORMAT 9.4).
 use crate::words::{Name, Word, Words};
+use emitting::{ABSENT, ROW};
 use std::fmt;
 
 // The line that a refusal begins with.
@@ -12,12 +13,6 @@ impl fmt::Display for Refused {
         writeln!(f, "refused {number}")
     }
 }
-
-// The bytes of a row: its kind, the two of each of its names, and a word.
-const ROW: usize = 6;
-
-// Stands in a row for a word that is absent.
-const ABSENT: u8 = 255;
 
 // A diagnosis slice in the words of its sheet: how many rows were written into it, and whether there are more.
 #[derive(Clone, Copy)]

@@ -3,6 +3,7 @@ ghost use Rattle.std.specs.Prelude.{◌≡◌, ◌≤◌, [], IfOk, vec_len};
 ghost use Rattle.text.specs.Words.{value_at, width_of, IsWord};
 
 use bits::Cursor;
+use reader::Reader;
 use std::alloc::{AllocError, Global};
 use std::fmt;
 use std::fmt::Display;
@@ -20,31 +21,32 @@ const LENGTH: usize = 5;
 // A sheet whose fields are read one by one.
 #[derive(Drop)]
 struct Fields<'a> {
-    sheet: &'a [u8],
-    at: Cursor,
+    reader: Reader<'a>,
 }
 
 impl<'a> Fields<'a> {
     // Behind the version.
     fn new(sheet: &'a [u8]) -> Fields<'a>
-        ensures { (result.sheet.now ≡ sheet.now) × (result.at.at ≡ 4) }
+        ensures { (result.reader.sheet.now ≡ sheet.now) × (result.reader.at.at ≡ 4) }
     {
         let at = Cursor { at: VERSION };
-        Fields { sheet, at }
+        Fields {
+            reader: Reader { sheet, at },
+        }
     }
 
     // The next n bits; 0 where they pass the end.
     fn next(&mut self, n: usize) -> usize
         requires { n ≤ 16 }
-        ensures { result ≡ value_at self.old.sheet.now self.old.at.at n }
+        ensures { result ≡ value_at self.old.reader.sheet.now self.old.reader.at.at n }
     {
-        if LONGEST < self.sheet.len() {
+        if LONGEST < self.reader.sheet.len() {
             return 0;
         }
-        let Some((value, behind)) = self.at.read(self.sheet, n) else {
+        let Some((value, behind)) = self.reader.read(n) else {
             return 0;
         };
-        self.at = behind;
+        self.reader.at = behind;
         value
     }
 

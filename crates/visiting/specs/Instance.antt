@@ -9,8 +9,8 @@ use Rattle.definitions.specs.Synthesis.{listed_parents}
 use Rattle.visit_laws.specs.Trail.{reach_all, reach, reach_each, trail}
 use Rattle.rows.specs.Rows.{has_bit}
 use Rattle.ordering.specs.Lists.{all_most, tab}
-use Rattle.ordering.specs.Reading.{listed, place_in, parent_in, ReadsType, Reads}
-use Rattle.ordering.specs.Instance.{under, parent, eight}
+use Rattle.ordering.specs.Reading.{no_name, listed, place_in, parent_in, ReadsType, Reads}
+use Rattle.ordering.specs.Instance.{under, words, parent, eight}
 use Rattle.ordering.specs.declared.Parents.{Parents}
 use Rattle.visiting.specs.Trails.{Orderly, zero_arrival, reached_at}
 use Rattle.visiting.specs.Ranks.{orderly}
@@ -28,19 +28,18 @@ abbrev pub fallen : Parents
 fallen = record {
   count = 3;
   self_word = 4;
-  firsts = 0 ∷ 1 ∷ 2 ∷ replicate 61 0;
-  seconds = 255 ∷ 255 ∷ 255 ∷ replicate 61 0;
+  names = words 0 255 ∷ words 1 255 ∷ words 2 255 ∷ replicate 61 no_name;
   counts = 3 ∷ 1 ∷ 0 ∷ replicate 61 0;
   parents = eight (parent 1 1 255 ∷ parent 1 1 255 ∷ parent 2 2 255 ∷ []) ∷ eight (parent 2 2 255 ∷ []) ∷ replicate 62 (eight []);
   few = omega arith;
-  short = all_most 8 (3 ∷ 1 ∷ 0 ∷ replicate 61 0) refl;
+  short = λ t h. all_most 8 (3 ∷ 1 ∷ 0 ∷ replicate 61 0) refl t;
 }
 
 fallen-types : (t : ℕ) → t < 3 → ReadsType fallen falling t
 unfolding listed place_in parent_in
-fallen-types zero h = record { first = refl; second = refl; parents = refl; names = refl; most = omega arith }
-fallen-types (suc zero) h = record { first = refl; second = refl; parents = refl; names = refl; most = omega arith }
-fallen-types (suc (suc zero)) h = record { first = refl; second = refl; parents = refl; names = refl; most = omega arith }
+fallen-types zero h = record { name = refl; parents = refl; names = refl; most = omega arith }
+fallen-types (suc zero) h = record { name = refl; parents = refl; names = refl; most = omega arith }
+fallen-types (suc (suc zero)) h = record { name = refl; parents = refl; names = refl; most = omega arith }
 fallen-types (suc (suc (suc t))) h = absurd (omega arith)
 
 pub fallen-reads : Reads fallen falling

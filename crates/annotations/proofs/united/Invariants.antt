@@ -1,5 +1,6 @@
+use lib.ListN.{length}
 use Rattle.annotations.specs.Laws.{Unites}
 use Rattle.annotations.proofs.united.Given as goal
 
-abbrev pub invariant-loop-j : goal.invariant-loop-j
-invariant-loop-j l = Unites l.initial.out l.w l.words l.doms l.out l.j
+abbrev pub invariant-loop-v : goal.invariant-loop-v
+invariant-loop-v l = Unites l.initial.out l.w l.fn.y.words l.fn.y.doms l.out (length l.yielded)

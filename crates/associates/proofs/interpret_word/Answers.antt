@@ -7,12 +7,12 @@ use Rattle.associates.proofs.interpret_word.Goals as goal
 pub returns-then-is_some : goal.returns-then-is_some
 returns-then-is_some c =
     let a = c.args in
-    step-unknown a.t.now a.site a.origin (reached a.s a.made.now) a.out.now c.requires.word _
+    step-unknown a.t.now a.site a.origin (reached a.s a.made.now) a.out.now a.site.numbered _
     (some-unknown _ _ _ _ c.first_unknown.ensures (sym c.is_some.ensures ∙ c.if-is_some.true)) c.unknown_rows.ensures
 
 pub interpret_known-requires : goal.interpret_known-requires
 interpret_known-requires c =
-    record { ready = c.requires; word_value = none-unknown _ _ _ _ c.first_unknown.ensures (sym c.is_some.ensures ∙ c.if-is_some.false) }
+    record { room = c.requires.room; word_value = none-unknown _ _ _ _ c.first_unknown.ensures (sym c.is_some.ensures ∙ c.if-is_some.false) }
 
 pub returns-in-Going : goal.returns-in-Going
 returns-in-Going c =
@@ -23,5 +23,5 @@ returns-in-Going c =
 pub returns-in-Failed : goal.returns-in-Failed
 returns-in-Failed c =
     let a = c.args in
-    step-ends a.t.now a.site a.origin (reached a.s a.made.now) a.out.now c.requires.word
+    step-ends a.t.now a.site a.origin (reached a.s a.made.now) a.out.now a.site.numbered
     (none-unknown _ _ _ _ c.first_unknown.ensures (sym c.is_some.ensures ∙ c.if-is_some.false)) (⊎_elim (ap failed_in) (ap failed_in) c.in-Failed.is)

@@ -1,78 +1,58 @@
-use mathlib.Core.Path.{◌≡◌, refl, sym, ap, ◌∙◌}
-use mathlib.Core.List.{map}
-use Prim.Native.Nat.{ℕ, ◌+◌, ◌<◌}
+use mathlib.Core.Path.{◌≡◌, sym, ap, ◌∙◌}
+use mathlib.Core.List.{List, map}
+use Prim.Native.Nat.{◌+◌}
 use native.Mathlib.Omega.{arith}
-use lib.ListN.{take, drop, get_or, set}
-use Rattle.bounded.specs.Items.{items_of, length-items_of}
+use lib.ListN.{drop, get_or, set}
+use Rattle.bounded.specs.Items.{items_of}
 use Rattle.dedup.specs.declared.Entry.{Entry}
 use Rattle.dedup.specs.Entries.{Entries, entries_of, join_all, Sound}
-use Rattle.dedup.specs.EntryLaws.{apart-among, zeros}
-use Rattle.dedup.specs.Reading.{under_place, Kept, Joins}
+use Rattle.dedup.specs.EntryLaws.{zeros}
+use Rattle.dedup.specs.Reading.{under_place, Joins}
 use Rattle.dedup.specs.JoinLaws.{sound-at, all-step, all_done, joins-shared}
 use Rattle.dedup.proofs.joined_entries.Goals as goal
-use Rattle.dedup.proofs.joined_entries.Goals.{In-loop-i, in-Some, in-None}
+use Rattle.dedup.proofs.joined_entries.Goals.{In-loop-e, in-Some, in-None}
 
 -- the entry of the round, under the parent
-sound : (c : In-loop-i) →
-    let s = c in
-    Sound (under_place s.args.parent (get_or s.args.p.items c.loop-i.i zeros))
+sound : (c : In-loop-e) → Sound (under_place c.args.parent (get_or c.as_slice-e-items.result.now c.loop-e.e-index zeros))
 unfolding entries_of
-sound c =
-    let s = c in
-    let l = s.args.p.long in
-    sound-at s.args.p.items s.args.p.count c.loop-i.i s.args.parent zeros s.requires.kept_2.apart c.loop-i-test.true (omega (arith, s.requires.kept_2.room))
-
--- an entry that stands
-standing-at : (l : Entries) (i : ℕ) → Kept l → i < l.count → Sound (get_or l.items i zeros)
-unfolding entries_of
-standing-at l i k h = apart-among l.items l.count i zeros k.apart h (omega (arith, l.long, k.room))
+sound c = sound-at _ _ c.args.parent zeros (rw c.as_slice-e-items.ensures c.requires.kept_2.apart) c.loop-e-test.true
 
 -- the entry joins, and the rest follows
-next : (c : In-loop-i) (r : Entries) →
-    let s = c in
-    let i = c.loop-i in
-    Joins i.out (under_place s.args.parent (get_or s.args.p.items i.i zeros)) r
-    → join_all (entries_of r) (map (under_place s.args.parent) (drop (i.i + 1) (take s.args.p.count s.args.p.items)))
-    ≡ join_all (entries_of s.args.l) (map (under_place s.args.parent) (take s.args.p.count s.args.p.items))
+next : (c : In-loop-e) (r : Entries) →
+    let i = c.loop-e in
+    let k = c.as_slice-e-items.result.now in
+    Joins i.out (under_place c.args.parent (get_or k i.e-index zeros)) r
+    → join_all (entries_of r) (map (under_place c.args.parent) (drop (i.e-index + 1) k)) ≡ join_all (entries_of c.args.l) (map (under_place c.args.parent) (entries_of c.args.p))
 next c r e =
-    let s = c in
-    let i = c.loop-i in
-    let l = s.args.p.long in
-    ap (λ z. join_all z (map (under_place s.args.parent) (drop (i.i + 1) (take s.args.p.count s.args.p.items)))) e.joins
-    ∙ sym (all-step s.args.p.items s.args.p.count i.i s.args.parent zeros (entries_of i.out) c.loop-i-test.true (omega (arith, s.requires.kept_2.room)))
+    let i = c.loop-e in
+    let k = c.as_slice-e-items.result.now in
+    ap (λ z. join_all z (map (under_place c.args.parent) (drop (i.e-index + 1) k))) e.joins
+    ∙ sym (all-step k i.e-index c.args.parent zeros (entries_of i.out) c.loop-e-test.true)
     ∙ i.invariant.1
 
-pub loop-i-init : goal.loop-i-init
-loop-i-init c = (c.requires.kept, refl)
+pub loop-e-init : goal.loop-e-init
+unfolding entries_of
+loop-e-init c = (c.requires.kept, ap (λ (k : List Entry). join_all (entries_of c.args.l) (map (under_place c.args.parent) k)) c.as_slice-e-items.ensures)
 
-pub place_of-requires : goal.place_of-requires
-place_of-requires c = c.loop-i.invariant.0.room
+pub dedup_inherited_annotations_one-out-requires-clause-sound : goal.dedup_inherited_annotations_one-out-requires-clause-sound
+dedup_inherited_annotations_one-out-requires-clause-sound c = sound (goal.at.dedup_inherited_annotations_one-out-requires-clause-sound c).In-loop-e
 
-pub dedup_inherited_annotations_one-out-requires : goal.dedup_inherited_annotations_one-out-requires
-dedup_inherited_annotations_one-out-requires c = record {
-  kept = c.loop-i.invariant.0;
-  sound = sound (goal.at.dedup_inherited_annotations_one-out-requires c).In-loop-i;
-}
-
-pub loop-i-preserved : goal.loop-i-preserved
-loop-i-preserved c =
-    let i = c.loop-i in
-    let s = sound (goal.at.loop-i-preserved c).In-loop-i in
+pub loop-e-preserved : goal.loop-e-preserved
+loop-e-preserved c =
+    let i = c.loop-e in
+    let s = sound (goal.at.loop-e-preserved c).In-loop-e in
     elim c.match-place_of.branch [
       | in-Some w ↦
           let j = joins-shared i.out c.match-place_of.out _ w.in-Some.at i.invariant.0 s w.in-Some.ensures
           (ap (λ (z : Entries). items_of z) w.out-is ∙ w.set.ensures.0 ∙ ap (λ (e : Entry). set (items_of i.out) w.in-Some.at e) w.intersection-both.ensures)
           (ap (λ (z : Entries). z.count) w.out-is ∙ w.set.ensures.1) in
-          (j.kept, next (goal.at.loop-i-preserved c).In-loop-i c.match-place_of.out j)
+          (j.kept, next (goal.at.loop-e-preserved c).In-loop-e c.match-place_of.out j)
       | in-None w ↦
           let j = w.dedup_inherited_annotations_one-out.ensures in
-          rw w.out-is (j.kept, next (goal.at.loop-i-preserved c).In-loop-i _ j)
+          rw w.out-is (j.kept, next (goal.at.loop-e-preserved c).In-loop-e _ j)
     ]
 
 pub returns : goal.returns
-unfolding entries_of
 returns c =
-    let s = c in
-    let i = c.loop-i in
-    let t = length-items_of s.args.p in
-    (i.invariant.0, sym (all_done (take s.args.p.count s.args.p.items) i.i s.args.parent (entries_of i.out) (omega arith)) ∙ i.invariant.1)
+    let i = c.loop-e in
+    (i.invariant.0, sym (all_done c.as_slice-e-items.result.now i.e-index c.args.parent (entries_of i.out) (omega arith)) ∙ i.invariant.1)

@@ -1,13 +1,7 @@
-use mathlib.Core.Path.{◌≡◌}
-use Prim.Native.Nat.{◌≤◌}
-use lib.ListN.{length, take, drop}
-use Rattle.dedup.specs.Entries.{merge, Sound}
+use lib.ListN.{drop}
+use Rattle.dedup.specs.Entries.{merge, entries_of, Sound}
 use Rattle.dedup.specs.MergeLaws.{Left}
 use Rattle.dedup.proofs.merged.Given as goal
 
-abbrev pub invariant-loop-i : goal.invariant-loop-i
-invariant-loop-i l =
-    (length l.out ≡ 201)
-    × (l.k ≤ 200)
-    × Left l.out l.k (drop l.i (take l.count l.l.items)) l.n (merge (take l.count l.l.items) l.initial.n)
-    × Sound l.n
+abbrev pub invariant-loop-a : goal.invariant-loop-a
+invariant-loop-a l = Left (entries_of l.out) (drop l.a-index l.a-items) l.n (merge (entries_of l.fn.l) l.fn.newcomer) × Sound l.n

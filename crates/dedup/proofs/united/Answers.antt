@@ -14,7 +14,7 @@ pub loop-w-preserved : goal.loop-w-preserved
 loop-w-preserved c =
     let s = c in
     let i = c.loop-w in
-    rw c.in_either-z.ensures (length-set i.out i.w _ ∙ i.invariant.0, upto_step s.args.doms s.args.given i.out i.w (omega (arith, i.invariant.0)) i.invariant.1)
+    rw c.in_either.ensures (length-set i.out i.w _ ∙ i.invariant.0, upto_step s.args.doms s.args.given i.out i.w (omega (arith, i.invariant.0)) i.invariant.1)
 
 pub returns : goal.returns
 returns c =

@@ -6,8 +6,8 @@ use Rattle.diagnosis.specs.Walk.{plain-final}
 use Rattle.diagnosis.proofs.diagnose.Goals as goal
 use Rattle.diagnosis.proofs.diagnose.Goals.{then-self_stands, else-self_stands}
 
-pub generate_type_no_parent_errors-requires-clause-stage : goal.generate_type_no_parent_errors-requires-clause-stage
-generate_type_no_parent_errors-requires-clause-stage c =
+pub generate_type_no_parent_errors-requires : goal.generate_type_no_parent_errors-requires
+generate_type_no_parent_errors-requires c =
     let plain = plain-final _ (sym c.self_stands.ensures ∙ c.if-self_stands.false) in
     record { plain = plain; places = c.place_all-placed.ensures.places plain }
 

@@ -1,5 +1,4 @@
 use Rattle.std.proofs.Common.{sym, subst, ap, ◌≡◌, ◌∙◌, arith}
-use Rattle.emitting.specs.Emitting.{State, emit-most}
 use Rattle.emitting.specs.Row.{bytes_of}
 use Rattle.emitting.specs.Writing.{emits_none, emits_then}
 use Rattle.diagnosis.specs.Emit.{Emits}
@@ -11,14 +10,9 @@ pub loop-t-init : goal.loop-t-init
 unfolding before
 loop-t-init c = emits_none _ _
 
-pub find_cycles_or_bad_types-requires-clause-at : goal.find_cycles_or_bad_types-requires-clause-at
-find_cycles_or_bad_types-requires-clause-at c =
-    at-start c.args.l.now c.args.placed c.requires.stage c.loop-t.t (omega arith) (sym c.has.ensures ∙ c.if-not-has.true)
-
-pub find_cycles_or_bad_types-requires-clause-count_bound : goal.find_cycles_or_bad_types-requires-clause-count_bound
-find_cycles_or_bad_types-requires-clause-count_bound c =
-    let l = c.loop-t in
-    rw (ap (λ (z : State). z.1) l.invariant.state, l.invariant.same.limit) (emit-most _ _ _ _ c.requires.count_bound)
+pub find_cycles_or_bad_types-requires : goal.find_cycles_or_bad_types-requires
+find_cycles_or_bad_types-requires c =
+    at-start c.args.l.now c.args.placed c.requires c.loop-t.t (omega arith) (sym c.has.ensures ∙ c.if-not-has.true)
 
 pub loop-t-preserved : goal.loop-t-preserved
 loop-t-preserved c =
@@ -38,4 +32,4 @@ returns c =
     let p = a.l.now in
     let l = c.loop-t in
     let e : l.t ≡ p.count = omega arith in
-    subst (Emits a.out.now l.out) (ap (before p a.placed) e ∙ before-all p a.placed c.requires.stage) l.invariant
+    subst (Emits a.out.now l.out) (ap (before p a.placed) e ∙ before-all p a.placed c.requires) l.invariant

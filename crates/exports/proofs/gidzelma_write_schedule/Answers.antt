@@ -1,12 +1,14 @@
+use mathlib.Core.Path.{sym, subst}
 use native.Mathlib.Omega.{arith}
+use Rattle.exports.specs.Parts.{Small}
 use Rattle.exports.specs.ConversionLaws.{too-few-lent, small-conversion, told-conversion}
 use Rattle.exports.proofs.gidzelma_write_schedule.Goals as goal
 
 pub returns-then-parts-lt3 : goal.returns-then-parts-lt3
 returns-then-parts-lt3 c = too-few-lent _ _ _ c.if-parts-lt3.true
 
-pub parts_of_conversion-requires : goal.parts_of_conversion-requires
-parts_of_conversion-requires c = let r = c.write_schedule-answer in small-conversion _ _ _ _ _ r.result _ r.ensures
+pub tell-requires-clause-small : goal.tell-requires-clause-small
+tell-requires-clause-small c = let r = c.write_schedule-answer in subst Small (sym c.parts_of_conversion.ensures) (small-conversion _ _ _ _ _ r.result _ r.ensures)
 
 pub returns : goal.returns
 returns c =

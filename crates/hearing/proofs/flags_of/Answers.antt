@@ -12,7 +12,7 @@ passes-handed-requires c =
     let i = c.loop-i.i in
     let e = c.from-i-end.ensures in
     let b = parent-below a.l.now a.t c.requires.1 i (omega (arith, e, c.loop-i-test.true)) in (
-      omega (arith, e, c.loop-i-test.true, a.l.now.short a.t),
+      omega (arith, e, c.loop-i-test.true, a.l.now.short a.t c.requires.0),
       omega (arith, c.place-place.ensures, b, a.l.now.few),
     )
 

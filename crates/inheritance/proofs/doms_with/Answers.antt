@@ -1,46 +1,41 @@
-use mathlib.Core.Path.{◌≡◌, refl, ◌∙◌}
-use Prim.Native.Nat.{◌<◌}
+use mathlib.Core.Path.{◌≡◌, ◌∙◌}
+use mathlib.Core.List.{[], ◌∷◌, ◌++◌}
+use Prim.Native.Nat.{◌<◌, ◌+◌}
 use native.Mathlib.Omega.{arith}
 use borrow.Author.Rules.{rules}
-use lib.ListN.{length, get_or, length-set}
+use lib.ListN.{length, get_or, take, length-set, length-append}
+use lib.Seq.{get_or-take, length-take-le}
+use Rattle.std.proofs.lemmas.Slice.Zip.{zip_turn, zip_end}
 use Rattle.lists.specs.Tabulating.{length-mapped}
+use Rattle.rows.specs.Rows.{empty}
 use Rattle.inheritance.specs.OwnLaws.{first_step}
 use Rattle.inheritance.proofs.doms_with.Goals as goal
-use Rattle.inheritance.proofs.doms_with.Goals.{In-loop-i}
 
--- the word that is read
-word : (c : In-loop-i) → get_or c.args.a.info.words c.loop-i.i 0 < 200
-word c = c.args.a.below c.loop-i.i c.loop-i-test.true
-
-pub loop-i-init : goal.loop-i-init
-loop-i-init c =
-    let l : length c.args.doms ≡ 200 = search length-mapped in
-    (l, λ w b. refl)
-
-pub bounds-out-w : goal.bounds-out-w
-bounds-out-w c = word (goal.at.bounds-out-w c).In-loop-i
-
-pub bounds-out-w-in-loop-i : goal.bounds-out-w-in-loop-i
-bounds-out-w-in-loop-i c = word (goal.at.bounds-out-w-in-loop-i c).In-loop-i
-
-pub loop-i-preserved : goal.loop-i-preserved
-loop-i-preserved c =
-    let s = c in
-    let i = c.loop-i in
-    let a = s.args.a.info in
+pub loop-w-preserved : goal.loop-w-preserved
+loop-w-preserved c =
+    let i = c.loop-w in
+    let s = c.args.a in
+    let a = s.info in
+    let k = take a.count a.words in
+    let n = length i.yielded in
+    let t = zip_turn k a.doms i.yielded c.into_iter-w-iterator.result i.w-iterator c.next.new.self c.next.result (search rules) (search rules) i.yielded_by (c.in-Some.w, c.in-Some.given) c.in-Some.is c.next.ensures.steps in
     let l : length a.words ≡ 15 = search rules in
     let m : length a.doms ≡ 15 = search length-mapped in
-    rw c.in_either-z.ensures (
-      length-set i.out (get_or a.words i.i 0) _ ∙ i.invariant.0,
-      first_step s.args.doms a.words a.doms i.out a.count i.i i.invariant.0 c.loop-i-test.true (omega (arith, s.args.a.info.few)) (omega (arith, s.args.a.info.few)) s.args.a.ascending (word (goal.at.loop-i-preserved c).In-loop-i) i.invariant.1,
+    let p : n < a.count = omega (arith, t.0, length-take-le a.count a.words (omega (arith, a.few))) in
+    let v : c.from-w.result ≡ get_or a.words n 0 = c.from-w.ensures ∙ t.2 0 ∙ get_or-take a.count a.words n 0 p in
+    let j : length (i.yielded ++ (c.in-Some.w, c.in-Some.given) ∷ []) ≡ n + 1 = length-append i.yielded ((c.in-Some.w, c.in-Some.given) ∷ []) in
+    rw (j, c.in_either.ensures, v, t.3 empty) (
+      length-set i.out (get_or a.words n 0) _ ∙ i.invariant.0,
+      first_step c.args.doms a.words a.doms i.out a.count n i.invariant.0 p (omega (arith, a.few)) (omega (arith, a.few)) s.ascending (s.below n p) i.invariant.1,
     )
 
 pub returns : goal.returns
 returns c =
-    let s = c in
-    let i = c.loop-i in
-    let a = s.args.a.info in
+    let i = c.loop-w in
+    let a = c.args.a.info in
+    let k = take a.count a.words in
     let l : length a.words ≡ 15 = search rules in
     let m : length a.doms ≡ 15 = search length-mapped in
-    let e : i.i ≡ a.count = omega arith in
-    record { words = omega (arith, s.args.a.info.few); doms = omega (arith, s.args.a.info.few); at = rw e at i.invariant.1 }
+    let t = zip_end k a.doms i.yielded c.into_iter-w-iterator.result i.w-iterator c.next.new.self c.next.result (search rules) (search rules) i.yielded_by c.in-None.is c.next.ensures.steps in
+    let e : length i.yielded ≡ a.count = omega (arith, t, a.few, length-take-le a.count a.words (omega (arith, a.few))) in
+    record { words = omega (arith, a.few); doms = omega (arith, a.few); at = rw e at i.invariant.1 }

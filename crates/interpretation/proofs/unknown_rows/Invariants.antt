@@ -3,4 +3,4 @@ use Rattle.interpretation.specs.JudgedLaws.{Written}
 use Rattle.interpretation.proofs.unknown_rows.Given as goal
 
 abbrev pub invariant-loop-dom : goal.invariant-loop-dom
-invariant-loop-dom l = Written l.t l.place l.fn.doms l.word (numbers_left 201 l.dom-iterator) l.initial.out l.out
+invariant-loop-dom l = Written l.t l.site.place l.fn.doms l.site.word (numbers_left 201 l.dom-iterator) l.initial.out l.out

@@ -10,12 +10,12 @@ pub loop-word-init : goal.loop-word-init
 loop-word-init c = going_start _ _ _ _ _ _ _ (ap (numbers_left _) c.into_iter-word-iterator.ensures.into_iter_gives ∙ c.of-word-items.ensures)
 
 pub returns-then-eq : goal.returns-then-eq
-returns-then-eq c = let e : ended_in c.loop-word.p ≡ true = search rules in going_ended _ _ _ _ _ _ _ _ _ c.loop-word.invariant e
+returns-then-eq c = let e : ended_in c.loop-word.standing ≡ true = search rules in going_ended _ _ _ _ _ _ _ _ _ c.loop-word.invariant e
 
 pub loop-word-preserved : goal.loop-word-preserved
 loop-word-preserved c =
-    let e : ended_in c.loop-word.p ≡ false = search rules in
-    going_taken _ _ _ _ _ _ _ _ _ c.loop-word.invariant _ _ _ _ c.in-Some.ensures.steps e c.interpret_word-p.ensures
+    let e : ended_in c.loop-word.standing ≡ false = search rules in
+    going_taken _ _ _ _ _ _ _ _ _ c.loop-word.invariant _ _ _ _ c.in-Some.ensures.steps e c.interpret_word-standing.ensures
 
 pub returns : goal.returns
 returns c = going_last _ _ _ _ _ _ _ _ _ c.loop-word.invariant c.in-None.ensures.steps.0

@@ -1,4 +1,3 @@
-use Rattle.interpreting.specs.Annotations.{type_reached}
 use Rattle.interpreting.specs.AnnotationsLaws.{all_then, type-done, type-nothing}
 use Rattle.interpreting.proofs.interpret_inherited_annotations.Goals as goal
 
@@ -8,7 +7,7 @@ returns-then-h-eq0 c = let a = c.args in type-nothing a.t.now a.place a.own a.h 
 pub returns : goal.returns
 returns c =
     let a = c.args in
-    let o = c.interpret_owns-clean in
+    let o = c.interpret_owns in
     let i = c.interpret_extra in
-    type-done a.t.now a.place a.own a.h c.new-made.result a.out.now _ (type_reached i.result i.new.made) _ c.new-made.ensures.1
-    (all_then a.t.now a.place _ _ 180 200 _ (type_reached o.result _) _ a.out.now _ _ o.ensures i.ensures)
+    type-done a.t.now a.place a.own a.h c.new.result a.out.now _ i.new.p _ c.new.ensures.1
+    (all_then a.t.now a.place _ _ 180 200 _ o.new.p _ a.out.now _ _ o.ensures i.ensures)

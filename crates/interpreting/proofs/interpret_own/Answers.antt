@@ -6,7 +6,7 @@ use Rattle.lists.specs.Tests.{never}
 use Rattle.records.specs.declared.Kind.TheVariants.{Associate, NestAssociate}
 use Rattle.inheritance.specs.Kinds.{handed_on-which}
 use Rattle.inheritance.specs.Own.{DomsWith}
-use Rattle.interpreting.specs.Annotations.{type_reached, as_own}
+use Rattle.interpreting.specs.Annotations.{as_own}
 use Rattle.interpreting.specs.AnnotationsLaws.{all_none, all-as, all-entry}
 use Rattle.interpreting.specs.OwnLaws.{own-resources, own-size, plain-one, plain-none, names-none}
 use Rattle.interpreting.proofs.interpret_own.Goals as goal
@@ -27,7 +27,7 @@ plain c t = search rules
 pub returns-then-ne : goal.returns-then-ne
 returns-then-ne c =
     let a = c.args in
-    let s = type_reached a.clean a.made.now in
+    let s = a.p.now in
     all-as a.t.now a.place _ _ 0 15 s a.out.now s a.out.now (λ ns. plain-none a.a (nested (goal.at.returns-then-ne c).After-ne c.if-ne.true)) (omega arith) (all_none a.t.now a.place s a.out.now)
 
 pub with_entry-requires : goal.with_entry-requires
@@ -41,7 +41,7 @@ with_entry-requires c =
 pub returns : goal.returns
 returns c =
     let a = c.args in
-    let s = type_reached a.clean a.made.now in
+    let s = a.p.now in
     let w = c.words_of-words in
     let k = plain (goal.at.returns c).After-ne c.if-ne.false in
     let E = c.doms_with-doms in

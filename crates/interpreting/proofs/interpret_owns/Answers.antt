@@ -1,27 +1,38 @@
-use mathlib.Core.Bool.{true}
-use mathlib.Core.Path.{◌≡◌}
-use Prim.Native.Nat.{◌<◌}
 use native.Mathlib.Omega.{arith}
-use lib.ListN.{length}
-use Rattle.lists.specs.Tabulating.{length-mapped}
-use Rattle.interpreting.specs.Annotations.{type_reached}
+use mathlib.Core.Path.{ap, ◌∙◌}
+use mathlib.Core.List.{[], ◌∷◌, ◌++◌}
+use lib.ListN.{length, take}
+use lib.Seq.{take_all}
+use Rattle.bounded.specs.Items.{length-items_of}
+use Rattle.inheritance.specs.declared.own.OwnAssociate.{OwnAssociate}
+use Rattle.interpreting.specs.Annotations.{plain_of}
 use Rattle.interpreting.specs.AnnotationsLaws.{all_none, all_then, all-as}
 use Rattle.interpreting.specs.OwnLaws.{plain_step}
 use Rattle.interpreting.proofs.interpret_owns.Goals as goal
-use Rattle.interpreting.proofs.interpret_owns.Goals.{Start}
 
-long : (s : Start) → length s.args.own.items ≡ 12
-long s = search length-mapped
+pub loop-a-init : goal.loop-a-init
+loop-a-init c = all_none _ _ _ _
 
-pub loop-i-init : goal.loop-i-init
-loop-i-init c = all_none _ _ _ _
+pub interpret_own-requires-clause-room : goal.interpret_own-requires-clause-room
+interpret_own-requires-clause-room c =
+    let o = c.args.own.now in
+    omega (arith, c.loop-a.invariant.count, c.requires.room, c.loop-a-test.true, ap length c.as_slice-a-items.ensures, length-items_of o, o.few)
 
-pub loop-i-preserved : goal.loop-i-preserved
-loop-i-preserved c =
+pub loop-a-preserved : goal.loop-a-preserved
+loop-a-preserved c =
     let a = c.args in
-    let l = c.loop-i in
-    let n = long (goal.at.loop-i-preserved c).Start in
-    let p : l.i < length a.own.items = omega (arith, a.own.few) in
-    let s = type_reached true a.made.now in
-    all-as a.t.now a.place _ _ _ _ s a.out.now _ _ (λ ns. plain_step a.own.items l.i _ p) (omega arith)
-    (all_then a.t.now a.place _ _ _ 15 s (type_reached l.clean l.made) _ a.out.now l.out _ l.invariant c.interpret_own-clean.ensures)
+    let l = c.loop-a in
+    let k = c.as_slice-a-items.result.now in
+    all-as a.t.now a.place _ _ _ _ a.p.now a.out.now _ _
+    (λ ns. ap (λ (x : OwnAssociate). plain_of (take l.a-index k) ++ plain_of (x ∷ [])) c.a-item.is ∙ plain_step k l.a-index c.a-item.result c.loop-a-test.true)
+    (omega arith)
+    (all_then a.t.now a.place _ _ _ 15 a.p.now l.p _ a.out.now l.out _ l.invariant c.interpret_own.ensures)
+
+pub returns : goal.returns
+returns c =
+    let a = c.args in
+    let l = c.loop-a in
+    let o = a.own.now in
+    all-as a.t.now a.place _ _ _ 180 a.p.now a.out.now l.p l.out
+    (λ ns. ap plain_of (take_all l.a-index c.as_slice-a-items.result.now c.loop-a-test.false ∙ c.as_slice-a-items.ensures))
+    (omega (arith, c.loop-a.auto.a-index-end, ap length c.as_slice-a-items.ensures, length-items_of o, o.few)) l.invariant

@@ -1,5 +1,4 @@
 use Rattle.associates.specs.Step.{reached}
-use Rattle.interpreting.specs.Annotations.{type_reached}
 use Rattle.interpreting.specs.AnnotationsLaws.{entry-with}
 use Rattle.interpreting.proofs.with_entry.Goals as goal
 
@@ -7,4 +6,4 @@ pub returns : goal.returns
 returns c =
     let a = c.args in
     let e = c.interpret_associate-standing in
-    entry-with a.t.now a.place a.e a.doms (type_reached a.clean a.made.now) a.out.now (reached e.result _) _ _ e.ensures c.still_clean.ensures
+    entry-with a.t.now a.place a.e a.doms.now a.p.now a.out.now (reached e.result _) _ _ e.ensures c.still_clean-p.ensures

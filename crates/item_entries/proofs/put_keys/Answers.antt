@@ -8,4 +8,4 @@ loop-a-preserved c =
     let l = c.loop-a in
     let h = c.requires.keys_fit in
     let k : l.a < 64 = omega (arith, h.few) in
-    keys-more _ _ l.a _ l.t _ k (search rules) (key-at c.args.entries.now l.a k, h.small l.a c.loop-a-test.true) refl l.invariant
+    keys-more _ _ l.a _ l.t _ k (search rules) (key-at c.args.x.entries.now l.a k, h.small l.a c.loop-a-test.true) refl l.invariant

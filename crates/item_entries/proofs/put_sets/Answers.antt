@@ -12,6 +12,6 @@ loop-a-preserved c =
     let h = c.requires.keys_fit in
     let k : l.a < 64 = omega (arith, h.few) in
     let small = h.small l.a c.loop-a-test.true in
-    let f = first-at c.args.entries.now l.a k in
+    let f = first-at c.args.x.entries.now l.a k in
     sets_more _ _ l.a _ l.t k (omega (arith, f, small)) c.mark_name.ensures.long l.invariant
-    (named-at c.args.entries.now l.a k l.t c.from-name.result small c.from-name.ensures c.mark_name.ensures.sets)
+    (named-at c.args.x.entries.now l.a k l.t c.from-name.result small c.from-name.ensures c.mark_name.ensures.sets)

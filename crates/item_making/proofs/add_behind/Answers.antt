@@ -15,14 +15,14 @@ returns-then-is_alone c =
     let a = c.args in
     adds-as (alone-behind a.t.now a.m (c.is_alone.ensures c.if-is_alone.true) c.lowest.result c.lowest.ensures a.marks c.requires.recorded.1) c.add_tail.ensures
 
-pub add_others-to-requires-clause-room_for : goal.add_others-to-requires-clause-room_for
+pub add_others-requires-clause-room_for : goal.add_others-requires-clause-room_for
 unfolding behind_bits
-add_others-to-requires-clause-room_for c = room-head 0 0 _ _ c.requires.room_for
+add_others-requires-clause-room_for c = room-head 0 0 _ _ c.requires.room_for
 
 pub add_marks-requires : goal.add_marks-requires
 unfolding behind_bits
-add_marks-requires c = room-tail 0 0 _ _ c.add_others-to.ensures c.requires.room_for
+add_marks-requires c = room-tail 0 0 _ _ c.add_others.ensures c.requires.room_for
 
 pub returns : goal.returns
 unfolding behind_bits
-returns c = adds_then c.add_others-to.ensures c.add_marks.ensures
+returns c = adds_then c.add_others.ensures c.add_marks.ensures

@@ -4,13 +4,13 @@ use Rattle.item_making.specs.Adding.{walk-room, walk-less, walk-end}
 use Rattle.item_making.proofs.add_classes.Goals as goal
 
 pub loop-c-init : goal.loop-c-init
-loop-c-init c = rw (c.into_iter-c-iterator.ensures.into_iter_gives, c.members-c-items.ensures) (pending-all _ _ 0 _)
+loop-c-init c = rw (c.into_iter-c-iterator.ensures.into_iter_gives, c.members-c-items.ensures) (pending-all _ 0 _)
 
-pub add_class-to-requires-clause-room_for : goal.add_class-to-requires-clause-room_for
-add_class-to-requires-clause-room_for c = walk-room (marks_bits c.args.t.now) c.in-Some.ensures.steps.0 c.in-Some.ensures.steps.1 c.loop-c.invariant c.requires
+pub add_class-requires-clause-room_for : goal.add_class-requires-clause-room_for
+add_class-requires-clause-room_for c = walk-room (marks_bits c.args.t.now) c.in-Some.ensures.steps.0 c.in-Some.ensures.steps.1 c.loop-c.invariant c.requires
 
 pub loop-c-preserved : goal.loop-c-preserved
-loop-c-preserved c = walk-less (marks_bits c.args.t.now) c.in-Some.ensures.steps.0 c.in-Some.ensures.steps.1 c.loop-c.invariant c.add_class-to.ensures
+loop-c-preserved c = walk-less (marks_bits c.args.t.now) c.in-Some.ensures.steps.0 c.in-Some.ensures.steps.1 c.loop-c.invariant c.add_class.ensures
 
 pub returns : goal.returns
 returns c = walk-end (marks_bits c.args.t.now) c.in-None.ensures.steps.0 c.loop-c.invariant

@@ -6,4 +6,4 @@ use Rattle.item_making.proofs.add_firsts.Given as goal
 
 abbrev pub invariant-loop-p : goal.invariant-loop-p
 invariant-loop-p l =
-    Pending l.initial.buf l.initial.to 0 (field_bits l.initial.held ++ each_of (first_bits l.t l.m) l.m.firsts) l.buf l.to 0 (field_bits l.held ++ each_of (first_bits l.t l.m) l.p-iterator.left)
+    Pending l.initial.pen 0 (field_bits l.initial.held ++ each_of (first_bits l.t l.m) l.m.firsts) l.pen 0 (field_bits l.held ++ each_of (first_bits l.t l.m) l.p-iterator.left)

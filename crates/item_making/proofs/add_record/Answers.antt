@@ -4,10 +4,10 @@ use Rattle.item_making.specs.MakingLaws.{record-all, record-next, record-end}
 use Rattle.item_making.proofs.add_record.Goals as goal
 
 pub loop-j-init : goal.loop-j-init
-loop-j-init c = pending-all _ _ 0 _
+loop-j-init c = pending-all _ 0 _
 
-pub add-to-requires : goal.add-to-requires
-add-to-requires c =
+pub add-requires : goal.add-requires
+add-requires c =
     let a = c.args in
     let l = c.loop-j in
     let e = record-next a.t.now a.e l.j (omega arith) in
@@ -17,7 +17,7 @@ pub loop-j-preserved : goal.loop-j-preserved
 loop-j-preserved c =
     let a = c.args in
     let l = c.loop-j in
-    pending-less 0 0 _ _ (record-next a.t.now a.e l.j (omega arith)) refl l.invariant (adds-as c.parent_field.ensures.0.bits c.add-to.ensures)
+    pending-less 0 0 _ _ (record-next a.t.now a.e l.j (omega arith)) refl l.invariant (adds-as c.parent_field.ensures.0.bits c.add.ensures)
 
 pub returns : goal.returns
 returns c =

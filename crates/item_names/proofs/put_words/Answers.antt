@@ -17,5 +17,5 @@ loop-w-preserved c =
     let l = c.loop-w in
     let s = c.args in
     let put = c.put_word_if-n in
-    words_more s.width l.w l.n s.t.now l.t c.requires c.loop-w-test.true l.invariant (search rules, search rules) put.new.t put.result
+    words_more s.width l.w l.n s.t.now l.t c.requires c.loop-w-test.true l.invariant (search rules) put.new.t put.result
     (subst (λ m. WordPut l.n l.w m l.t put.new.t put.result) (turned s.t.now l.t l.w l.invariant) put.ensures)

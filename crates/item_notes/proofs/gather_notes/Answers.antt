@@ -5,7 +5,7 @@ use Rattle.item_notes.proofs.gather_notes.Goals as goal
 pub returns-then-peek-eq0 : goal.returns-then-peek-eq0
 returns-then-peek-eq0 c =
     let s = c.args in
-    notes-none s.t.now s.resources (bits_of s.s.now) s.at c.peek.ensures c.if-peek-eq0.true
+    rw c.none.ensures (notes-none s.t.now s.resources (bits_of s.s.now) s.at c.peek.ensures c.if-peek-eq0.true)
 
 pub gather-g-requires-clause-annotations_at : goal.gather-g-requires-clause-annotations_at
 gather-g-requires-clause-annotations_at c =

@@ -1,7 +1,7 @@
 use native.Mathlib.Omega.{arith}
 use Prim.Native.Nat.{◌+◌, ◌*◌, ◌/◌, ◌^◌, ◌≤◌}
 use Rattle.definitions.specs.Bits.{bits_of}
-use Rattle.item_notes.specs.NoteLaws.{room, marks-start, marks-fit, mark-small, mark-fits, mark-room, marks-more, marks-all}
+use Rattle.item_notes.specs.NoteLaws.{room, marks-start, marks-fit, mark-small, mark-fits, marks-more, marks-all}
 use Rattle.item_notes.proofs.pack_marks.Goals as goal
 use Rattle.item_notes.proofs.pack_marks.Goals.{After-with_mark-out}
 
@@ -19,16 +19,10 @@ overflow_add-next c =
     omega (arith, room s.s.now _ c.requires.addressable (marks-fit (bits_of s.s.now) s.at c.requires.marks_at))
 
 pub loop-left-init : goal.loop-left-init
-loop-left-init c = marks-start _ _ c.peek-left.result c.peek-left.ensures
+loop-left-init c = rw c.none-out.ensures (marks-start _ _ c.peek-left.result c.peek-left.ensures)
 
 pub overflow_cast-w : goal.overflow_cast-w
 overflow_cast-w c = omega (arith, mark-small (bits_of c.args.s.now) c.loop-left.next c.peek-w.result c.peek-w.ensures)
-
-pub with_mark-out-requires : goal.with_mark-out-requires
-with_mark-out-requires c =
-    let s = c.args in
-    let l = c.loop-left in
-    mark-room (bits_of s.s.now) s.at l.out l.next l.left c.requires.marks_at c.loop-left-test.true l.invariant
 
 pub overflow_add-next-in-loop-left : goal.overflow_add-next-in-loop-left
 overflow_add-next-in-loop-left c = omega (arith, end (goal.at.overflow_add-next-in-loop-left c).After-with_mark-out)

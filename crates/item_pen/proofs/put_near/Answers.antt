@@ -19,8 +19,8 @@ pub loop-left-preserved : goal.loop-left-preserved
 loop-left-preserved c =
     (omega arith, part-less c.args.f.width c.loop-left.left c.args.f.value (omega arith) c.loop-left.invariant.1 c.write-c.ensures)
 
-pub write-end-requires : goal.write-end-requires
-write-end-requires c =
+pub write-requires : goal.write-requires
+write-requires c =
     let a = c.args in
     let l = c.loop-left in
     let x = length-to_bits a.f.width a.f.value in
@@ -29,7 +29,7 @@ write-end-requires c =
 
 pub shape_of-buf : goal.shape_of-buf
 shape_of-buf c =
-    ap length (part-last c.args.f.width c.loop-left.left c.args.f.value c.loop-left.invariant.1 c.write-end.ensures).holds ∙ length-put c.args.buf.now c.args.at (to_bits c.args.f.width c.args.f.value)
+    ap length (part-last c.args.f.width c.loop-left.left c.args.f.value c.loop-left.invariant.1 c.write.ensures).holds ∙ length-put c.args.buf.now c.args.at (to_bits c.args.f.width c.args.f.value)
 
 pub returns : goal.returns
-returns c = part-last c.args.f.width c.loop-left.left c.args.f.value c.loop-left.invariant.1 c.write-end.ensures
+returns c = (part-last c.args.f.width c.loop-left.left c.args.f.value c.loop-left.invariant.1 c.write.ensures).holds

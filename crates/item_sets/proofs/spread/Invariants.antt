@@ -1,5 +1,5 @@
 use Rattle.item_sets.specs.Sets.{SpreadPut}
 use Rattle.item_sets.proofs.spread.Given as goal
 
-abbrev pub invariant-loop-i : goal.invariant-loop-i
-invariant-loop-i l = SpreadPut l.order l.i l.given l.initial.t l.t
+abbrev pub invariant-loop-a : goal.invariant-loop-a
+invariant-loop-a l = SpreadPut l.order.types.items l.a-index l.given l.initial.t l.t

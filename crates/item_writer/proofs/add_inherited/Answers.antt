@@ -6,7 +6,7 @@ use Rattle.item_writer.proofs.add_inherited.Goals as goal
 pub returns-then-classes-eq0 : goal.returns-then-classes-eq0
 returns-then-classes-eq0 c =
     let a = c.args in
-    all-as [] _ (inherited-not a.t.now a.site a.mask c.if-classes-eq0.true) (adds_none _ _)
+    all-as [] _ (inherited-not a.t.now a.site a.mask c.if-classes-eq0.true) (adds_none _)
 
 pub create_synthetic_resource-requires-clause-room_for : goal.create_synthetic_resource-requires-clause-room_for
 create_synthetic_resource-requires-clause-room_for c =

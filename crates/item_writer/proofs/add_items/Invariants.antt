@@ -4,4 +4,4 @@ use Rattle.item_writer.specs.WriterLaws.{types_from}
 use Rattle.item_writer.proofs.add_items.Given as goal
 
 abbrev pub invariant-loop-a : goal.invariant-loop-a
-invariant-loop-a l = PendingAll l.initial.buf l.initial.to (all_items l.t) l.buf l.to (types_from l.t l.a)
+invariant-loop-a l = PendingAll l.initial.pen (all_items l.t) l.pen (types_from l.t l.a)

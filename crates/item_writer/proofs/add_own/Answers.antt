@@ -5,10 +5,10 @@ use Rattle.item_writer.specs.WriterLaws.{own-made, own-next, own-none}
 use Rattle.item_writer.proofs.add_own.Goals as goal
 
 pub loop-c-init : goal.loop-c-init
-loop-c-init c = rw (c.into_iter-c-iterator.ensures.into_iter_gives, c.members-c-items.ensures) (pending-all _ _ _ _)
+loop-c-init c = rw (c.into_iter-c-iterator.ensures.into_iter_gives, c.members-c-items.ensures) (pending-all _ _ _)
 
-pub create_synthetic_resource-to-requires-clause-room_for : goal.create_synthetic_resource-to-requires-clause-room_for
-create_synthetic_resource-to-requires-clause-room_for c =
+pub create_synthetic_resource-requires-clause-room_for : goal.create_synthetic_resource-requires-clause-room_for
+create_synthetic_resource-requires-clause-room_for c =
     let a = c.args in
     let w = c.in-Some.ensures.steps in
     let x = own_bits a.t.now a.site.place a.site.word c.in-Some.c in
@@ -20,7 +20,7 @@ loop-c-preserved c =
     let a = c.args in
     let w = c.in-Some.ensures.steps in
     let x = own_bits a.t.now a.site.place a.site.word c.in-Some.c in
-    let h = rw c.with_one-class.ensures at c.create_synthetic_resource-to.ensures in
+    let h = rw c.with_one-class.ensures at c.create_synthetic_resource.ensures in
     all-less (own_items a.t.now a.site a.own) (x ∷ []) _ (own-next a.t.now a.site _ _ _ w.0 w.1) c.loop-c.invariant (adds_one (adds-as (own-made a.t.now a.site c.requires.sited.records c.in-Some.c w.0.place) h))
 
 pub returns : goal.returns

@@ -4,4 +4,4 @@ use Rattle.item_writer.proofs.add_own.Given as goal
 
 abbrev pub invariant-loop-c : goal.invariant-loop-c
 invariant-loop-c l =
-    PendingAll l.initial.buf l.initial.to (own_items l.t l.site l.own) l.buf l.to (own_items l.t l.site l.c-iterator.left)
+    PendingAll l.initial.pen (own_items l.t l.site l.own) l.pen (own_items l.t l.site l.c-iterator.left)

@@ -22,8 +22,8 @@ loop-k-init c =
       all_start (type_items t a.a) (each (word_items t a.a) (members c.united-noted.result)) (type-words t a.words.now a.a _ s.0 s.3 most c.united-noted.ensures),
     )
 
-pub add_word-to-requires-clause-room_for_all : goal.add_word-to-requires-clause-room_for_all
-add_word-to-requires-clause-room_for_all c =
+pub add_word-requires-clause-room_for_all : goal.add_word-requires-clause-room_for_all
+add_word-requires-clause-room_for_all c =
     let a = c.args in
     let w = c.in-Some.ensures.steps in
     all_room (type_items a.t.now a.a) _ _ (words-next a.t.now a.a _ _ _ w.0 w.1) c.loop-k.invariant.1 c.requires.room_for_all
@@ -34,7 +34,7 @@ loop-k-preserved c =
     let l = c.loop-k in
     let w = c.in-Some.ensures.steps in (
       λ j e. l.invariant.0 j (and_left (has_bit l.k-iterator.left j) _ (sym (w.1.bits c.in-Some.k w.0 j) ∙ e)),
-      all-less (type_items a.t.now a.a) _ _ (words-next a.t.now a.a _ _ _ w.0 w.1) l.invariant.1 c.add_word-to.ensures,
+      all-less (type_items a.t.now a.a) _ _ (words-next a.t.now a.a _ _ _ w.0 w.1) l.invariant.1 c.add_word.ensures,
     )
 
 pub returns : goal.returns

@@ -10,4 +10,4 @@ use Rattle.item_writer.proofs.add_type.Given as goal
 
 abbrev pub invariant-loop-k : goal.invariant-loop-k
 invariant-loop-k l =
-    ((k : ℕ) → has_bit l.k-iterator.left k ≡ true → k < l.t.word_count) × PendingAll l.initial.buf l.initial.to (type_items l.t l.a) l.buf l.to (each (word_items l.t l.a) (members l.k-iterator.left))
+    ((k : ℕ) → has_bit l.k-iterator.left k ≡ true → k < l.t.word_count) × PendingAll l.initial.pen (type_items l.t l.a) l.pen (each (word_items l.t l.a) (members l.k-iterator.left))

@@ -1,30 +1,38 @@
 use Rattle.std.proofs.Common.{refl, sym, arith}
 use Rattle.definitions.specs.Packing.{name_bits}
+use Rattle.catalogue.specs.Layout.{key_at}
+use Rattle.catalogue.specs.Catalogue.{name_of_key}
 use Rattle.item_pen.specs.PenLaws.{pending-all, pending-room, pending-less, pending-none, adds-as, room_as}
-use Rattle.order_listing.specs.Order.{name_of}
-use Rattle.order_listing.proofs.ListingLaws.{names-all, names-next, names-end}
+use Rattle.order_rounds.specs.Places.{as_many, same-place}
+use Rattle.order_listing.proofs.ListingLaws.{names-all, names-at, names-end}
 use Rattle.order_listing.proofs.add_names.Goals as goal
 
-pub loop-i-init : goal.loop-i-init
-loop-i-init c = pending-all _ _ 0 _
+pub loop-a-init : goal.loop-a-init
+loop-a-init c = pending-all _ 0 _
 
-pub add-to-requires : goal.add-to-requires
-add-to-requires c =
-    let a = c.args in
-    let l = c.loop-i in
-    let e = names-next a.t.now a.order.now a.n l.i (omega arith) in
+pub add-requires : goal.add-requires
+add-requires c =
+    let t = c.args.t.now in
+    let o = c.args.order.now in
+    let l = c.loop-a in
+    let s = c.as_slice-a-items.ensures in
+    let e = names-at t o.types.items o.types.count l.a-index _ (omega (arith, as_many o _ s, c.loop-a-test.true)) (same-place o _ s l.a-index (omega (arith, c.loop-a-test.true))) in
     room_as (sym c.name_field.ensures.0.bits)
-    (pending-room 0 0 (name_bits (name_of a.t.now a.order.now l.i)) _ e refl l.invariant (room_as (names-all a.t.now a.order.now a.n) c.requires.room_for))
+    (pending-room 0 0 (name_bits (name_of_key (key_at t _))) _ e refl l.invariant (room_as (names-all t o) c.requires))
 
-pub loop-i-preserved : goal.loop-i-preserved
-loop-i-preserved c =
-    let a = c.args in
-    let l = c.loop-i in
-    let e = names-next a.t.now a.order.now a.n l.i (omega arith) in
-    pending-less 0 0 (name_bits (name_of a.t.now a.order.now l.i)) _ e refl l.invariant (adds-as c.name_field.ensures.0.bits c.add-to.ensures)
+pub loop-a-preserved : goal.loop-a-preserved
+loop-a-preserved c =
+    let t = c.args.t.now in
+    let o = c.args.order.now in
+    let l = c.loop-a in
+    let s = c.as_slice-a-items.ensures in
+    let e = names-at t o.types.items o.types.count l.a-index _ (omega (arith, as_many o _ s, c.loop-a-test.true)) (same-place o _ s l.a-index (omega (arith, c.loop-a-test.true))) in
+    pending-less 0 0 (name_bits (name_of_key (key_at t _))) _ e refl l.invariant (adds-as c.name_field.ensures.0.bits c.add.ensures)
 
 pub returns : goal.returns
 returns c =
-    let a = c.args in
-    let l = c.loop-i in
-    adds-as (sym (names-all a.t.now a.order.now a.n)) (pending-none refl (names-end a.t.now a.order.now a.n l.i (omega arith)) l.invariant)
+    let t = c.args.t.now in
+    let o = c.args.order.now in
+    let l = c.loop-a in
+    adds-as (sym (names-all t o))
+    (pending-none refl (names-end t o.types.items o.types.count l.a-index (omega (arith, as_many o _ c.as_slice-a-items.ensures, c.loop-a-test.false))) l.invariant)

@@ -1,5 +1,5 @@
 use Rattle.order_listing.proofs.ListingLaws.{SizeTo}
 use Rattle.order_listing.proofs.names_size.Given as goal
 
-abbrev pub invariant-loop-i : goal.invariant-loop-i
-invariant-loop-i l = SizeTo l.t l.order l.i l.bits
+abbrev pub invariant-loop-a : goal.invariant-loop-a
+invariant-loop-a l = SizeTo l.t l.order.types.items l.a-index l.bits

@@ -1,13 +1,15 @@
-use Rattle.std.proofs.Common.{sym}
+use Rattle.std.proofs.Common.{rules, sym, ◌≡◌, ◌∙◌}
 use Rattle.item_pen.specs.PenLaws.{adds-as, room_as}
 use Rattle.order_listing.proofs.ListingLaws.{room-types, room-names, wrote}
 use Rattle.order_listing.proofs.write_bits.Goals as goal
 
-pub begin-types-requires : goal.begin-types-requires
-begin-types-requires c = room_as (sym c.number.ensures.bits) (room-types _ _ _ _ c.requires.placed.few c.requires.n_len_bound)
+pub add_once-requires : goal.add_once-requires
+add_once-requires c = room_as (sym c.number.ensures.bits) (room-types c.new-pen.ensures _ _ c.requires)
 
-pub add_names-names-requires-clause-room_for : goal.add_names-names-requires-clause-room_for
-add_names-names-requires-clause-room_for c = room-names _ _ _ _ c.requires.placed.few c.requires.n_len_bound (adds-as c.number.ensures.bits c.begin-types.ensures)
+pub add_names-requires : goal.add_names-requires
+add_names-requires c = room-names c.new-pen.ensures _ _ c.requires (adds-as c.number.ensures.bits c.add_once.ensures)
 
 pub returns : goal.returns
-returns c = wrote _ _ _ _ c.requires.placed.few c.requires.n_len_bound (adds-as c.number.ensures.bits c.begin-types.ensures) c.add_names-names.ensures
+returns c =
+    let same : c.add_names.new.pen.buf.ghost_name ≡ c.new-pen.result.buf.ghost_name = c.add_names.ensures.slice ∙ c.add_once.ensures.slice in
+    wrote c.new-pen.ensures _ _ c.requires (adds-as c.number.ensures.bits c.add_once.ensures) c.add_names.ensures (search rules)

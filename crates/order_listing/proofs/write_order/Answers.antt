@@ -6,14 +6,14 @@ use Rattle.order_listing.proofs.write_order.Goals as goal
 use Rattle.order_listing.proofs.write_order.Goals.{After-names_size}
 
 -- the size that is answered
-needed : (c : After-names_size) → (c.names_size.result + 14) / 8 ≡ size (length (order_in c.args.t.now c.args.order.now c.args.n))
-needed c = omega (arith, c.names_size.ensures.0, order-long c.args.t.now c.args.order.now c.args.n)
+needed : (c : After-names_size) → (c.names_size.result + 14) / 8 ≡ size (length (order_in c.args.t.now c.args.order.now))
+needed c = omega (arith, c.names_size.ensures.0, order-long c.args.t.now c.args.order.now)
 
 pub returns-then-listing-size : goal.returns-then-listing-size
 returns-then-listing-size c = listing-short _ _ _ _ (needed (goal.at.returns-then-listing-size c).After-names_size) c.if-listing-size.true refl
 
-pub write_bits-requires-clause-n_len_bound : goal.write_bits-requires-clause-n_len_bound
-write_bits-requires-clause-n_len_bound c = omega (arith, c.names_size.ensures.0, order-long c.args.t.now c.args.order.now c.args.n)
+pub write_bits-requires : goal.write_bits-requires
+write_bits-requires c = omega (arith, c.names_size.ensures.0, order-long c.args.t.now c.args.order.now)
 
 pub returns : goal.returns
 returns c =

@@ -9,7 +9,7 @@ pub loop-k-preserved : goal.loop-k-preserved
 loop-k-preserved c =
     let s = c.args in
     let l = c.loop-k in
-    parents-more s.t.now s.d.now s.row s.own l.k l.set _ l.whole _ _ c.parent-key.ensures c.type_of-place.ensures c.is_known-whole.ensures l.invariant
+    parents-more s.t.now s.d.now s.row s.own l.k l.set _ l.whole _ _ c.parent-key.ensures c.type_of-named.ensures c.is_known-whole.ensures l.invariant
 
 pub returns : goal.returns
 returns c =

@@ -10,4 +10,4 @@ loop-a-preserved c =
     let s = c.args in
     let l = c.loop-a in
     let f = c.parents_of-found in
-    put-more s.d.now s.entries.now s.own l.a s.t.now l.t _ f.result (search rules) (search rules) f.ensures l.invariant
+    put-more s.x.draft.now s.x.entries.now s.own l.a s.t.now l.t _ f.result (search rules) (search rules) f.ensures l.invariant

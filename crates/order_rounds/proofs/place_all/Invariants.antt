@@ -1,6 +1,5 @@
-use mathlib.Core.Path.{◌≡◌}
 use Prim.Native.Nat.{ℕ, ◌-◌, ◌^◌, ◌≤◌, ◌<◌}
-use lib.ListN.{length}
+use Rattle.bounded.specs.Items.{items_of}
 use Rattle.ordering.specs.declared.Parents.{Parents}
 use Rattle.order_rounds.specs.Rounds.{SetsFor}
 use Rattle.order_rounds.specs.StageLaws.{Stage}
@@ -9,10 +8,9 @@ use Rattle.order_rounds.proofs.place_all.Given as goal
 abbrev pub invariant-loop-ready : goal.invariant-loop-ready
 invariant-loop-ready l =
     (k : ℕ)
-    × (k ≤ l.n)
-    × (length l.order ≡ 64)
+    × (k ≤ l.order.types.count)
     × (l.ready < 2 ^ 64)
-    × ((p : Parents) → SetsFor p l.t l.count → Stage p l.t l.count k l.n l.order l.ready l.waiting)
+    × ((p : Parents) → SetsFor p l.t l.count → Stage p l.t l.count k (items_of l.order.types) l.ready l.waiting)
 
 abbrev pub decreases-loop-ready : goal.decreases-loop-ready
-decreases-loop-ready l = 64 - l.n
+decreases-loop-ready l = 64 - l.order.types.count

@@ -1,3 +1,5 @@
+use mathlib.Core.Path.{subst}
+use Prim.Native.Nat.{ℕ, ◌<◌, ◌^◌}
 use native.Mathlib.Omega.{arith}
 use Rattle.schedule_records.specs.TurningLaws.{laid-up, laid-packed, laid-down}
 use Rattle.schedule_records.proofs.lay.Goals as goal
@@ -7,30 +9,25 @@ returns-then-not-down c =
     let a = c.args in
     laid-up a.down a.target.now a.at a.f.width a.f.value (c.if-not-down.true)
 
-pub put_packed-requires : goal.put_packed-requires
-put_packed-requires c =
-    let a = c.args in
+pub put_bits-requires : goal.put_bits-requires
+put_bits-requires c =
     let r = c.requires in
-    let d = c.if-not-down.false in
-    record { room = record { fits = λ _. r.room.fits d; small = r.room.small }; width_nonzero = r.aligned.some }
+    (r.room.fits (c.if-not-down.false), r.room.small)
 
 pub returns-then-packed : goal.returns-then-packed
 returns-then-packed c =
     let a = c.args in
-    let d = c.if-not-down.false in
-    laid-packed d c.put_packed.ensures
+    laid-packed a.down a.target.now _ a.at a.f.width a.f.value (c.if-not-down.false) c.put_bits.ensures
+
+pub overflow_cast-f : goal.overflow_cast-f
+overflow_cast-f c =
+    let f = c.args.f in
+    record { fits = subst (λ (n : ℕ). f.value < 2 ^ n) (c.requires.aligned.wide c.if-packed.false) f.most }
 
 pub put_record-requires : goal.put_record-requires
 put_record-requires c =
-    let a = c.args in
     let r = c.requires in
     omega (arith, r.room.fits (c.if-not-down.false), r.aligned.wide c.if-packed.false, r.aligned.even c.if-packed.false)
-
-pub overflow_add-result-2 : goal.overflow_add-result-2
-overflow_add-result-2 c =
-    let a = c.args in
-    let r = c.requires in
-    omega (arith, r.room.small, r.aligned.wide c.if-packed.false)
 
 pub returns : goal.returns
 returns c =

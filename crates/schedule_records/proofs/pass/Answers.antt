@@ -17,14 +17,6 @@ rule_at-rule-requires c = omega (arith, c.requires.enough)
 pub loop-rule-init : goal.loop-rule-init
 loop-rule-init c = (going_start _ _ _ _ _, c.rule_at-rule.ensures, c.bits_within-end.ensures, c.bits_within-room.ensures)
 
-pub in_other_form-m-requires : goal.in_other_form-m-requires
-in_other_form-m-requires c =
-    let a = c.args in
-    let w = c.requires in
-    let l = c.loop-rule in
-    let h : 0 < l.rule.width = omega (arith, c.loop-rule-test.true) in
-    (c.in_form-n.ensures, (ready a.w a.reading a.down a.source.now a.target.now l.target l.place l.at l.to l.invariant.0 l.rule l.invariant.1 w h).0)
-
 pub overflow_add-to : goal.overflow_add-to
 overflow_add-to c =
     let a = c.args in
@@ -32,7 +24,7 @@ overflow_add-to c =
     let l = c.loop-rule in
     let h : 0 < l.rule.width = omega (arith, c.loop-rule-test.true) in
     let n = c.in_form-n in
-    let m = c.in_other_form-m in
+    let m = c.in_form-m in
     let d = ready a.w a.reading a.down a.source.now a.target.now l.target l.place l.at l.to l.invariant.0 l.rule l.invariant.1 w h in
     omega (arith, d.2, in-form (not a.reading) l.rule.width d.0, m.ensures)
 
@@ -43,7 +35,7 @@ meet-requires c =
     let l = c.loop-rule in
     let h : 0 < l.rule.width = omega (arith, c.loop-rule-test.true) in
     let n = c.in_form-n in
-    let m = c.in_other_form-m in
+    let m = c.in_form-m in
     let d = ready a.w a.reading a.down a.source.now a.target.now l.target l.place l.at l.to l.invariant.0 l.rule l.invariant.1 w h in
     let i = in-form a.reading l.rule.width d.0 in
     (l.invariant.2, omega (arith, i.0, n.ensures), omega (arith, i.1, n.ensures), omega (arith, d.1, i.1, n.ensures))
@@ -62,7 +54,7 @@ returns-in_err-value c =
     let l = c.loop-rule in
     let h : 0 < l.rule.width = omega (arith, c.loop-rule-test.true) in
     let n = c.in_form-n in
-    let m = c.in_other_form-m in
+    let m = c.in_form-m in
     let d = ready a.w a.reading a.down a.source.now a.target.now l.target l.place l.at l.to l.invariant.0 l.rule l.invariant.1 w h in
     let y : l.to + m.result ≤ most_bits = omega (arith, d.2, in-form (not a.reading) l.rule.width d.0, m.ensures) in
     let r = subst (λ (b : Bool). Missed b n.result l.rule a.source.now l.at c.in_err-value.field-0.0) (ap (λ (i : ℕ). ltb i (l.to + m.result)) l.invariant.3 ∙ past-within (length a.target.now) (l.to + m.result) y) c.in_err-value.ensures in
@@ -76,7 +68,7 @@ overflow_add-at c =
     let l = c.loop-rule in
     let h : 0 < l.rule.width = omega (arith, c.loop-rule-test.true) in
     let n = c.in_form-n in
-    let m = c.in_other_form-m in
+    let m = c.in_form-m in
     let d = ready a.w a.reading a.down a.source.now a.target.now l.target l.place l.at l.to l.invariant.0 l.rule l.invariant.1 w h in
     omega (arith, d.1, in-form a.reading l.rule.width d.0, n.ensures)
 
@@ -87,7 +79,7 @@ invariant_of-field c =
     let l = c.loop-rule in
     let h : 0 < l.rule.width = omega (arith, c.loop-rule-test.true) in
     let n = c.in_form-n in
-    let m = c.in_other_form-m in
+    let m = c.in_form-m in
     let d = ready a.w a.reading a.down a.source.now a.target.now l.target l.place l.at l.to l.invariant.0 l.rule l.invariant.1 w h in
     let y : l.to + m.result ≤ most_bits = omega (arith, d.2, in-form (not a.reading) l.rule.width d.0, m.ensures) in
     let r = subst (λ (b : Bool). Met b n.result l.rule a.source.now l.at c.in_ok-value.value) (ap (λ (i : ℕ). ltb i (l.to + m.result)) l.invariant.3 ∙ past-within (length a.target.now) (l.to + m.result) y) c.in_ok-value.ensures in
@@ -103,7 +95,7 @@ lay-to-requires c =
     let l = c.loop-rule in
     let h : 0 < l.rule.width = omega (arith, c.loop-rule-test.true) in
     let n = c.in_form-n in
-    let m = c.in_other_form-m in
+    let m = c.in_form-m in
     let d = ready a.w a.reading a.down a.source.now a.target.now l.target l.place l.at l.to l.invariant.0 l.rule l.invariant.1 w h in
     let y : l.to + m.result ≤ most_bits = omega (arith, d.2, in-form (not a.reading) l.rule.width d.0, m.ensures) in
     let r = subst (λ (b : Bool). Met b n.result l.rule a.source.now l.at c.in_ok-value.value) (ap (λ (i : ℕ). ltb i (l.to + m.result)) l.invariant.3 ∙ past-within (length a.target.now) (l.to + m.result) y) c.in_ok-value.ensures in
@@ -126,7 +118,7 @@ loop-rule-smaller c =
     let l = c.loop-rule in
     let h : 0 < l.rule.width = omega (arith, c.loop-rule-test.true) in
     let n = c.in_form-n in
-    let m = c.in_other_form-m in
+    let m = c.in_form-m in
     let d = ready a.w a.reading a.down a.source.now a.target.now l.target l.place l.at l.to l.invariant.0 l.rule l.invariant.1 w h in
     let y : l.to + m.result ≤ most_bits = omega (arith, d.2, in-form (not a.reading) l.rule.width d.0, m.ensures) in
     let r = subst (λ (b : Bool). Met b n.result l.rule a.source.now l.at c.in_ok-value.value) (ap (λ (i : ℕ). ltb i (l.to + m.result)) l.invariant.3 ∙ past-within (length a.target.now) (l.to + m.result) y) c.in_ok-value.ensures in
@@ -140,7 +132,7 @@ loop-rule-preserved c =
     let l = c.loop-rule in
     let h : 0 < l.rule.width = omega (arith, c.loop-rule-test.true) in
     let n = c.in_form-n in
-    let m = c.in_other_form-m in
+    let m = c.in_form-m in
     let d = ready a.w a.reading a.down a.source.now a.target.now l.target l.place l.at l.to l.invariant.0 l.rule l.invariant.1 w h in
     let y : l.to + m.result ≤ most_bits = omega (arith, d.2, in-form (not a.reading) l.rule.width d.0, m.ensures) in
     let r = subst (λ (b : Bool). Met b n.result l.rule a.source.now l.at c.in_ok-value.value) (ap (λ (i : ℕ). ltb i (l.to + m.result)) l.invariant.3 ∙ past-within (length a.target.now) (l.to + m.result) y) c.in_ok-value.ensures in

@@ -1,10 +1,11 @@
+use mathlib.Core.Path.{◌≡◌}
+use Prim.Native.Nat.{◌+◌, ◌-◌}
 use native.Mathlib.Omega.{arith}
-use lib.ListN.{length-set}
-use Rattle.item_pen.specs.WideLaws.{two-are}
+use Rattle.item_pen.specs.WideLaws.{put-two}
 use Rattle.schedule_records.proofs.put_record.Goals as goal
 
-pub bounds-target-i-2 : goal.bounds-target-i-2
-bounds-target-i-2 c = simp length-set (omega arith)
-
 pub returns : goal.returns
-returns c = two-are c.args.target.now c.args.i c.args.v (simp length-set (omega arith)) (omega arith)
+returns c =
+    let a = c.args in
+    let e : a.i + 2 - a.i ≡ 2 = omega arith in
+    rw (e, c.copy_from_slice.ensures.after, c.to_be_bytes.ensures) (put-two a.target.now a.i a.v c.requires)

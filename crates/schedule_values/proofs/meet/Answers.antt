@@ -1,31 +1,25 @@
-use native.Mathlib.Omega.{arith}
-use Rattle.schedule_values.specs.MeetingLaws.{meets-short, meets-past, meets-below, meets-above, meets-value}
+use Rattle.std.proofs.Common.{rules, tests, arith}
+use Rattle.schedule_values.specs.MeetingLaws.{meets-short, meets-past, meets-outside, meets-value}
 use Rattle.schedule_values.proofs.meet.Goals as goal
+use Rattle.schedule_values.proofs.meet.Goals.{then-short-via-then-short, then-short-via-else-short+then-end-at}
 
 pub returns-then-short : goal.returns-then-short
 returns-then-short c =
     let a = c.args in
-    meets-short a.short a.n a.rule a.source.now a.at (cc)
+    elim c.then-short.branch [
+      | then-short-via-then-short w ↦ meets-short a.short a.n a.rule a.source.now a.at w.if-short.true
+      | then-short-via-else-short+then-end-at w ↦
+          meets-past a.short a.n a.rule a.source.now a.at w.if-short.false (omega arith) (omega (arith, c.requires.0, c.requires.3, w.if-end-at.true))
+    ]
 
-pub returns-then-end-at : goal.returns-then-end-at
-returns-then-end-at c =
+pub returns-then-not-contains : goal.returns-then-not-contains
+returns-then-not-contains c =
     let a = c.args in
-    meets-past a.short a.n a.rule a.source.now a.at (cc) (omega arith) (omega (arith, c.requires.0, c.requires.3, c.if-end-at.true))
-
-pub returns-then-value-rule : goal.returns-then-value-rule
-returns-then-value-rule c =
-    let a = c.args in
-    meets-below a.short a.n a.rule a.source.now a.at _ (cc) (omega arith)
-    (omega (arith, c.requires.0, c.if-end-at.false)) c.value_at-value.ensures c.if-value-rule.true
-
-pub returns-then-rule-value : goal.returns-then-rule-value
-returns-then-rule-value c =
-    let a = c.args in
-    meets-above a.short a.n a.rule a.source.now a.at _ (cc) (omega arith)
-    (omega (arith, c.requires.0, c.if-end-at.false)) c.value_at-value.ensures c.if-rule-value.true
+    meets-outside a.short a.n a.rule a.source.now a.at _ c.if-short.false (omega arith)
+    (omega (arith, c.requires.0, c.if-end-at.false)) c.value_at-value.ensures (search (rules, tests))
 
 pub returns : goal.returns
 returns c =
     let a = c.args in
-    meets-value a.short a.n a.rule a.source.now a.at _ (cc) (omega arith)
-    (omega (arith, c.requires.0, c.if-end-at.false)) c.value_at-value.ensures c.if-value-rule.false c.if-rule-value.false
+    meets-value a.short a.n a.rule a.source.now a.at _ c.if-short.false (omega arith)
+    (omega (arith, c.requires.0, c.if-end-at.false)) c.value_at-value.ensures (search (rules, tests))

@@ -1,20 +1,17 @@
-use Rattle.sheet_extensions.specs.RecordLaws.{row_put, none-put}
-use Rattle.sheet_extensions.specs.Records.{parents_of}
 use Rattle.fields.specs.Fields.{of_field}
 use Rattle.fields.specs.FieldLaws.{err_was, between_in}
 use Rattle.definitions.specs.Parse.{counted}
 use Rattle.definitions.specs.Bits.{bits_of}
-use Rattle.std.specs.Prelude.{[], set}
-use Rattle.std.proofs.Math.Seq
+use Rattle.std.specs.Prelude.{refl}
 use lib.ListN.{drop}
 use native.Mathlib.Omega.{arith}
-use mathlib.Core.Path.{◌≡◌, sym, ap, ◌∙◌}
+use mathlib.Core.Path.{sym, ap, ◌∙◌}
 use Rattle.sheet_extensions.proofs.read_added.Goals as goal
 
 pub returns-in_err-n : goal.returns-in_err-n
 unfolding counted
 returns-in_err-n c =
-    rw (err_was _ c.in_err-n.field-0.0 c.from_residual.ensures.1) (rw (← c.read_between.ensures, c.in_err-n.was), none-put _ _)
+    rw (err_was _ c.in_err-n.field-0.0 c.from_residual.ensures.1) (rw (← c.read_between.ensures, c.in_err-n.was) refl)
 
 pub read_each_key-requires : goal.read_each_key-requires
 read_each_key-requires c =
@@ -25,9 +22,4 @@ read_each_key-requires c =
 
 pub returns : goal.returns
 unfolding counted
-returns c =
-    let a = c.args in
-    let r = c.read_each_key in
-    let row : parents_of (record a.t.now { extension_parents = set a.t.now.extension_parents a.e r.new.out }) a.e ≡ r.new.out =
-    Seq.get_or-set_same a.t.now.extension_parents a.e r.new.out [] (omega (arith, c.requires)) in
-    (rw (row, ← c.read_between.ensures, c.in_ok-n.was) r.ensures.0, row_put a.e a.t.now r.new.out)
+returns c = rw (← c.read_between.ensures, c.in_ok-n.was) c.read_each_key.ensures.0

@@ -1,12 +1,13 @@
 use Rattle.sheet_extensions.specs.RecordLaws.{records-none, records-more}
-use Rattle.sheet_extensions.specs.Records.{record_in, records_in}
+use Rattle.sheet_extensions.specs.Records.{record_of, records_in}
 use Rattle.fields.specs.FieldLaws.{err_was}
 use Rattle.fields.specs.ParseLaws.{repeat-none, repeat-next, repeat-refused}
 use Rattle.definitions.specs.Reading.{extension}
 use Rattle.definitions.specs.Parse.{done}
 use Rattle.definitions.specs.Bits.{bits_of}
-use Rattle.fields.specs.Fields.{fault_of}
-use lib.ListN.{drop}
+use Rattle.fields.specs.Fields.{fault_of, of_parsed}
+use lib.ListN.{length, drop}
+use Rattle.std.proofs.Common.{rules}
 use native.Mathlib.Nat.{sub-zero}
 use Prim.Native.Nat.{ℕ}
 use mathlib.Core.Path.{◌≡◌, refl, sym, ap, ◌∙◌}
@@ -18,16 +19,16 @@ loop-e-init c =
     let a = c.args in
     rw (sub-zero a.n, records-none a.t.now) refl
 
-pub returns-in_err-next : goal.returns-in_err-next
-returns-in_err-next c =
+pub returns-in_err-read : goal.returns-in_err-read
+returns-in_err-read c =
     let l = c.loop-e in
     let a = c.args in
     let x = c.read_record.ensures in
     let bs = bits_of a.s.bytes.now in
-    let r = c.in_err-next.field-0.0 in
+    let r = c.in_err-read.field-0.0 in
     rw (err_was _ r c.from_residual.ensures.1) (
       sym (l.invariant ∙ repeat-refused (records_in l.t l.e) (extension a.s.words) _ (drop l.next.at bs) (fault_of r) (omega arith)
-          (sym x.0 ∙ rw c.in_err-next.was refl)),
+          (sym x ∙ ap (of_parsed record_of bs) c.in_err-read.was)),
       tt,
     )
 
@@ -37,12 +38,12 @@ loop-e-preserved c =
     let a = c.args in
     let x = c.read_record.ensures in
     let bs = bits_of a.s.bytes.now in
-    let v = c.in_ok-next in
-    let u = c.read_record.new.t in
+    let v = c.in_ok-read in
+    let few : length l.t.extensions ≡ 32 = search rules in
     l.invariant
-    ∙ repeat-next (records_in l.t l.e) (extension a.s.words) a.n l.e (drop l.next.at bs) (record_in u l.e) (drop v.next.at bs) (omega arith)
-    (sym x.0 ∙ rw v.was refl)
-    ∙ rw (records-more l.e l.t u x.1) refl
+    ∙ repeat-next (records_in l.t l.e) (extension a.s.words) a.n l.e (drop l.next.at bs) (record_of v.read) (drop v.behind.at bs) (omega arith)
+    (sym x ∙ ap (of_parsed record_of bs) v.was)
+    ∙ rw (records-more l.t l.e v.read (omega (arith, few, c.requires))) refl
 
 pub returns : goal.returns
 returns c =

@@ -1,31 +1,18 @@
 use native.Mathlib.Omega.{arith}
-use mathlib.Core.Path.{sym, ap, ◌∙◌}
-use lib.ListN.{drop}
+use Rattle.std.proofs.Common.{rules, length, refl}
 use Rattle.definitions.specs.Bits.{bits_of}
 use Rattle.definitions.specs.Reading.{mark}
-use Rattle.fields.specs.Fields.{fault_of}
+use Prim.Native.Nat.{ℕ, ◌-◌}
 use Rattle.fields.specs.FieldLaws.{err_was}
-use Rattle.sheet_notes.specs.Notes.{of_skip}
-use Rattle.sheet_notes.specs.NoteLaws.{step-none, step-next, step-refused}
+use Rattle.sheet_notes.specs.NoteLaws.{ranged, folded, ended}
 use Rattle.sheet_notes.proofs.skip_each_mark.Goals as goal
-
-pub returns-in_err-next : goal.returns-in_err-next
-returns-in_err-next c =
-    let l = c.loop in
-    let a = c.args in
-    let r = c.in_err-next.field-0.0 in
-    let bs = bits_of a.s.now in
-    rw (err_was _ r c.from_residual.ensures.1) (sym (l.invariant ∙ step-refused mark _ (drop l.next.at bs) (fault_of r) (omega arith) (sym c.skip_mark.ensures ∙ ap (of_skip bs) c.in_err-next.was)))
-
-pub loop-preserved : goal.loop-preserved
-loop-preserved c =
-    let l = c.loop in
-    let a = c.args in
-    let bs = bits_of a.s.now in
-    l.invariant ∙ step-next mark a.n l.counter (drop l.next.at bs) (drop c.in_ok-next.next.at bs) (omega arith) (sym c.skip_mark.ensures ∙ ap (of_skip bs) c.in_ok-next.was)
 
 pub returns : goal.returns
 returns c =
-    let l = c.loop in
     let a = c.args in
-    sym (l.invariant ∙ step-none mark _ (drop l.next.at (bits_of a.s.now)) (omega arith))
+    let bs = bits_of a.s.now in
+    let m = mark in
+    let h = c.try_fold.ensures.ran in
+    let l = ranged h.0 _ h.4.0 h.4.1 (omega arith) in
+    let f = λ (k : ℕ). folded m bs _ _ (λ p q x r e. search rules) h.0 _ _ k refl h.5 in
+    ended m bs a.n h.1 _ a.c h.3 (length h.0) (h.4.0.end - h.4.0.start) h.4.0.start c.try_fold.new.self.start _ h.2 _ h.4.2.1 h.6 f (omega (arith, l.0, l.1, l.2)) (λ x z e. (z.2.0, err_was _ _ z.5.1, search rules))

@@ -5,4 +5,4 @@ pub returns : goal.returns
 returns g c =
     let a = c.args in
     let h = c.requires.0 in
-    rw (shl_one a.n h) (window-of a.s.now a.at a.n _ h c.four.ensures.0)
+    rw (shl_one a.n h) (window-of a.s.now a.at a.n _ h c.four.ensures)

@@ -1,8 +1,10 @@
-use Rattle.sheet_within.specs.PlainLaws.{none-there, other-there, associate-there, nested-there, each-there}
+use Rattle.sheet_within.specs.PlainLaws.{none-there, no-associate, other-there, associate-there, nested-there, each-there}
 use Rattle.bits.specs.NumberLaws.{length-bits_of}
 use Rattle.definitions.specs.Bits.{bits_of}
+use Rattle.records.specs.Kinds.{number_of}
+use Rattle.std.proofs.Common.{◌≡◌, sym, ap, ◌∙◌, inl, inr}
 use lib.ListN.{length}
-use Prim.Native.Nat.{◌+◌, ◌≤◌}
+use Prim.Native.Nat.{◌+◌, ◌/◌, ◌%◌, ◌<◌, ◌≤◌}
 use native.Mathlib.Omega.{arith}
 use Rattle.sheet_within.proofs.is_plain_in.Goals as goal
 
@@ -26,32 +28,35 @@ returns-then-w-ge256 c =
     let l : a.at + 11 ≤ length bs = omega (arith, length-bits_of a.s.bytes.now, s.requires) in
     each-there a.s.words a.single bs a.at w.result l w.ensures _ c.is_plain_each.ensures
 
--- src/lib.rt:187:9
-pub returns-then-kind-eq1 : goal.returns-then-kind-eq1
-returns-then-kind-eq1 c =
+pub returns-in_default : goal.returns-in_default
+returns-in_default c =
     let s = c in
     let a = s.args in
     let bs = bits_of a.s.bytes.now in
     let w = c.window-w in
     let l : a.at + 11 ≤ length bs = omega (arith, length-bits_of a.s.bytes.now, s.requires) in
-    associate-there a.s.words bs a.at w.result l w.ensures (omega (arith, c.if-w-lt128.false)) (omega (arith, c.if-w-ge256.false)) a.single _ c.if-kind-eq1.true c.is_plain_list.ensures
+    let h : 6 < w.result / 16 % 8 = c.in_default.ensures.1 in
+    other-there a.s.words bs a.at w.result l w.ensures (omega (arith, c.if-w-lt128.false)) (omega (arith, c.if-w-ge256.false)) a.single (λ e. absurd (omega (arith, h, e))) (λ e. absurd (omega (arith, h, e)))
 
--- src/lib.rt:190:9
-pub returns-then-kind-eq2 : goal.returns-then-kind-eq2
-returns-then-kind-eq2 c =
+pub returns-in-Associate : goal.returns-in-Associate
+returns-in-Associate c =
     let s = c in
     let a = s.args in
     let bs = bits_of a.s.bytes.now in
     let w = c.window-w in
     let l : a.at + 11 ≤ length bs = omega (arith, length-bits_of a.s.bytes.now, s.requires) in
-    nested-there a.s.words bs a.at w.result l w.ensures (omega (arith, c.if-w-lt128.false)) (omega (arith, c.if-w-ge256.false)) a.single _ c.if-kind-eq2.true c.is_plain_list-then-kind-eq2.ensures
+    let n : number_of c.in-Ok.kind ≡ w.result / 16 % 8 = c.in-Ok.ensures in
+    elim c.in-Associate.is [
+      | inl h ↦ associate-there a.s.words bs a.at w.result l w.ensures (omega (arith, c.if-w-lt128.false)) (omega (arith, c.if-w-ge256.false)) a.single _ (sym n ∙ ap number_of h) c.is_plain_list.ensures
+      | inr h ↦ nested-there a.s.words bs a.at w.result l w.ensures (omega (arith, c.if-w-lt128.false)) (omega (arith, c.if-w-ge256.false)) a.single _ (sym n ∙ ap number_of h) c.is_plain_list.ensures
+    ]
 
--- src/lib.rt:174:1
-pub returns : goal.returns
-returns c =
+pub returns-in-MakeList : goal.returns-in-MakeList
+returns-in-MakeList c =
     let s = c in
     let a = s.args in
     let bs = bits_of a.s.bytes.now in
     let w = c.window-w in
     let l : a.at + 11 ≤ length bs = omega (arith, length-bits_of a.s.bytes.now, s.requires) in
-    other-there a.s.words bs a.at w.result l w.ensures (omega (arith, c.if-w-lt128.false)) (omega (arith, c.if-w-ge256.false)) a.single c.if-kind-eq1.false c.if-kind-eq2.false
+    let k = no-associate c.in-Ok.kind _ c.in-Ok.ensures c.in-MakeList.is in
+    other-there a.s.words bs a.at w.result l w.ensures (omega (arith, c.if-w-lt128.false)) (omega (arith, c.if-w-ge256.false)) a.single k.0 k.1

@@ -1,13 +1,16 @@
-use mathlib.Core.Path.{◌∙◌}
-use native.Mathlib.Omega.{arith}
+use Rattle.std.proofs.Common.{◌∙◌, arith}
+use Rattle.std.proofs.lemmas.Cmp.{ranked}
 use Rattle.sheet_words.specs.WordLaws.{less-is, more-is, same-is}
 use Rattle.sheet_words.proofs.is_before.Goals as goal
 
-pub returns-then-a-b : goal.returns-then-a-b
-returns-then-a-b c = less-is c.args.a c.args.b c.if-a-b.true
+pub returns-in-Less : goal.returns-in-Less
+returns-in-Less c = let a = c.args in less-is a.a a.b (rw c.in-Less.is at (ranked a.a.head a.b.head c.cmp.result c.cmp.ensures))
 
-pub returns-then-b-a : goal.returns-then-b-a
-returns-then-b-a c = more-is c.args.a c.args.b c.if-b-a.true
+pub returns-in-Equal : goal.returns-in-Equal
+returns-in-Equal c =
+    let a = c.args in
+    let e = rw c.in-Equal.is at (ranked a.a.head a.b.head c.cmp.result c.cmp.ensures) in
+    c.rest_before.ensures ∙ same-is a.a a.b (omega (arith, e)) (omega (arith, e))
 
-pub returns : goal.returns
-returns c = c.rest_before.ensures ∙ same-is c.args.a c.args.b (omega arith) (omega arith)
+pub returns-in-Greater : goal.returns-in-Greater
+returns-in-Greater c = let a = c.args in more-is a.a a.b (rw c.in-Greater.is at (ranked a.a.head a.b.head c.cmp.result c.cmp.ensures))

@@ -9,12 +9,12 @@ marked-requires c =
     let b = c in
     omega (arith, b.requires.1, Pow.pow_mono {i = 8 * b.args.n} {j = 48} (omega arith))
 
-pub returns-then-v-tops-eq0 : goal.returns-then-v-tops-eq0
-returns-then-v-tops-eq0 c =
+pub returns-then-v-eq0 : goal.returns-then-v-eq0
+returns-then-v-eq0 c =
     let b = c in
-    rw c.marked.ensures (spelt_is b.args.n b.args.v b.requires.0 b.requires.1 c.if-v-tops-eq0.true)
+    rw c.marked.ensures (spelt_is b.args.n b.args.v b.requires.0 b.requires.1 c.if-v-eq0.true)
 
 pub returns : goal.returns
 returns c =
     let b = c in
-    spelt-no b.args.n b.args.v b.requires.0 b.requires.1 c.if-v-tops-eq0.false
+    spelt-no b.args.n b.args.v b.requires.0 b.requires.1 c.if-v-eq0.false

@@ -40,7 +40,7 @@ returns-then-is_text c =
     let bs = bits_in a.s in
     let q = a.at + 5 in
     text-good bs q a.n (omega (arith, length-bits_of a.s.bytes.now, h.there, c.if-s-q.false))
-    (text-six bs q a.n a.x c.requires.1 h.bits (sym c.is_spelt.ensures ∙ c.if-is_spelt.true) ∙ sym c.is_text.ensures ∙ c.if-is_text.true)
+    (text-six bs q a.n a.x (omega (arith, c.requires.1)) h.bits (sym c.is_spelt.ensures ∙ c.if-is_spelt.true) ∙ sym c.is_text.ensures ∙ c.if-is_text.true)
     ∙ begun-word bs a.at a.n a.x h
 
 pub returns-then-is_spelt : goal.returns-then-is_spelt
@@ -50,7 +50,7 @@ returns-then-is_spelt c =
     let bs = bits_in a.s in
     let q = a.at + 5 in
     text-bad bs q a.n (omega (arith, length-bits_of a.s.bytes.now, h.there, c.if-s-q.false))
-    (text-six bs q a.n a.x c.requires.1 h.bits (sym c.is_spelt.ensures ∙ c.if-is_spelt.true) ∙ sym c.is_text.ensures ∙ c.if-is_text.false)
+    (text-six bs q a.n a.x (omega (arith, c.requires.1)) h.bits (sym c.is_spelt.ensures ∙ c.if-is_spelt.true) ∙ sym c.is_text.ensures ∙ c.if-is_text.false)
     ∙ begun-word bs a.at a.n a.x h
 
 pub returns : goal.returns
@@ -60,7 +60,7 @@ returns c =
     let bs = bits_in a.s in
     let q = a.at + 5 in
     text-bad bs q a.n (omega (arith, length-bits_of a.s.bytes.now, h.there, c.if-s-q.false))
-    (text-not bs q a.n a.x c.requires.1 h.bits (sym c.is_spelt.ensures ∙ c.if-is_spelt.false))
+    (text-not bs q a.n a.x (omega (arith, c.requires.1)) h.bits (sym c.is_spelt.ensures ∙ c.if-is_spelt.false))
     ∙ begun-word bs a.at a.n a.x h
 
 pub invariant_of-result : goal.invariant_of-result
@@ -72,7 +72,7 @@ invariant_of-result c =
     record {
       held = record {
         first = h.bits ∙ head-many 6 a.n (drop q bs) (omega (arith, c.requires.1));
-        good = text-six bs q a.n a.x c.requires.1 h.bits (sym c.is_spelt.ensures ∙ c.if-is_spelt.true) ∙ sym c.is_text.ensures ∙ c.if-is_text.true;
+        good = text-six bs q a.n a.x (omega (arith, c.requires.1)) h.bits (sym c.is_spelt.ensures ∙ c.if-is_spelt.true) ∙ sym c.is_text.ensures ∙ c.if-is_text.true;
         inside = omega (arith, length-bits_of a.s.bytes.now, h.there, c.if-s-q.false);
         few = begun-few bs a.at a.n a.x h;
       };

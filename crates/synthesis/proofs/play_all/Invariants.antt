@@ -4,7 +4,7 @@ use Rattle.definitions.specs.Bits.{bits_of}
 use Rattle.synthesis.specs.Playing.{PlayedTo}
 use Rattle.synthesis.proofs.play_all.Given as goal
 
-abbrev pub invariant-loop-i : goal.invariant-loop-i
-invariant-loop-i l =
+abbrev pub invariant-loop-arrival : goal.invariant-loop-arrival
+invariant-loop-arrival l =
     (length l.store ≡ length l.initial.store)
-    × PlayedTo l.m.catalogue.now (bits_of l.m.sheet.now) l.m.notes.now l.m.order.now l.initial.out l.fn.trail l.i l.store l.out l.ok
+    × PlayedTo l.m.catalogue.now (bits_of l.m.sheet.now) l.m.notes.now l.m.order.now l.initial.out l.fn.trail l.arrival-index l.store l.out l.ok

@@ -19,7 +19,7 @@ marked-flags-requires t c =
     let r = c.requires in
     let e = c.from-i-end.ensures in
     let b = parent-rank a.l.now r.orderly a.t r.t_bound.0 a.trail.now c.loop-i.i (omega (arith, e, c.loop-i-test.true)) in (
-      omega (arith, e, c.loop-i-test.true, a.l.now.short a.t),
+      omega (arith, e, c.loop-i-test.true, a.l.now.short a.t r.t_bound.0),
       omega (arith, c.place-place.ensures, b.0, a.l.now.few),
     )
 

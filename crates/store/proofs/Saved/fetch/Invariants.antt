@@ -1,8 +1,9 @@
-use Rattle.std.specs.Prelude.{◌≡◌, ℕ, ◌<◌, length, get_or}
-use Rattle.dedup.specs.Reading.{table_of}
+use lib.ListN.{take}
+use mathlib.Core.List.{map}
+use mathlib.Core.Path.{◌≡◌}
+use Rattle.dedup.specs.Entries.{entries_of}
 use Rattle.store.specs.Saving.{entry_of}
-use Rattle.store.specs.Store.{zeros}
 use Rattle.store.proofs.Saved.fetch.Given as goal
 
-abbrev pub invariant-loop-i : goal.invariant-loop-i
-invariant-loop-i l = (length l.items ≡ 201) × ((j : ℕ) → j < l.i → entry_of (table_of l.self.words j) ≡ get_or l.items j zeros)
+abbrev pub invariant-loop-words : goal.invariant-loop-words
+invariant-loop-words l = entries_of l.list ≡ map entry_of (take l.words-index l.words-items)

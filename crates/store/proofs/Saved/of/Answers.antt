@@ -1,9 +1,17 @@
-use native.Mathlib.Omega.{arith}
-use Rattle.store.specs.StoreLaws.{saved-fit}
+use Rattle.std.proofs.Common.{◌∙◌, refl}
+use Rattle.dedup.specs.declared.Entry.{Entry}
+use Rattle.dedup.specs.Entries.{entries_of}
+use Rattle.store.specs.StoreLaws.{mapped-all, saved-fit}
 use Rattle.store.proofs.Saved.of.Goals as goal
 
 pub invariant_of-result : goal.invariant_of-result
+unfolding entries_of
 invariant_of-result c =
-    let h = c.args.h.now in
-    let i = c.loop-i in
-    record { fit = saved-fit h i.words (λ j l. i.invariant.1 j (omega (arith, l))) (omega (arith, h.good.kept.room, i.invariant.0)) }
+    let e = c.loop-e.invariant ∙ mapped-all (λ (e : Entry). e.words) _ _ _ c.loop-e-test.false c.as_slice-e-items.ensures in
+    record { fit = saved-fit c.args.h.now c.loop-e.words e }
+
+pub returns : goal.returns
+unfolding entries_of
+returns c =
+    let e = c.loop-e.invariant ∙ mapped-all (λ (e : Entry). e.words) _ _ _ c.loop-e-test.false c.as_slice-e-items.ensures in
+    record { entries = e; doms = λ w l. refl }

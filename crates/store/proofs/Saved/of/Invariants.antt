@@ -1,7 +1,9 @@
-use Rattle.std.specs.Prelude.{◌≡◌, ℕ, ◌<◌, length, get_or}
-use Rattle.dedup.specs.Reading.{table_of}
-use Rattle.store.specs.Store.{zeros}
+use lib.ListN.{take}
+use mathlib.Core.List.{map}
+use mathlib.Core.Path.{◌≡◌}
+use Rattle.bounded.specs.Items.{items_of}
+use Rattle.dedup.specs.declared.Entry.{Entry}
 use Rattle.store.proofs.Saved.of.Given as goal
 
-abbrev pub invariant-loop-i : goal.invariant-loop-i
-invariant-loop-i l = (length l.words ≡ 200) × ((j : ℕ) → j < l.i → table_of l.words j ≡ (get_or l.h.list.items j zeros).words)
+abbrev pub invariant-loop-e : goal.invariant-loop-e
+invariant-loop-e l = items_of l.words ≡ map (λ (e : Entry). e.words) (take l.e-index l.e-items)
