@@ -102,7 +102,7 @@ enum gidzelma_kind {
 #define GIDZELMA_ABSENT 255
 
 /*
- * The stack. On the maps that were tried gidzelma_schedule took up to 1.2 MB of it, where it writes
+ * The stack. On the maps that were tried gidzelma_schedule took up to 1.04 MB of it, where it writes
  * rows of refusal 9, and 0.05 MB elsewhere, as gidzelma_order does; gidzelma_read_schedule,
  * gidzelma_write_schedule and gidzelma_tariff took less than 0.01 MB (bench/stack.c measures them). No
  * call can tell that there is less: its thread is then ended by a signal. With glibc a thread has 8 MiB

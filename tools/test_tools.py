@@ -1002,9 +1002,9 @@ TREE = {
         "pub fn read(at: usize) -> usize {\n    at\n}\n",
     "crates/code/must-fail/gone.edit": "file: src/lib.rt\n",
     "crates/code/must-fail/lost.edit": "file: src/lib.rt\n",
-    "crates/laws/specs/Statements.antt":
+    "crates/law_orders/specs/Statements.antt":
         "abbrev pub First : Type 0\nFirst = ℕ\n\npub record Second : Type 0 where\n  pub n : ℕ\n",
-    "crates/laws/specs/Proofs.antt": "module _ (n : ℕ) where\n  pub second-law : Second\n  second-law = record { n = n }\n",
+    "crates/law_orders/specs/Proofs.antt": "module _ (n : ℕ) where\n  pub second-law : Second\n  second-law = record { n = n }\n",
 }
 
 
@@ -1033,8 +1033,8 @@ class CheckTrace(unittest.TestCase):
                 (5, "code::read", "code::write", "no function write in crates/code/src"),
                 (5, "Cursor::step", "Cursor::read", "no function Cursor::read in crates/code/src"),
                 (5, "code::read", "none::read", "no function read in crates/none/src"),
-                (6, "laws First", "laws Third", "no Third in crates/laws/specs"),
-                (6, "Statements.Second", "Proofs.Second", "no Second in crates/laws/specs/Proofs.antt"),
+                (6, "laws First", "laws Third", "no Third in crates/law_orders/specs"),
+                (6, "Statements.Second", "Proofs.Second", "no Second in crates/law_orders/specs/Proofs.antt"),
                 (6, "docs/FORMAT.md", "docs/OTHER.md", "no file docs/OTHER.md"),
                 (6, "`code`", "`Code`", "`Code` is no reference"),
                 (6, "`code`", "`self`", "`self` is no reference")]:
@@ -1073,7 +1073,7 @@ BELIEVED = {
         "use Rattle.access.specs.declared.Answer.{Answer}\nuse Rattle.laws.specs.Statements.{Once}\n\n"
         "abbrev pub answerOf : Answer → rules.Input\nanswerOf a = a\n\nabbrev pub private : ℕ\nprivate = 1\n\n"
         "pub record Promised (a : Answer) : Type 0 where\n  pub once : Once\n",
-    "crates/laws/specs/Statements.antt": "abbrev pub Once : Type 0\nOnce = ℕ\n\nabbrev pub Law : Type 0\nLaw = ℕ\n",
+    "crates/law_orders/specs/Statements.antt": "abbrev pub Once : Type 0\nOnce = ℕ\n\nabbrev pub Law : Type 0\nLaw = ℕ\n",
     "crates/access/src/lib.rt":
         "// Calls.\nghost use Rattle.definitions.specs.Answer.{outcome};\n"
         "ghost use Rattle.access.specs.Answers.{answerOf, private, Promised};\n\n"
@@ -1105,7 +1105,7 @@ class Believed(unittest.TestCase):
             "| `crates/definitions/specs/Answer.antt` | computed | 5 | The answer |",
             "| `crates/access/specs/Answers.antt` | calls | 4 | of it `answerOf`, `Promised` |",
             "| `crates/access/src/lib.rt` | calls | 6 | of it `Answer`, `order` |",
-            "| `crates/laws/specs/Statements.antt` | calls | 2 | of it `Once` |",
+            "| `crates/law_orders/specs/Statements.antt` | calls | 2 | of it `Once` |",
             "| `crates/lists/specs/Lists.antt` | both | 4 | of it `insert`, `sort` |",
             "| `crates/tariff/src/lib.rt` | calls | 2 | of it `total` |",
             "| `crates/tariff_definitions/specs/Tariff.antt` | computed | 2 | of it `charged` |",

@@ -81,7 +81,7 @@
 //! # Threads
 //!
 //! The calls keep nothing, so that threads may call at the same time. They need stack, on the maps that
-//! were tried up to 1.2 MB for a schedule that is refused with 9, and 0.05 MB for any other and for an order;
+//! were tried up to 1.04 MB for a schedule that is refused with 9, and 0.05 MB for any other and for an order;
 //! less than 0.01 MB between a schedule and its records, and for a tariff; a thread that has less is ended by
 //! a signal. A thread of [`std::thread::spawn`] has 2 MiB; this one has more:
 //!

@@ -19,12 +19,12 @@ use Rattle.definitions.specs.Answer as rules
 use Rattle.definitions.specs.Answer.{Call, Input, Outcome, sheet_fault, refused_by, rest_of, sheet_of, Refusal, short, synthesis_rows, overwrite, late_refusals, type_map_in, sheet_refusals, refusals, reject, accept, first_refusal, outcome}
 use Rattle.definitions.specs.Answer.{most_row_bytes}
 use Rattle.bits.specs.NumberLaws.{length-pack_to}
-use Rattle.reading_laws.specs.Refusals.{rejected, all_pass}
-use Rattle.reading_laws.proofs.Answers.{held-passes}
-use Rattle.decoding.specs.Decoding.{turned_back, decoded}
-use Rattle.decoding.specs.Statements.{Why, unread, fill, words, twice}
-use Rattle.decoding.specs.DecodingLaws.{turned-back-why}
-use Rattle.laws.specs.Alike.{first_holds, first-passed}
+use Rattle.law_reading.specs.Refusals.{rejected, all_pass}
+use Rattle.law_reading.proofs.Answers.{held-passes}
+use Rattle.law_decoding.specs.Decoding.{turned_back, decoded}
+use Rattle.law_decoding.specs.Statements.{Why, unread, fill, words, twice}
+use Rattle.law_decoding.specs.DecodingLaws.{turned-back-why}
+use Rattle.law_orders.specs.Alike.{first_holds, first-passed}
 use Rattle.answers.specs.Answers.{alone, outcome_of, input_of}
 use Rattle.access.specs.Ending.{bits_for, ended}
 

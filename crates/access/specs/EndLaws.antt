@@ -12,8 +12,8 @@ use Rattle.definitions.specs.Order.{has_order, organize_type_map}
 use Rattle.definitions.specs.Synthesis.{synthesis}
 use Rattle.definitions.specs.Packing.{order_bits, schedule_bits}
 use Rattle.definitions.specs.Answer.{Call, order, schedule, schedule_of}
-use Rattle.line_laws.specs.Statements.{Readable, line_map, any_refused}
-use Rattle.synthesis_laws.specs.Rows.{rows-are-tested}
+use Rattle.law_lines.specs.Statements.{Readable, line_map, any_refused}
+use Rattle.law_synthesis.specs.Rows.{rows-are-tested}
 use Rattle.sheet_draft.specs.declared.Draft.{Draft}
 use Rattle.sheet_draft.specs.declared.entry.Entry.{Entry}
 use Rattle.catalogue.specs.declared.Catalogue.{Catalogue}

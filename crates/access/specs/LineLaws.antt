@@ -11,10 +11,10 @@ use Rattle.definitions.specs.Map.{type_map_of}
 use Rattle.definitions.specs.Order.{has_order}
 use Rattle.definitions.specs.Relisted.{Holds}
 use Rattle.definitions.specs.Answer.{schedule, Input, Outcome, sheet_of, schedule_of, synthesis_rows, late_refusals, read_in, type_map_in, sheet_refusals, refusals, accept, first_refusal, outcome}
-use Rattle.synthesis_laws.specs.Rows.{items-listed}
-use Rattle.reading_laws.specs.Statements.{NoneHolds}
-use Rattle.reading_laws.specs.Refusals.{passed, none-front, all_pass}
-use Rattle.reading_laws.proofs.Answers.{accepted-exactly, passed-is-held}
+use Rattle.law_synthesis.specs.Rows.{items-listed}
+use Rattle.law_reading.specs.Statements.{NoneHolds}
+use Rattle.law_reading.specs.Refusals.{passed, none-front, all_pass}
+use Rattle.law_reading.proofs.Answers.{accepted-exactly, passed-is-held}
 use Rattle.answers.specs.Answers.{Answer, answer_of, Answered, schedule_input}
 use Rattle.access.specs.Lines.{Lists, LinesListed}
 

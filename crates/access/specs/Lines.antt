@@ -6,7 +6,7 @@ use Rattle.definitions.specs.Map.{type_map_of}
 use Rattle.definitions.specs.Packing.{schedule_bits}
 use Rattle.definitions.specs.Answer.{schedule, schedule_of, overwrite}
 use Rattle.definitions.specs.Relisted.{Holds}
-use Rattle.synthesis_laws.specs.Statements.{ListsLines}
+use Rattle.law_synthesis.specs.Statements.{ListsLines}
 
 -- The listing has the schedule of the sheet that the bytes hold: each line of its map once, and nothing else (FORMAT 5.2), in the
 -- order of FORMAT 5.3, which no other list of these lines has.

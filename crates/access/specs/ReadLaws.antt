@@ -13,13 +13,13 @@ use Rattle.definitions.specs.Checks.{names_twice, something_twice}
 use Rattle.definitions.specs.Map.{type_map_of}
 use Rattle.definitions.specs.Legal.{Every, LegalName, LegalType}
 use Rattle.definitions.specs.Relisted.{Holds}
-use Rattle.laws.proofs.Spelling.{every_in}
-use Rattle.reading_laws.specs.Rules.{repeats-none}
-use Rattle.ordering.specs.Lists.{same-list-sym}
-use Rattle.ordering.specs.Reading.{no_type, is_name}
-use Rattle.ordering.specs.Compact.{Within}
+use Rattle.law_orders.proofs.Spelling.{every_in}
+use Rattle.law_reading.specs.Rules.{repeats-none}
+use Rattle.order_form.specs.Lists.{same-list-sym}
+use Rattle.order_form.specs.Reading.{no_type, is_name}
+use Rattle.order_form.specs.Compact.{Within}
 use Rattle.item_draft.specs.Fill.{by_name}
-use Rattle.decoding.specs.ReadLaws.{limits, few_words, few-types, self-lt}
+use Rattle.law_decoding.specs.ReadLaws.{limits, few_words, few-types, self-lt}
 
 -- ---- names
 
@@ -37,10 +37,10 @@ legal-are-names W l h e = all_of is_name l (λ n i. legal-is-name W n h (every_i
 abbrev same_type : TypeInfo → TypeInfo → Bool
 same_type T U = same_name T.name U.name
 
-distinct-sorted : (l : List TypeInfo) → repeats same_type l ≡ false → repeats same_type (sort by_name l) ≡ false
-distinct-sorted l h =
-    repeats-none same_type (sort by_name l)
-    (perm-sorted (λ T U. same_type T U ≡ false) (λ T U e. same-list-sym U.name T.name ∙ e) (sort-perm by_name l) (repeats-not same_type l h))
+distinct-sorted : (ws : List (List ℕ)) (l : List TypeInfo) → repeats same_type l ≡ false → repeats same_type (sort (by_name ws) l) ≡ false
+distinct-sorted ws l h =
+    repeats-none same_type (sort (by_name ws) l)
+    (perm-sorted (λ T U. same_type T U ≡ false) (λ T U e. same-list-sym U.name T.name ∙ e) (sort-perm (by_name ws) l) (repeats-not same_type l h))
 
 -- ---- a sheet that bytes hold
 
@@ -58,13 +58,13 @@ module _ (bytes : List ℕ) (t : Sheet) (h : Holds bytes t) where
   pub readable : Within (type_map_of t)
   unfolding type_map_of
   readable =
-      let same : length t.types ≡ length (sort by_name t.types) = perm-length (sort-perm by_name t.types) in
-      let kept : (k : ℕ) → k < length (sort by_name t.types) → LegalType (length t.words) (get_or (sort by_name t.types) k no_type) =
-      λ k l. legal _ ((sort-is by_name t.types _).0 (get_d-in (sort by_name t.types) no_type k l)) in
+      let same : length t.types ≡ length (sort (by_name t.words) t.types) = perm-length (sort-perm (by_name t.words) t.types) in
+      let kept : (k : ℕ) → k < length (sort (by_name t.words) t.types) → LegalType (length t.words) (get_or (sort (by_name t.words) t.types) k no_type) =
+      λ k l. legal _ ((sort-is (by_name t.words) t.types _).0 (get_d-in (sort (by_name t.words) t.types) no_type k l)) in
       record {
         most = omega (arith, same, few-types (bits_of bytes) t h.rest h.read);
         word = omega (arith, words-at-most, self-lt t.words h.words);
-        distinct = distinct-sorted t.types once;
+        distinct = distinct-sorted t.words t.types once;
         parents = λ k l. (kept k l).parents.few;
-        names = λ k l. legal-are-names (length t.words) (get_or (sort by_name t.types) k no_type).parents (omega (arith, words-at-most)) (kept k l).parents.every;
+        names = λ k l. legal-are-names (length t.words) (get_or (sort (by_name t.words) t.types) k no_type).parents (omega (arith, words-at-most)) (kept k l).parents.every;
       }

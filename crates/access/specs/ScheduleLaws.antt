@@ -6,13 +6,13 @@ use Rattle.definitions.specs.Bits.{bits_of}
 use Rattle.definitions.specs.Records.{Sheet}
 use Rattle.definitions.specs.Map.{TypeMap, type_map_of}
 use Rattle.definitions.specs.Order.{has_order}
-use Rattle.line_laws.specs.Statements.{line_map, any_refused}
+use Rattle.law_lines.specs.Statements.{line_map, any_refused}
 use Rattle.rows.specs.Rows.{has_bit}
-use Rattle.ordering.specs.Lists.{elem}
-use Rattle.ordering.specs.declared.Parents.{Parents}
+use Rattle.order_form.specs.Lists.{elem}
+use Rattle.order_form.specs.declared.Parents.{Parents}
 use Rattle.item_spread.specs.Spread.{Ordered}
 use Rattle.order_rounds.specs.declared.sequence.Order.{Order}
-use Rattle.own_associates.specs.declared.Location.{Location}
+use Rattle.synth_own.specs.declared.Location.{Location}
 use Rattle.synthesis.specs.Synthesized.{Synthesizes, Synthesized}
 use Rattle.synth_places.specs.Places as places
 use Rattle.synth_places.specs.PlaceLaws.{readable, noted}

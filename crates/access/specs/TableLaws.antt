@@ -3,6 +3,7 @@ use Rattle.std.specs.Prelude.{Bool, true, List, map, ◌≡◌, refl, ℕ, zero,
 use Rattle.std.proofs.Math.Path.{sym, ap, subst}
 use Rattle.std.proofs.Common.{◌∙◌, arith}
 use Rattle.std.proofs.Math.ListN.{get_or}
+use Rattle.lists.specs.Lists.{In}
 use Rattle.lists.specs.Tests.{never}
 use Rattle.lists.specs.Tabulating.{tabulate, tabulate-same, map-tabulate, taken}
 use Rattle.definitions.specs.Bits.{bits_of}
@@ -11,18 +12,19 @@ use Rattle.definitions.specs.Parse.{Parsed, done, refused}
 use Rattle.definitions.specs.Map.{TypeMap, type_map_of}
 use Rattle.definitions.specs.Order.{has_order, organize_type_map}
 use Rattle.definitions.specs.Packing.{order_bits}
-use Rattle.line_laws.specs.Reading.{read-is-within}
-use Rattle.line_laws.specs.Statements as line
-use Rattle.line_laws.specs.Within as line-within
-use Rattle.ordering.specs.Lists.{tab}
-use Rattle.ordering.specs.Reading.{type_at}
-use Rattle.ordering.specs.Compact.{Within}
+use Rattle.law_lines.specs.Reading.{read-is-within}
+use Rattle.law_lines.specs.Statements as line
+use Rattle.law_lines.specs.Within as line-within
+use Rattle.order_form.specs.Lists.{tab}
+use Rattle.order_form.specs.Reading.{type_at}
+use Rattle.order_form.specs.Compact.{Within}
 use Rattle.fields.specs.Keys.{key_of}
 use Rattle.sheet_draft.specs.Draft.{parent_at, parent_count_at}
 use Rattle.sheet_draft.specs.declared.Draft.{Draft}
 use Rattle.sheet_draft.specs.declared.entry.Entry.{Entry}
 use Rattle.sheet_types.specs.Rows.{is_done}
 use Rattle.sheet_order.specs.RowLaws.{rows-by-name}
+use Rattle.law_lines.specs.Numbered.{types-by-number}
 use Rattle.sheet_draft.specs.declared.Decoding.{Decoding}
 use Rattle.sheet_decode.specs.Decodes.{Whole}
 use Rattle.catalogue.specs.Layout.{key_at}
@@ -87,7 +89,9 @@ module _ (bytes : List ℕ) (d : Draft) (entries : List Entry) (t : Catalogue) (
   listable = read.readable bytes s w.holds
 
   sorted : ByName s bs d entries n.count
-  sorted = rows-by-name (length s.words) bs d n.count entries w.entered
+  sorted =
+      rows-by-name s.words (length s.words) bs d n.count
+      (λ T U i j. types-by-number s readable within T U (subst (In T) w.drafted.types i) (subst (In U) w.drafted.types j)) entries w.entered
 
   pub drawn : Drawn w.s (bits_of bytes) d entries n.count
   drawn = record {

@@ -5,7 +5,7 @@ use Rattle.definitions.specs.Records.{Sheet}
 use Rattle.definitions.specs.Map.{type_map_of}
 use Rattle.definitions.specs.Order.{has_order}
 use Rattle.definitions.specs.Answer.{most_row_bytes, order, schedule}
-use Rattle.line_laws.specs.Statements.{line_map, any_refused}
+use Rattle.law_lines.specs.Statements.{line_map, any_refused}
 use Rattle.sheet_draft.specs.declared.Draft.{Draft}
 use Rattle.sheet_draft.specs.declared.entry.Entry.{Entry}
 use Rattle.catalogue.specs.Catalogue.{Catalogued}

@@ -18,8 +18,8 @@ pub use call::Call;
 use catalogue::Catalogue;
 use fields::{Key, Name};
 use item_draft::Placing;
+use order_form::Parents;
 use order_rounds::Order;
-use ordering::Parents;
 use sheet_draft::{Decoding, Draft, Entry};
 use sheet_order::ByName;
 
@@ -32,7 +32,7 @@ fn no_order(t: &Catalogue, x: ByName, diagnosis: &mut [u8]) -> Answer
 {
     let mut l = Parents::blank();
     order_compact::fill(&mut l, t, x);
-    let report = diagnosis::diagnose(&l, diagnosis, answers::ROWS);
+    let report = order_diagnosis::diagnose(&l, diagnosis, answers::ROWS);
     Err(Refusal::NoOrder(report))
 }
 

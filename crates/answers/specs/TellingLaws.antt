@@ -8,7 +8,7 @@ use Rattle.definitions.specs.Records.{Row}
 use Rattle.definitions.specs.Legal.{Every}
 use Rattle.definitions.specs.Answer as rules
 use Rattle.definitions.specs.Answer.{most_row_bytes, Input, Outcome, bare, short, refusals, reject, accept, first_refusal, outcome}
-use Rattle.laws.specs.Alike.{first_holds, first-passed}
+use Rattle.law_orders.specs.Alike.{first_holds, first-passed}
 use Rattle.answers.specs.declared.Refusal.{Refusal}
 use Rattle.answers.specs.declared.Refusal.TheVariants.{LongSheet, ShortDiagnosis, Past, NotAllowed, Words, Repeats, Fill, NoOrder, TypeRefused, ShortListing}
 use Rattle.answers.specs.Answers.{Answer, alone, refusal_of, answer_of, case_of, Answered, input_of}

@@ -12,7 +12,7 @@ use Rattle.rows.specs.Rows.{bit, has_bit}
 use Rattle.rows.specs.RowLaws.{bit-either, bit-without, bit-none, bit-one, bit_is}
 use Rattle.rows.specs.Next.{NextBit}
 use Rattle.rows.specs.NextLaws.{next-zeros}
-use Rattle.ordering.specs.Lists.{below, below_in, below-is, below_none}
+use Rattle.order_form.specs.Lists.{below, below_in, below-is, below_none}
 use Rattle.bitsets.specs.Bitsets.{members, Lowest, Rest, more, less, first_bits}
 
 -- ---- bits

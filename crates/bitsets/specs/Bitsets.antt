@@ -1,7 +1,7 @@
 -- Sets of numbers below 64 as one number each.
 use Rattle.std.specs.Prelude.{true, false, ◌&&◌, not, List, Option, MatchOption, ◌≡◌, ℕ, ◌-◌, ◌^◌, ◌<◌, min, eqb}
 use Rattle.std.specs.Int.Bits.{bit_and, bit_or, bit_xor}
-use Rattle.ordering.specs.Lists.{below}
+use Rattle.order_form.specs.Lists.{below}
 use Rattle.rows.specs.Rows.{has_bit}
 
 -- The numbers of a set, ascending.

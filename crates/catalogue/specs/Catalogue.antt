@@ -8,8 +8,8 @@ use Rattle.definitions.specs.Packing.{mark_bits}
 use Rattle.definitions.specs.Comparisons.{same_name, dotted}
 use Rattle.definitions.specs.Map.{LineType}
 use Rattle.definitions.specs.Making.{is_resource_variant, extension_parents}
-use Rattle.line_laws.specs.Statements.{line_map}
-use Rattle.ordering.specs.Lists.{below}
+use Rattle.law_lines.specs.Statements.{line_map}
+use Rattle.order_form.specs.Lists.{below}
 use Rattle.rows.specs.Rows.{has_bit}
 use Rattle.law_classes.specs.Sets.{some, one_word, word_of, masked, own_set, above_set, passed_set, type_at, SetIs}
 use Rattle.law_classes.specs.Numbers.{Fits}

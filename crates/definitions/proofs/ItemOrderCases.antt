@@ -2,8 +2,8 @@
 use Rattle.std.specs.Prelude.{false, List, [], ◌∷◌, ℕ}
 use Rattle.std.proofs.Common.{inl, inr, arith}
 use Rattle.std.proofs.Math.Path.{refl}
-use Rattle.definitions.specs.Records.{Name, Sheet, Item, synthesized, extension}
-use Rattle.definitions.specs.Comparisons.{name_before}
+use Rattle.definitions.specs.Records.{Name, TypeInfo, Extension, Sheet, Item, synthesized, extension}
+use Rattle.definitions.specs.Comparisons.{name_before, bytes_before}
 use Rattle.definitions.specs.ItemOrder.{Part, PartOf, NamesBefore, ItemBefore}
 
 -- a resource, and an extension line, of a type and a word
@@ -13,10 +13,17 @@ made n r ps = synthesized n r false ps []
 abbrev line : Name → ℕ → Item
 line n r = extension n false false r
 
-module _ (s : Sheet) where
+-- the words `a` to `d`, and any map over them
+abbrev words : List (List ℕ)
+words = (97 ∷ []) ∷ (98 ∷ []) ∷ (99 ∷ []) ∷ (100 ∷ []) ∷ []
+
+module _ (types : List TypeInfo) (extensions : List Extension) where
+  abbrev s : Sheet
+  s = record { words = words; types = types; extensions = extensions }
+
   -- types by name, one word before two, whatever their words and parts
   by-type : ItemBefore s (line (1 ∷ []) 7) (made (1 ∷ 0 ∷ []) 3 [])
-  unfolding name_before
+  unfolding name_before bytes_before
   by-type = ItemBefore.type refl
 
   -- within a type words ascend, whatever their parts
@@ -37,9 +44,9 @@ module _ (s : Sheet) where
   by-parents : (ps qs : List Name) → PartOf s (made (1 ∷ []) 3 ((2 ∷ 3 ∷ []) ∷ ps)) Part.own
       → PartOf s (made (1 ∷ []) 3 ((3 ∷ []) ∷ qs)) Part.own
       → ItemBefore s (made (1 ∷ []) 3 ((2 ∷ 3 ∷ []) ∷ ps)) (made (1 ∷ []) 3 ((3 ∷ []) ∷ qs))
-  unfolding name_before
+  unfolding name_before bytes_before
   by-parents ps qs h g = ItemBefore.parents refl refl h g (inl refl)
 
 -- a list of names before its extensions
-shorter-first : NamesBefore ((3 ∷ []) ∷ []) ((3 ∷ []) ∷ (0 ∷ []) ∷ [])
+shorter-first : NamesBefore words ((3 ∷ []) ∷ []) ((3 ∷ []) ∷ (0 ∷ []) ∷ [])
 shorter-first = inr (refl, tt)

@@ -32,7 +32,7 @@ pub record Before (s : Sheet) (T U : TypeInfo) : Type 0 where
   pub j : ℕ
   pub round_t : Round s T i
   pub round_u : Round s U j
-  pub first : (i < j) ⊎ ((i ≡ j) × (name_before T.name U.name ≡ true))
+  pub first : (i < j) ⊎ ((i ≡ j) × (name_before s.words T.name U.name ≡ true))
 
 -- The name is the one word `self` (FORMAT 3.2).
 pub record IsSelf (s : Sheet) (p : Name) : Type 0 where

@@ -1,5 +1,5 @@
 -- How names, doms and lists of words compare, one definition each, and how a name is looked up (FORMAT 1.4 to 1.6).
-use Rattle.std.specs.Prelude.{Bool, List, [], ◌∷◌, ◌++◌, ℕ, eqb, get_or}
+use Rattle.std.specs.Prelude.{Bool, ◌&&◌, ◌||◌, List, [], ◌∷◌, ◌++◌, ℕ, eqb, get_or}
 use Rattle.lists.specs.Lists.{any, filter, same_list, list_before}
 use Rattle.definitions.specs.Records.{Name, Dom}
 
@@ -10,11 +10,6 @@ same_name a b = same_list eqb a b
 -- Whether a name stands in a list.
 abbrev pub elem_name : Name → List Name → Bool
 elem_name a l = any (same_name a) l
-
--- The order of names by word number, one word before two. It is the order by spelling, since the dot is below every byte of
--- a word (FORMAT 1.4; laws `SpellingIsWordOrder`).
-unfoldable pub name_before : Name → Name → Bool
-name_before a b = list_before a b
 
 -- The order of doms: none first, then by word (FORMAT 1.6).
 unfoldable pub dom_before : Dom → Dom → Bool
@@ -38,9 +33,11 @@ spelled ws [] = []
 spelled ws (w ∷ []) = get_or ws w []
 spelled ws (w ∷ v ∷ n) = get_or ws w [] ++ (dot ∷ spelled ws (v ∷ n))
 
--- The order of names by the bytes of their spelling (FORMAT 1.4).
-unfoldable pub spelled_before : List (List ℕ) → Name → Name → Bool
-spelled_before ws a b = bytes_before (spelled ws a) (spelled ws b)
+-- The order of names by the bytes of their spelling, given the words. Names that are spelled alike, which no sheet that passes 5
+-- has, go by the numbers of their words, so that it is an order whatever the words are (FORMAT 1.4).
+unfoldable pub name_before : List (List ℕ) → Name → Name → Bool
+name_before ws a b =
+    bytes_before (spelled ws a) (spelled ws b) || (same_list eqb (spelled ws a) (spelled ws b) && list_before a b)
 
 -- What is declared under a name: one or none, since no two have one name (FORMAT 1.5).
 unfoldable pub look_up : {A : Type 0} → (A → Name) → List A → Name → List A

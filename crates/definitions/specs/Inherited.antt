@@ -23,8 +23,8 @@ under_parents ps none = none
 under_parents ps (some a) = some (record { annotation = a; parents = ps })
 
 -- What two entries share has the parents of both, each once.
-unfoldable pub shared_entry : InheritedAnnotation → InheritedAnnotation → Option InheritedAnnotation
-shared_entry e n = under_parents (set_of name_before (e.parents ++ n.parents)) (intersection e.annotation n.annotation)
+unfoldable pub shared_entry : List (List ℕ) → InheritedAnnotation → InheritedAnnotation → Option InheritedAnnotation
+shared_entry ws e n = under_parents (set_of (name_before ws) (e.parents ++ n.parents)) (intersection e.annotation n.annotation)
 
 -- What is left of an entry keeps its parents.
 unfoldable pub rest_entry : InheritedAnnotation → InheritedAnnotation → Option InheritedAnnotation
@@ -37,20 +37,20 @@ to_list (some a) = a ∷ []
 
 -- A newcomer joins a list. Each entry splits into what the newcomer lacks and what both have, in this order; what no entry
 -- has goes last. Where nothing is left of the newcomer, the later entries stay (FORMAT 8.9).
-unfoldable pub dedup_one : List InheritedAnnotation → Option InheritedAnnotation → List InheritedAnnotation
-dedup_one [] none = []
-dedup_one [] (some n) = n ∷ []
-dedup_one (e ∷ l) none = e ∷ l
-dedup_one (e ∷ l) (some n) = to_list (rest_entry e n) ++ (to_list (shared_entry e n) ++ dedup_one l (rest_entry n e))
+unfoldable pub dedup_one : List (List ℕ) → List InheritedAnnotation → Option InheritedAnnotation → List InheritedAnnotation
+dedup_one ws [] none = []
+dedup_one ws [] (some n) = n ∷ []
+dedup_one ws (e ∷ l) none = e ∷ l
+dedup_one ws (e ∷ l) (some n) = to_list (rest_entry e n) ++ (to_list (shared_entry ws e n) ++ dedup_one ws l (rest_entry n e))
 
 -- Newcomers join one after the other.
-unfoldable pub dedup_onto : List InheritedAnnotation → List InheritedAnnotation → List InheritedAnnotation
-dedup_onto out [] = out
-dedup_onto out (n ∷ l) = dedup_onto (dedup_one out (some n)) l
+unfoldable pub dedup_onto : List (List ℕ) → List InheritedAnnotation → List InheritedAnnotation → List InheritedAnnotation
+dedup_onto ws out [] = out
+dedup_onto ws out (n ∷ l) = dedup_onto ws (dedup_one ws out (some n)) l
 
 -- `dedup_inherited_annotations` (FORMAT 8.9).
-abbrev pub dedup : List InheritedAnnotation → List InheritedAnnotation
-dedup l = dedup_onto [] l
+abbrev pub dedup : List (List ℕ) → List InheritedAnnotation → List InheritedAnnotation
+dedup ws l = dedup_onto ws [] l
 
 -- ---- what a call that succeeds returns
 
@@ -80,7 +80,7 @@ hands_on zero m T = []
 hands_on (suc k) m T =
     map (λ a. under T.name (as_associate a)) (own_associates T)
     ++ map (λ (e : InheritedAnnotation). under T.name e.annotation)
-    (dedup (each (λ p. each (hands_on k m) (type_named m p)) T.parents))
+    (dedup m.words (each (λ p. each (hands_on k m) (type_named m p)) T.parents))
 
 -- That, with a depth that suffices.
 unfoldable pub handed_on : TypeMap → TypeInfo → List InheritedAnnotation

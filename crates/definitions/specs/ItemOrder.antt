@@ -45,21 +45,21 @@ pub data PartOf (s : Sheet) (x : Item) (p : Part) : Type 0 where
 -- ---- the order
 
 -- A list of names goes before another by the first name that differs, and a list before its extensions (FORMAT 5.3).
-abbrev pub NamesBefore : List Name → List Name → Type 0
-NamesBefore [] [] = ⊥
-NamesBefore [] (y ∷ l) = Unit {0}
-NamesBefore (x ∷ k) [] = ⊥
-NamesBefore (x ∷ k) (y ∷ l) = (name_before x y ≡ true) ⊎ ((x ≡ y) × NamesBefore k l)
+abbrev pub NamesBefore : List (List ℕ) → List Name → List Name → Type 0
+NamesBefore ws [] [] = ⊥
+NamesBefore ws [] (y ∷ l) = Unit {0}
+NamesBefore ws (x ∷ k) [] = ⊥
+NamesBefore ws (x ∷ k) (y ∷ l) = (name_before ws x y ≡ true) ⊎ ((x ≡ y) × NamesBefore ws k l)
 
 -- x goes before y: by the names of their types; within a type by word; within a word by part; and own resources by their
 -- parents (FORMAT 5.3).
 pub data ItemBefore (s : Sheet) (x y : Item) : Type 0 where
-  type : name_before (type_of x) (type_of y) ≡ true → ItemBefore s x y
+  type : name_before s.words (type_of x) (type_of y) ≡ true → ItemBefore s x y
   word : type_of x ≡ type_of y → word_of x < word_of y → ItemBefore s x y
   part : type_of x ≡ type_of y → word_of x ≡ word_of y → (p q : Part) → PartOf s x p → PartOf s y q → rank p < rank q
       → ItemBefore s x y
   parents : type_of x ≡ type_of y → word_of x ≡ word_of y → PartOf s x Part.own → PartOf s y Part.own
-      → NamesBefore (parents_in x) (parents_in y) → ItemBefore s x y
+      → NamesBefore s.words (parents_in x) (parents_in y) → ItemBefore s x y
 
 -- The items of the map in their order: its lines, and each before all that follow it (FORMAT 5.2, 5.3).
 pub record InOrder (s : Sheet) (l : List Item) : Type 0 where

@@ -67,8 +67,8 @@ unfoldable pub own_resource : LineMap → LineType → ℕ → Name → Item
 own_resource m T r class = create_synthetic_resource m T r (class ∷ []) (class ∷ [])
 
 -- The own classes of a word, ascending by name (FORMAT 5.3).
-unfoldable pub own_classes : LineType → ℕ → List Name
-own_classes T r = sort name_before (map (λ (u : Resource). dotted u.dom r) (of_word r (owned T)))
+unfoldable pub own_classes : LineMap → LineType → ℕ → List Name
+own_classes m T r = sort (name_before m.words) (map (λ (u : Resource). dotted u.dom r) (of_word r (owned T)))
 
 -- The doms that the proper ancestors As give a word, none first, then ascending (FORMAT 4.4).
 unfoldable pub doms_above : List LineType → ℕ → List Dom
@@ -90,7 +90,7 @@ words_made T As = set_of ltb (map (λ (u : Resource). u.word) (owned T ++ each g
 -- The items of a type and a word.
 unfoldable pub items_at : LineMap → LineType → List LineType → ℕ → List Item
 items_at m T As r =
-    map (own_resource m T r) (own_classes T r)
+    map (own_resource m T r) (own_classes m T r)
     ++ (map (inherited_resource m T As) (filter (associate_word As) (r ∷ []))
     ++ (extension_line T r ∷ []))
 

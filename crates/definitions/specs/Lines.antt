@@ -106,7 +106,7 @@ Passes s P r = Associates P r ⊎ AssociatedAbove s P r
 
 -- The names of the direct parents that pass r, ascending, each once (FORMAT 4.4).
 pub record ParentsAbove (s : Sheet) (T : TypeInfo) (r : ℕ) (Ps : List Name) : Type 0 where
-  pub sorted : Sorted (λ P Q. name_before P Q ≡ true) Ps
+  pub sorted : Sorted (λ P Q. name_before s.words P Q ≡ true) Ps
   pub exactly : (p : Name) → In p Ps ↔ ((P : TypeInfo) × Parent s P T × Passes s P r × (P.name ≡ p))
 
 -- A word that a proper ancestor associates makes one T.r (FORMAT 4.4).

@@ -5,8 +5,10 @@ use Rattle.definitions.specs.Records.{Name, Annotation, Variant, Mark, TypeInfo,
 use Rattle.definitions.specs.Comparisons.{elem_name, name_before}
 use Rattle.definitions.specs.Checks.{resource_bytes, self_bytes}
 
--- The map as listed: the numbers of the words `resource` and `self`, the types with their parents in the given order.
+-- The map as listed: the words, by which names are compared, the numbers of the words `resource` and `self`, the types with their
+-- parents in the given order.
 pub record TypeMap : Type 0 where
+  pub words : List (List ℕ)
   pub resource : ℕ
   pub self : ℕ
   pub types : List TypeInfo
@@ -19,9 +21,10 @@ number_of bytes ws = place_of (same_list eqb bytes) ws
 -- The map of a sheet: its types sorted by name (FORMAT 1.4).
 unfoldable pub type_map_of : Sheet → TypeMap
 type_map_of s = record {
+  words = s.words;
   resource = number_of resource_bytes s.words;
   self = number_of self_bytes s.words;
-  types = sort (λ (T U : TypeInfo). name_before T.name U.name) s.types;
+  types = sort (λ (T U : TypeInfo). name_before s.words T.name U.name) s.types;
   extensions = s.extensions;
 }
 
@@ -38,6 +41,7 @@ pub record LineType : Type 0 where
 
 -- The map as the lines see it.
 pub record LineMap : Type 0 where
+  pub words : List (List ℕ)
   pub resource : ℕ
   pub types : List LineType
   pub extensions : List Extension
@@ -56,4 +60,9 @@ line_type_of T = record {
 
 -- The map without the order and repeats of parents.
 unfoldable pub line_map_of : TypeMap → LineMap
-line_map_of m = record { resource = m.resource; types = map line_type_of m.types; extensions = m.extensions }
+line_map_of m = record {
+  words = m.words;
+  resource = m.resource;
+  types = map line_type_of m.types;
+  extensions = m.extensions;
+}

@@ -96,7 +96,7 @@ own_entries T = map (λ a. record { annotation = a; parents = [] }) (filter (λ 
 
 -- A type's own Associates, then what it inherits as the dedup leaves it (FORMAT 8.7).
 unfoldable pub interpret_type : TypeMap → TypeInfo → List InheritedAnnotation → Interpreted
-interpret_type m T got = interpret_all (line_map_of m) (line_type_of T) (own_entries T ++ dedup got) []
+interpret_type m T got = interpret_all (line_map_of m) (line_type_of T) (own_entries T ++ dedup m.words got) []
 
 -- ---- the visit, after `inherit_annotations` and `apply_associate_annotations`
 

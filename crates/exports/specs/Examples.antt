@@ -2,7 +2,7 @@
 -- stands in the numbers that are lent.
 use Rattle.std.specs.Prelude.{List, [], ◌∷◌, ◌≡◌, refl, ℕ, length}
 use Rattle.definitions.specs.Answer.{Call, schedule}
-use Rattle.relisting_laws.proofs.Examples.{asked, listed, relisted, both}
+use Rattle.law_relisting.proofs.Examples.{asked, listed, relisted, both}
 use Rattle.exports.specs.Statements.{ExportedAlike}
 use Rattle.exports.specs.ExportLaws.{exports-alike}
 

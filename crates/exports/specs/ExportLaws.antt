@@ -14,8 +14,8 @@ use Rattle.tariff.specs.Numbers as numbers
 use Rattle.answers.specs.declared.Parts.{Parts}
 use Rattle.answers.specs.Answers.{parts_of, answer_of, Answered}
 use Rattle.access.specs.Lines.{LinesListed}
-use Rattle.relisting_laws.proofs.Alike.{answers-alike, listings-equal}
-use Rattle.answer_laws.specs.Sizes as sizes
+use Rattle.law_relisting.proofs.Alike.{answers-alike, listings-equal}
+use Rattle.law_answers.specs.Sizes as sizes
 use Rattle.exports.specs.Exports.{flag, too_few_parts, told, exported, Exported}
 use Rattle.exports.specs.Parts.{Small}
 use Rattle.exports.specs.Statements.{ExportedAlike, ExportsAlike}

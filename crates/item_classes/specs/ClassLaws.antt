@@ -11,7 +11,7 @@ use Rattle.rows.specs.RowLaws.{bit-either, bit-none}
 use Rattle.definitions.specs.Checks.{resources_of}
 use Rattle.definitions.specs.Items.{associate_of}
 use Rattle.law_classes.specs.Numbers.{bit-both}
-use Rattle.records.specs.Annotations.{resource_of, annotation_as}
+use Rattle.sheet_records.specs.Annotations.{resource_of, annotation_as}
 use Rattle.item_names.specs.Holding.{nonzero-bit}
 use Rattle.item_classes.specs.Classes.{meets, lost, Gathers, GathersMore}
 use Rattle.item_classes.specs.declared.Classes.{Classes}

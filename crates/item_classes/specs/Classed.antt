@@ -16,9 +16,9 @@ use Rattle.definitions.specs.Comparisons.{same_name}
 use Rattle.definitions.specs.Map.{LineType, LineMap}
 use Rattle.definitions.specs.Making.{is_resource_variant}
 use Rattle.definitions.specs.Items.{owned, given}
-use Rattle.laws.specs.Comparisons.{same-name, name-same}
-use Rattle.line_laws.specs.Statements.{line_map}
-use Rattle.line_laws.specs.Within.{WordsWithin, ResourceWithin}
+use Rattle.law_orders.specs.Comparisons.{same-name, name-same}
+use Rattle.law_lines.specs.Statements.{line_map}
+use Rattle.law_lines.specs.Within.{WordsWithin, ResourceWithin}
 use Rattle.fields.specs.Fields.{two_words}
 use Rattle.law_classes.specs.Sets.{Set, both, some, class_of, named, own_set, given_set, type_at, no_type, SetIs}
 use Rattle.law_classes.specs.Numbers.{bit-both, place-of, Fits, holds-both, holds-some}

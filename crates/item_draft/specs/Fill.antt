@@ -9,10 +9,10 @@ use Rattle.definitions.specs.Records.{Sheet, TypeInfo}
 use Rattle.definitions.specs.Records as records
 use Rattle.definitions.specs.Comparisons.{name_before, elem_name}
 use Rattle.definitions.specs.Map.{TypeMap, type_map_of}
-use Rattle.line_laws.specs.Statements.{Readable, line_map}
-use Rattle.line_laws.specs.Within.{Within}
-use Rattle.ordering.specs.Lists.{elem, below}
-use Rattle.ordering.specs.Reading.{type_at}
+use Rattle.law_lines.specs.Statements.{Readable, line_map}
+use Rattle.law_lines.specs.Within.{Within}
+use Rattle.order_form.specs.Lists.{elem, below}
+use Rattle.order_form.specs.Reading.{type_at}
 use Rattle.law_classes.specs.Refusal.{lost_class, own_twice}
 use Rattle.sheet_notes.specs.Notes.{notes}
 use Rattle.sheet_draft.specs.Draft.{key_at, place_at, type_in, types_in}
@@ -33,14 +33,14 @@ use Rattle.item_notes.specs.Notes.{DoneAt}
 use Rattle.item_draft.specs.declared.Placing.{Placing}
 
 -- Types in name order (FORMAT 1.4).
-abbrev pub by_name : TypeInfo → TypeInfo → Bool
-by_name T U = name_before T.name U.name
+abbrev pub by_name : List (List ℕ) → TypeInfo → TypeInfo → Bool
+by_name ws T U = name_before ws T.name U.name
 
 -- The draft of a sheet, with its rows in name order, as the decoder leaves it (FORMAT 1.4, 2.6).
 pub record Drawn (s : Sheet) (bs : List Bool) (d : Draft) (entries : List Entry) (n : ℕ) : Type 0 where
   pub drafted : Drafted s bs d n
   pub entered : Entered d entries n
-  pub sorted : map (λ e. type_in (length s.words) bs d e.row) (take n entries) ≡ sort by_name (types_in (length s.words) bs d n)
+  pub sorted : map (λ e. type_in (length s.words) bs d e.row) (take n entries) ≡ sort (by_name s.words) (types_in (length s.words) bs d n)
   pub read : (i : ℕ) → i < n → DoneAt (notes (length s.words) (eqb (key_at d i % 256) 0)) bs (place_at d i)
   pub within : Within s
   pub readable : Readable s

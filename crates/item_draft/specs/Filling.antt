@@ -17,10 +17,10 @@ use Rattle.definitions.specs.Comparisons.{elem_name}
 use Rattle.definitions.specs.Map.{LineType, LineMap, TypeMap, type_map_of, line_type_of, line_map_of}
 use Rattle.definitions.specs.Making.{is_resource_variant}
 use Rattle.definitions.specs.Items.{owned, given}
-use Rattle.line_laws.specs.Statements.{line_map}
-use Rattle.line_laws.specs.Within.{ResourceWithin}
-use Rattle.ordering.specs.Lists.{tab, tab-get_d, any-tab-same}
-use Rattle.ordering.specs.Reading as reading
+use Rattle.law_lines.specs.Statements.{line_map}
+use Rattle.law_lines.specs.Within.{ResourceWithin}
+use Rattle.order_form.specs.Lists.{tab, tab-get_d, any-tab-same}
+use Rattle.order_form.specs.Reading as reading
 use Rattle.law_classes.specs.Sets.{some, own_set, given_set, type_at, no_type, SetIs}
 use Rattle.law_classes.specs.Refusal.{has_child, lost_class, own_twice}
 use Rattle.item_spread.specs.Spread.{Starts, Right}

@@ -1,18 +1,18 @@
 -- A small map and its draft: what is asked of a draft is no empty demand. The words are `resource` and `self`. The sheet lists the
 -- domain resource.self, which associates `resource` and has it as parent, before the virtual resource `resource`, which has a mark.
-use Rattle.std.specs.Prelude.{Bool, true, false, List, [], ◌∷◌, map, ◌≡◌, refl, ℕ, zero, suc, ◌%◌, ◌<◌, eqb, take, drop, replicate}
+use Rattle.std.specs.Prelude.{Bool, true, false, List, [], ◌∷◌, map, ◌≡◌, refl, ℕ, zero, suc, ◌%◌, ◌≤◌, ◌<◌, eqb, ltb, length, take, drop, replicate}
 use mathlib.Core.List.Memᴰ
-use Rattle.std.proofs.Common.{arith}
-use Rattle.lists.specs.Lists.{insert, sort, include, set_of}
-use Rattle.lists.specs.Tests.{cons-elim}
+use Rattle.std.proofs.Common.{arith, ltb-true}
+use Rattle.lists.specs.Lists.{In, all, insert, sort, include, set_of}
+use Rattle.lists.specs.Tests.{all_in, cons-elim}
 use Rattle.lists.specs.Tabulating.{tabulate}
 use Rattle.definitions.specs.Records as records
 use Rattle.definitions.specs.Bits.{odd, to_bits, bits_of}
 use Rattle.definitions.specs.Parse.{field_onto, allowed, repeat_onto, counted}
 use Rattle.definitions.specs.Reading.{word_field, word_if_flag, associated, associated_list, kinds, annotation, mark}
-use Rattle.definitions.specs.Comparisons.{name_before, bytes_before}
+use Rattle.definitions.specs.Comparisons.{name_before, bytes_before, dot}
 use Rattle.definitions.specs.Checks.{resource_bytes, self_bytes, bad_words, names_twice, keys_twice, words_twice, annotations_twice, same_annotation, something_twice}
-use Rattle.line_laws.specs.Within.{WordsWithin, ResourceWithin, AnnotationWithin, TypeWithin, Within}
+use Rattle.law_lines.specs.Within.{WordWithin, WordsWithin, ResourceWithin, AnnotationWithin, TypeWithin, Within}
 use Rattle.sheet_keys.specs.Keys.{name_of_key}
 use Rattle.sheet_notes.specs.Notes.{notes}
 use Rattle.sheet_draft.specs.Draft.{no_row, place_at, key_at, notes_at, type_in, types_in}
@@ -102,10 +102,20 @@ single-within = record {
   mark = λ k i. cons-elim i (λ e. rw e tt) (λ j. absurd (Memᴰ.not-nil j));
 }
 
+word-within : (w : List ℕ) → all (ltb dot) w ≡ true → 1 ≤ length w → WordWithin w
+word-within w e h = record { filled = h; above = λ b i. ltb-true dot b (all_in (ltb dot) e i) }
+
+small-words : (w : List ℕ) → In w small.words → WordWithin w
+small-words w i =
+    cons-elim i
+    (λ e. rw e (word-within resource_bytes refl (omega arith)))
+    (λ j. cons-elim j (λ e. rw e (word-within self_bytes refl (omega arith))) (λ k. absurd (Memᴰ.not-nil k)))
+
 pub small-within : Within small
 small-within = record {
   least = omega arith;
   words = omega arith;
+  word = small-words;
   types = omega arith;
   type = λ T i. cons-elim i (λ e. rw e pair-within) (λ j. cons-elim j (λ e. rw e single-within) (λ k. absurd (Memᴰ.not-nil k)));
   extensions = omega arith;
@@ -141,8 +151,8 @@ notes-read zero h = pair_read
 notes-read (suc zero) h = single-read
 notes-read (suc (suc i)) h = absurd (omega arith)
 
-rows-sorted : map (λ e. type_in 2 small_bits small_draft e.row) (take 2 small_entries) ≡ sort by_name (types_in 2 small_bits small_draft 2)
-unfolding types_in type_in tabulate sort insert name_before notes_at notes name_of_key bits_of to_bits odd counted allowed repeat_onto field_onto annotation kinds associated_list associated word_field word_if_flag mark
+rows-sorted : map (λ e. type_in 2 small_bits small_draft e.row) (take 2 small_entries) ≡ sort (by_name small.words) (types_in 2 small_bits small_draft 2)
+unfolding types_in type_in tabulate sort insert name_before bytes_before notes_at notes name_of_key bits_of to_bits odd counted allowed repeat_onto field_onto annotation kinds associated_list associated word_field word_if_flag mark
 rows-sorted = refl
 
 pub small-drawn : Drawn small small_bits small_draft small_entries 2

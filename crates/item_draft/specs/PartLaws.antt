@@ -12,7 +12,7 @@ use Rattle.rows.specs.RowLaws.{bit-none}
 use Rattle.definitions.specs.Records.{Dom, Resource}
 use Rattle.definitions.specs.Checks.{resources_of}
 use Rattle.definitions.specs.Items.{associate_of}
-use Rattle.ordering.specs.Lists.{any-tab-step}
+use Rattle.order_form.specs.Lists.{any-tab-step}
 use Rattle.sheet_notes.specs.Notes.{Notes, notes}
 use Rattle.sheet_draft.specs.Draft as draft
 use Rattle.sheet_draft.specs.Draft.{place_at, notes_of, notes_at}

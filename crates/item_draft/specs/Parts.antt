@@ -4,7 +4,7 @@ use Rattle.lists.specs.Lists.{any, each, repeats}
 use Rattle.rows.specs.Rows.{has_bit}
 use Rattle.definitions.specs.Checks.{resources_of}
 use Rattle.definitions.specs.Items.{associate_of}
-use Rattle.ordering.specs.Lists.{tab}
+use Rattle.order_form.specs.Lists.{tab}
 use Rattle.sheet_notes.specs.Notes.{Notes, notes}
 use Rattle.sheet_draft.specs.Draft as draft
 use Rattle.sheet_draft.specs.Draft.{place_at, notes_at}

@@ -17,10 +17,10 @@ use Rattle.definitions.specs.Records as records
 use Rattle.definitions.specs.Comparisons.{same_name}
 use Rattle.definitions.specs.Map.{LineMap, type_map_of, line_map_of}
 use Rattle.definitions.specs.Making.{extension_parents}
-use Rattle.laws.specs.Comparisons.{same-name, name-same}
-use Rattle.line_laws.specs.Statements.{line_map}
-use Rattle.line_laws.specs.Within.{NameWithin, ExtensionWithin, Within}
-use Rattle.ordering.specs.Lists.{tab, any-tab-out, below, below-same, below_none, filter-below, map_below, same-list-sym}
+use Rattle.law_orders.specs.Comparisons.{same-name, name-same}
+use Rattle.law_lines.specs.Statements.{line_map}
+use Rattle.law_lines.specs.Within.{NameWithin, ExtensionWithin, Within}
+use Rattle.order_form.specs.Lists.{tab, any-tab-out, below, below-same, below_none, filter-below, map_below, same-list-sym}
 use Rattle.law_classes.specs.Sets.{type_at}
 use Rattle.catalogue.specs.Layout.{key_at, extension_key_at, extension_count_at, extension_parent_at, looked}
 use Rattle.catalogue.specs.Catalogue.{name_of_key, parents_in, added_in, Extended}

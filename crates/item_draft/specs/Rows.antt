@@ -12,12 +12,12 @@ use Rattle.lists.specs.Places.{get_d-in, sorted-places}
 use Rattle.definitions.specs.Records.{Resource, Sheet, TypeInfo}
 use Rattle.definitions.specs.Map.{LineType, LineMap, TypeMap, type_map_of, line_type_of, line_map_of}
 use Rattle.definitions.specs.Items.{owned, given}
-use Rattle.laws.specs.Comparisons.{names-once, types-is, types-apart}
-use Rattle.line_laws.specs.Statements.{line_map}
-use Rattle.line_laws.specs.Within.{NameWithin, ResourceWithin}
-use Rattle.line_laws.specs.Associating.{owned-of, given_is}
-use Rattle.line_laws.specs.Bounds.{gives-within, own-within}
-use Rattle.ordering.specs.Reading as reading
+use Rattle.law_orders.specs.Comparisons.{names-once, types-is, types-apart}
+use Rattle.law_lines.specs.Statements.{line_map}
+use Rattle.law_lines.specs.Within.{NameWithin, ResourceWithin}
+use Rattle.law_lines.specs.Associating.{owned-of, given_is}
+use Rattle.law_lines.specs.Bounds.{gives-within, own-within}
+use Rattle.order_form.specs.Reading as reading
 use Rattle.law_classes.specs.Sets.{type_at, no_type}
 use Rattle.sheet_keys.specs.Keys as keys
 use Rattle.sheet_draft.specs.Draft.{key_at, type_in}
@@ -76,7 +76,7 @@ module _ (s : Sheet) (bs : List Bool) (d : Draft) (entries : List Entry) (n : �
 
   types_are : mm.types ≡ map row_type (take n entries)
   unfolding type_map_of
-  types_are = ap (sort by_name) (sym w.drafted.types) ∙ sym w.sorted
+  types_are = ap (sort (by_name s.words)) (sym w.drafted.types) ∙ sym w.sorted
 
   pub count-types : length mm.types ≡ n
   count-types = ap length types_are ∙ length-map (take n entries) row_type ∙ length-entries

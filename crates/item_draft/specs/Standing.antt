@@ -11,8 +11,8 @@ use Rattle.rows.specs.Rows.{has_bit}
 use Rattle.definitions.specs.Records.{Sheet, TypeInfo}
 use Rattle.definitions.specs.Comparisons.{same_name}
 use Rattle.definitions.specs.Map.{type_map_of}
-use Rattle.line_laws.specs.Within.{Within}
-use Rattle.ordering.specs.Reading.{type_at}
+use Rattle.law_lines.specs.Within.{Within}
+use Rattle.order_form.specs.Reading.{type_at}
 use Rattle.sheet_keys.specs.Keys as keys
 use Rattle.sheet_draft.specs.Draft.{parent_count_at, parent_at, type_in}
 use Rattle.sheet_draft.specs.declared.Draft.{Draft}
@@ -105,4 +105,4 @@ module _ (s : Sheet) (bs : List Bool) (d : Draft) (entries : List Entry) (n : �
       let x : In (keys.name_of_key (parent_at d i k)) (type_at (type_map_of s) a).parents =
       subst (λ l. In (keys.name_of_key (parent_at d i k)) l) (sym (parents-listed a h)) (tabulate-in (λ j. keys.name_of_key (parent_at d i j)) (parent_count_at d i) k l) in
       let y = (w.within.type (type_at (type_map_of s) a) (rows.type-listed s bs d entries n w a h)).parent (keys.name_of_key (parent_at d i k)) x in
-      omega (arith, rows.first_below (length s.words) (parent_at d i k) (subst (Rattle.line_laws.specs.Within.NameWithin (length s.words)) (rows.key-words (parent_at d i k)) y), w.within.words)
+      omega (arith, rows.first_below (length s.words) (parent_at d i k) (subst (Rattle.law_lines.specs.Within.NameWithin (length s.words)) (rows.key-words (parent_at d i k)) y), w.within.words)

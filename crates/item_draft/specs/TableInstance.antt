@@ -11,10 +11,10 @@ use Rattle.lists.specs.Tabulating.{tabulate}
 use Rattle.rows.specs.Rows.{has_bit}
 use Rattle.rows.specs.RowLaws.{bit-one, bit-none}
 use Rattle.definitions.specs.Records.{TypeInfo}
-use Rattle.definitions.specs.Comparisons.{name_before, elem_name}
+use Rattle.definitions.specs.Comparisons.{name_before, bytes_before, elem_name}
 use Rattle.definitions.specs.Map.{number_of, type_map_of}
-use Rattle.ordering.specs.Lists.{elem}
-use Rattle.ordering.specs.Reading.{type_at}
+use Rattle.order_form.specs.Lists.{elem}
+use Rattle.order_form.specs.Reading.{type_at}
 use Rattle.item_spread.specs.Spread.{Ordered}
 use Rattle.catalogue.specs.Layout.{no_word, blank, parents_at, first_at, second_at}
 use Rattle.catalogue.specs.declared.Catalogue.{Catalogue}
@@ -192,11 +192,11 @@ names-right = record {
 -- ---- parents
 
 two-types : length (type_map_of small).types ≡ 2
-unfolding type_map_of sort insert name_before
+unfolding type_map_of sort insert name_before bytes_before
 two-types = refl
 
 bits-right : (a b : ℕ) → a < 2 → b < 2 → has_bit (parents_at small_table a) b ≡ elem_name (type_at (type_map_of small) b).name (type_at (type_map_of small) a).parents
-unfolding small_table has_bit type_map_of sort insert name_before
+unfolding small_table has_bit type_map_of sort insert name_before bytes_before
 bits-right a b h l =
     below_two (λ a. has_bit (parents_at small_table a) b ≡ elem_name (type_at (type_map_of small) b).name (type_at (type_map_of small) a).parents)
     (below_two (λ b. has_bit (parents_at small_table 0) b ≡ elem_name (type_at (type_map_of small) b).name (type_at (type_map_of small) 0).parents) refl refl b l)
@@ -208,7 +208,7 @@ unfolding small_table
 bits-past a b h l = below_two (λ a. has_bit (parents_at small_table a) b ≡ false) (few-bits 0 b (omega arith) l) (few-bits 1 b (omega arith) l) a h
 
 childed-right : (b : ℕ) → b < 2 → has_bit 1 b ≡ any (λ (T : TypeInfo). elem_name (type_at (type_map_of small) b).name T.parents) (type_map_of small).types
-unfolding has_bit type_map_of sort insert name_before
+unfolding has_bit type_map_of sort insert name_before bytes_before
 childed-right = below_two (λ b. has_bit 1 b ≡ any (λ (T : TypeInfo). elem_name (type_at (type_map_of small) b).name T.parents) (type_map_of small).types) refl refl
 
 parents-stand : ParentsStand (type_map_of small) small_table 1

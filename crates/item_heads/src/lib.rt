@@ -20,7 +20,7 @@ pub fn with_resource(set: u64, a: usize, variant: usize) -> u64
     set
 }
 
-// One mark behind the others: a 0, or a 1 and the 8 bits of the tag. `derive` and `tag` are the bits of a window: `records::Mark`
+// One mark behind the others: a 0, or a 1 and the 8 bits of the tag. `derive` and `tag` are the bits of a window: `sheet_records::Mark`
 // would be made of them only to be taken apart here.
 #[tactic(auto, using(crate::specs::HeadLaws::list_less, crate::specs::HeadLaws::packs_derive, crate::specs::HeadLaws::packs_full, crate::specs::HeadLaws::packs_list))]
 pub fn with_mark(p: Packed, derive: u8, tag: u8) -> Packed

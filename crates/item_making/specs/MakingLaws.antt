@@ -18,7 +18,7 @@ use Rattle.definitions.specs.Packing.{name_bits, parent_bits}
 use Rattle.definitions.specs.Comparisons.{dotted}
 use Rattle.definitions.specs.LegalSchedule.{most_marks}
 use Rattle.bits.specs.NumberLaws.{length-to_bits, to_bits-split}
-use Rattle.ordering.specs.Lists.{below-same, below_none, below_one}
+use Rattle.order_form.specs.Lists.{below-same, below_none, below_one}
 use Rattle.rows.specs.Rows.{has_bit}
 use Rattle.rows.specs.RowLaws.{bit-without, bit-none}
 use Rattle.catalogue.specs.Layout.{key_at, head_at, packed_at, marks_at, mark_width, mark_count, extension_count_at, extension_parent_at, second_at}

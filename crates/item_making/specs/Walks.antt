@@ -7,7 +7,7 @@ use Rattle.std.specs.Int.Count as counting
 use Rattle.lists.specs.Lists.{In, each}
 use Rattle.lists.specs.Tabulating.{tabulate, length-tabulate, get_d_tabulate}
 use Rattle.lists.specs.Places.{drop-step, drop-end}
-use Rattle.ordering.specs.Lists.{only, below, below-most}
+use Rattle.order_form.specs.Lists.{only, below, below-most}
 use Rattle.rows.specs.Rows.{has_bit}
 use Rattle.bitsets.specs.Bitsets.{members, Lowest, Rest}
 use Rattle.bitsets.specs.BitLaws.{members-next, members-none}

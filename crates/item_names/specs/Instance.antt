@@ -5,8 +5,8 @@ use Rattle.lists.specs.Places.{zero-at}
 use Rattle.lists.specs.Tests.{never}
 use Rattle.definitions.specs.Cases.{run}
 use Rattle.fields.specs.Fields.{two_words}
-use Rattle.laws.specs.Comparisons.{name-same}
-use Rattle.line_laws.specs.Statements.{line_map}
+use Rattle.law_orders.specs.Comparisons.{name-same}
+use Rattle.law_lines.specs.Statements.{line_map}
 use Rattle.law_classes.specs.Sets.{type_at}
 use Rattle.law_classes.proofs.Instance.{accepted, four}
 use Rattle.catalogue.specs.Layout.{blank}

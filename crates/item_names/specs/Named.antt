@@ -14,10 +14,10 @@ use Rattle.rows.specs.Rows.{has_bit}
 use Rattle.definitions.specs.Records.{Name, Sheet}
 use Rattle.definitions.specs.Comparisons.{same_name, dotted}
 use Rattle.definitions.specs.Map.{LineType, LineMap}
-use Rattle.line_laws.specs.Statements.{line_map}
+use Rattle.law_lines.specs.Statements.{line_map}
 use Rattle.fields.specs.Fields.{two_words}
 use Rattle.fields.specs.FieldLaws.{same-words}
-use Rattle.ordering.specs.Lists.{below}
+use Rattle.order_form.specs.Lists.{below}
 use Rattle.law_classes.specs.Sets.{some, one_word, word_of, masked, type_at, SetIs}
 use Rattle.law_classes.proofs.SetLaws.{below_of}
 use Rattle.law_classes.specs.Numbers.{Fits, holds-some}
@@ -211,7 +211,7 @@ module _ (s : Sheet) (firsts seconds : List ℕ) (t : Catalogue) (nm : Named (li
   mask-some w h = sym (holds-some m (mask_of t w) (masked w) (mask_fits w h) (mask_is w h))
 
   words_are : tabulate (word_at t) t.word_count ≡ below (λ r. some m (masked r)) W
-  words_are = ns.words ∙ Rattle.ordering.specs.Lists.below-same (λ w. not (eqb (mask_of t w) 0)) (λ r. some m (masked r)) W mask-some
+  words_are = ns.words ∙ Rattle.order_form.specs.Lists.below-same (λ w. not (eqb (mask_of t w) 0)) (λ r. some m (masked r)) W mask-some
 
   word_below : (k : ℕ) → k < t.word_count → word_at t k < W
   word_below k h = (below_of (λ w. not (eqb (mask_of t w) 0)) W (subst (In (word_at t k)) ns.words (tabulate-in (word_at t) t.word_count k h))).0

@@ -4,7 +4,7 @@ use Rattle.std.specs.Int.Bits.{bit_and, bit_or}
 use Rattle.std.specs.Int.Count.{count_trailing_zeros}
 use Rattle.lists.specs.Tabulating.{tabulate}
 use Rattle.rows.specs.Rows.{has_bit}
-use Rattle.ordering.specs.Lists.{below}
+use Rattle.order_form.specs.Lists.{below}
 use Rattle.bitsets.specs.Bitsets.{more}
 use Rattle.catalogue.specs.Layout.{key_at, word_at, mask_at, owner_at, first_at, second_at}
 use Rattle.catalogue.specs.declared.Catalogue.{Catalogue}

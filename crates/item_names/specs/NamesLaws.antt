@@ -12,7 +12,7 @@ use Rattle.lists.specs.Sorting.{Distinct, sorted-imp}
 use Rattle.lists.specs.Tabulating.{tabulate, tabulate-set, tabulate-in, length-tabulate}
 use Rattle.rows.specs.Rows.{has_bit}
 use Rattle.rows.specs.RowLaws.{bit-none}
-use Rattle.ordering.specs.Lists.{below, below-yes, below-no, below-same, below-lt}
+use Rattle.order_form.specs.Lists.{below, below-yes, below-no, below-same, below-lt}
 use Rattle.law_classes.proofs.SetLaws.{below_of, below-ascends}
 use Rattle.catalogue.specs.Layout.{no_word, key_at, word_at, owner_at, first_at, second_at, looked}
 use Rattle.catalogue.specs.declared.Catalogue.{Catalogue}

@@ -21,11 +21,11 @@ use Rattle.bits.specs.Reading.{Addressable}
 use Rattle.bits.specs.NumberLaws.{num-lt, length-bits_of}
 use Rattle.sheet_window.specs.WindowLaws.{split}
 use Rattle.sheet_peek.specs.PeekLaws.{refused-not, done-value, done-rest, next-done, pure-done, field-done, allowed-done, repeat-none, repeat-more, counted-done}
-use Rattle.records.specs.Annotations.{resource_of, annotation_as, row_of_word, row_of_tag, rows_for}
-use Rattle.records.specs.AnnotationLaws.{annotation-rows, rows_none}
-use Rattle.records.specs.Kinds.{number_of}
-use Rattle.records.specs.declared.Kind.{Kind}
-use Rattle.records.specs.declared.Kind.TheVariants.{Associate, NestAssociate}
+use Rattle.sheet_records.specs.Annotations.{resource_of, annotation_as, row_of_word, row_of_tag, rows_for}
+use Rattle.sheet_records.specs.AnnotationLaws.{annotation-rows, rows_none}
+use Rattle.sheet_records.specs.Kinds.{number_of}
+use Rattle.sheet_records.specs.declared.Kind.{Kind}
+use Rattle.sheet_records.specs.declared.Kind.TheVariants.{Associate, NestAssociate}
 use Rattle.sheet_notes.specs.Notes.{Notes, notes}
 use Rattle.catalogue.specs.declared.Catalogue.{Catalogue}
 use Rattle.catalogue.specs.Layout.{looked}

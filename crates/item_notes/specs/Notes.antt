@@ -7,7 +7,7 @@ use Rattle.definitions.specs.Parse.{done, Parser, repeat, counted}
 use Rattle.definitions.specs.Reading.{name, annotation, mark}
 use Rattle.definitions.specs.Checks.{resources_of}
 use Rattle.definitions.specs.Items.{associate_of}
-use Rattle.records.specs.Annotations.{resource_of, rows_for}
+use Rattle.sheet_records.specs.Annotations.{resource_of, rows_for}
 use Rattle.sheet_notes.specs.Notes.{Notes, notes}
 use Rattle.catalogue.specs.declared.Catalogue.{Catalogue}
 use Rattle.item_classes.specs.Classes.{class_in, Gathers}

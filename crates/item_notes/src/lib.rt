@@ -6,15 +6,15 @@ ghost use Rattle.std.specs.Prelude.{◌≡◌, ◌<◌, eqb};
 ghost use Rattle.definitions.specs.Bits.{bits_of};
 ghost use Rattle.bits.specs.Reading.{Addressable};
 ghost use Rattle.item_classes.specs.Classes.{class_in, GathersMore};
-ghost use Rattle.records.specs.Annotations.{resource_of};
-ghost use Rattle.records.specs.Kinds.{number_of};
+ghost use Rattle.sheet_records.specs.Annotations.{resource_of};
+ghost use Rattle.sheet_records.specs.Kinds.{number_of};
 ghost use Rattle.item_notes.specs.Notes.{name_in, NamesAt, AnnotationAt, AnnotationsAt, MarksAt, NotesAt, RowsGathered, NamesSkipped, AnnotationGathered, AnnotationsGathered, MarksPacked, NotesGathered};
 
 use catalogue::Catalogue;
 use fields::{Key, Name};
 use item_classes::Classes;
 use item_heads::Packed;
-use records::Kind;
+use sheet_records::Kind;
 
 // The classes found so far, and the place behind what was read.
 #[derive(Clone, Copy)]

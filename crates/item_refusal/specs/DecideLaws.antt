@@ -6,8 +6,8 @@ use Rattle.std.specs.Int.Bits.{bit_and, and_zero_r}
 use Rattle.lists.specs.Lists.{any}
 use Rattle.lists.specs.Tests.{any_none, or-false-both}
 use Rattle.definitions.specs.Records.{Sheet}
-use Rattle.line_laws.specs.Statements.{Readable, line_map, any_refused}
-use Rattle.line_laws.specs.Within.{Within}
+use Rattle.law_lines.specs.Statements.{Readable, line_map, any_refused}
+use Rattle.law_lines.specs.Within.{Within}
 use Rattle.bitsets.specs.Bitsets.{members}
 use Rattle.bitsets.specs.BitLaws.{members-none}
 use Rattle.law_classes.specs.Refusal.{lost_class, taken_name, own_twice, crosses, set_refused}

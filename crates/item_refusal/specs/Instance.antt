@@ -13,9 +13,9 @@ use Rattle.definitions.specs.Bits.{bits_of}
 use Rattle.definitions.specs.Parse.{done}
 use Rattle.definitions.specs.Reading.{sheet}
 use Rattle.definitions.specs.Cases.{hex, run}
-use Rattle.line_laws.specs.Reading.{read-is-within}
-use Rattle.line_laws.specs.Statements.{Readable, line_map, is_refused, any_refused}
-use Rattle.line_laws.specs.Within.{Within}
+use Rattle.law_lines.specs.Reading.{read-is-within}
+use Rattle.law_lines.specs.Statements.{Readable, line_map, is_refused, any_refused}
+use Rattle.law_lines.specs.Within.{Within}
 use Rattle.rows.specs.Rows.{has_bit}
 use Rattle.bitsets.specs.BitLaws.{bit_past}
 use Rattle.law_classes.specs.Sets.{Set, some, one_word, word_of, masked, named, own_set, given_set, above_set, passed_set, type_at, SetIs}

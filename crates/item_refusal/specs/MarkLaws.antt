@@ -16,8 +16,8 @@ use Rattle.definitions.specs.Records.{Mark, makelist_mark, derive_mark}
 use Rattle.definitions.specs.Packing.{mark_bits}
 use Rattle.definitions.specs.Making.{same_mark}
 use Rattle.bits.specs.NumberLaws.{length-to_bits, num-to_bits, to_bits-split, to_bits-low}
-use Rattle.line_laws.specs.Within.{MarkWithin}
-use Rattle.line_laws.specs.SameItem.{mark-true, mark-self}
+use Rattle.law_lines.specs.Within.{MarkWithin}
+use Rattle.law_lines.specs.SameItem.{mark-true, mark-self}
 use Rattle.catalogue.specs.Layout.{marks_at, mark_width}
 use Rattle.catalogue.specs.declared.Catalogue.{Catalogue}
 use Rattle.item_refusal.specs.Tests.{behind, follow}

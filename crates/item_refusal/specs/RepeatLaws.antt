@@ -20,13 +20,13 @@ use Rattle.definitions.specs.Comparisons.{same_name, name_before, dotted}
 use Rattle.definitions.specs.Map.{LineType, LineMap, line_type_of}
 use Rattle.definitions.specs.Making.{same_mark}
 use Rattle.definitions.specs.Items.{parents_of}
-use Rattle.laws.specs.Comparisons.{name-strict, same-name, name-same}
-use Rattle.line_laws.specs.Statements.{Readable, line_map}
-use Rattle.line_laws.specs.Declarations.{type-of}
-use Rattle.line_laws.specs.Within.{Within}
+use Rattle.law_orders.specs.Comparisons.{name-strict, same-name, name-same}
+use Rattle.law_lines.specs.Statements.{Readable, line_map}
+use Rattle.law_lines.specs.Declarations.{type-of}
+use Rattle.law_lines.specs.Within.{Within}
 use Rattle.rows.specs.Rows.{has_bit}
 use Rattle.rows.specs.RowLaws.{bit-none}
-use Rattle.ordering.specs.Lists.{below, below-same, below_one}
+use Rattle.order_form.specs.Lists.{below, below-same, below_one}
 use Rattle.bitsets.specs.Bitsets.{members, more, less}
 use Rattle.bitsets.specs.BitLaws.{bit-both, bit-less, bit-more, members-of, in_members, below_of, in-below}
 use Rattle.law_classes.specs.Sets.{both, some, word_of, masked, own_set, above_set, passed_set, no_type, type_at, SetIs}
@@ -47,13 +47,13 @@ use Rattle.item_refusal.specs.MarkLaws.{AllWithin, follow-is, follow-append}
 pub one_place : (s : Sheet) → Readable s → Within s → (p q : ℕ) → p < length (line_map s).types → q < length (line_map s).types → (type_at (line_map s) p).name ≡ (type_at (line_map s) q).name → p ≡ q
 one_place s ok within p q h i e =
     let m = line_map s in
-    let N : LineType → LineType → Type 0 = λ P Q. name_before P.name Q.name ≡ true in
+    let N : LineType → LineType → Type 0 = λ P Q. name_before m.words P.name Q.name ≡ true in
     let ascend = (plain_map s ok within).ascend in
     by (ltb p q)
-    (λ l. never (sorted-places N m.types no_type ascend p q (ltb-true p q l) i) (rw e (name-strict.irreflexive (type_at m q).name)))
+    (λ l. never (sorted-places N m.types no_type ascend p q (ltb-true p q l) i) (rw e ((name-strict m.words).irreflexive (type_at m q).name)))
     (λ l.
     by (ltb q p)
-    (λ r. never (sorted-places N m.types no_type ascend q p (ltb-true q p r) h) (rw e (name-strict.irreflexive (type_at m q).name)))
+    (λ r. never (sorted-places N m.types no_type ascend q p (ltb-true q p r) h) (rw e ((name-strict m.words).irreflexive (type_at m q).name)))
     (λ r. omega (arith, ltb-false p q l, ltb-false q p r)))
 
 module _ (s : Sheet) (ok : Readable s) (within : Within s) (t : Catalogue) (k : Catalogued s t) where

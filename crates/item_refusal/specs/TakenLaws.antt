@@ -12,8 +12,8 @@ use Rattle.lists.specs.Tests.{by, never, same_test, and_left, and_right, and_bot
 use Rattle.lists.specs.Places.{get_d-in}
 use Rattle.definitions.specs.Records.{Sheet}
 use Rattle.definitions.specs.Map.{LineType, LineMap}
-use Rattle.line_laws.specs.Statements.{Readable, line_map}
-use Rattle.line_laws.specs.Within.{Within}
+use Rattle.law_lines.specs.Statements.{Readable, line_map}
+use Rattle.law_lines.specs.Within.{Within}
 use Rattle.bitsets.specs.Bitsets.{members}
 use Rattle.bitsets.specs.BitLaws.{members-of, in_members}
 use Rattle.law_classes.specs.Sets.{both, some, word_of, masked, own_set, above_set, made_set, no_type, type_at}

@@ -4,8 +4,8 @@ use Rattle.std.specs.Bool.{beq}
 use Rattle.std.specs.Int.Bits.{bit_and, bit_or}
 use Rattle.lists.specs.Lists.{any, all}
 use Rattle.definitions.specs.Records.{Sheet}
-use Rattle.line_laws.specs.Statements.{Readable, line_map, any_refused}
-use Rattle.line_laws.specs.Within.{Within}
+use Rattle.law_lines.specs.Statements.{Readable, line_map, any_refused}
+use Rattle.law_lines.specs.Within.{Within}
 use Rattle.rows.specs.Rows.{has_bit}
 use Rattle.bitsets.specs.Bitsets.{members, more, less, first_bits}
 use Rattle.law_classes.specs.Refusal.{lost_class, own_twice}

@@ -13,9 +13,9 @@ use Rattle.lists.specs.Places.{get_d-in}
 use Rattle.definitions.specs.Records.{Name, Sheet}
 use Rattle.definitions.specs.Comparisons.{same_name, dotted}
 use Rattle.definitions.specs.Map.{LineType, LineMap}
-use Rattle.laws.specs.Comparisons.{same-name}
-use Rattle.line_laws.specs.Statements.{Readable, line_map}
-use Rattle.line_laws.specs.Within.{Within}
+use Rattle.law_orders.specs.Comparisons.{same-name}
+use Rattle.law_lines.specs.Statements.{Readable, line_map}
+use Rattle.law_lines.specs.Within.{Within}
 use Rattle.rows.specs.Rows.{has_bit}
 use Rattle.bitsets.specs.BitLaws.{bit-less, bit-first}
 use Rattle.law_classes.specs.Sets.{one_word, word_of, masked, no_type, type_at, SetIs}

@@ -6,8 +6,8 @@ use Rattle.definitions.specs.Map.{type_map_of}
 use Rattle.definitions.specs.Order.{organize_type_map}
 use Rattle.definitions.specs.Packing.{schedule_bits}
 use Rattle.definitions.specs.Answer.{schedule, schedule_of}
-use Rattle.line_laws.specs.Statements.{Readable, line_map, any_refused}
-use Rattle.line_laws.specs.Within.{Within}
+use Rattle.law_lines.specs.Statements.{Readable, line_map, any_refused}
+use Rattle.law_lines.specs.Within.{Within}
 use Rattle.order_listing.specs.Listing.{Listing}
 use Rattle.answers.specs.Answers.{Answer}
 use Rattle.catalogue.specs.Catalogue.{Catalogued}

@@ -20,10 +20,10 @@ use Rattle.definitions.specs.Packing.{name_bits, item_bits, order_bits, schedule
 use Rattle.definitions.specs.Answer.{schedule, schedule_of}
 use Rattle.bits.specs.NumberLaws.{length-to_bits}
 use Rattle.bits.specs.Writing.{put, Wrote}
-use Rattle.line_laws.specs.Statements.{Readable, line_map, any_refused}
-use Rattle.line_laws.specs.Within.{Within}
-use Rattle.line_laws.specs.Bounds.{items-at-most}
-use Rattle.line_laws.specs.Size.{schedule-at-most}
+use Rattle.law_lines.specs.Statements.{Readable, line_map, any_refused}
+use Rattle.law_lines.specs.Within.{Within}
+use Rattle.law_lines.specs.Bounds.{items-at-most}
+use Rattle.law_lines.specs.Size.{schedule-at-most}
 use Rattle.catalogue.specs.Catalogue.{Catalogued}
 use Rattle.catalogue.specs.declared.Catalogue.{Catalogue}
 use Rattle.law_classes.proofs.ItemLaws.{items-by-sets}

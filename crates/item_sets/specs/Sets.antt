@@ -3,7 +3,7 @@
 use Rattle.std.specs.Prelude.{List, ◌≡◌, ℕ, ◌/◌, ◌≤◌, ◌<◌}
 use Rattle.lists.specs.Lists.{any}
 use Rattle.rows.specs.Rows.{has_bit}
-use Rattle.ordering.specs.Lists.{tab}
+use Rattle.order_form.specs.Lists.{tab}
 use Rattle.item_spread.specs.Spread.{Spread}
 use Rattle.catalogue.specs.Layout.{extension_key_at, looked}
 use Rattle.catalogue.specs.declared.Catalogue.{Catalogue}

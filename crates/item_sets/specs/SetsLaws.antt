@@ -4,7 +4,7 @@ use Rattle.std.proofs.Common.{refl, sym, ap, ◌∙◌, subst, arith}
 use Rattle.std.specs.Int.Bits.{bit_or}
 use Rattle.rows.specs.Rows.{has_bit}
 use Rattle.rows.specs.RowLaws.{bit-either, bit-none}
-use Rattle.ordering.specs.Lists.{any-tab-step}
+use Rattle.order_form.specs.Lists.{any-tab-step}
 use Rattle.item_spread.specs.Spread.{United, Ordered}
 use Rattle.item_spread.specs.SpreadLaws.{spread-more}
 use Rattle.catalogue.specs.Layout.{parents_at, extension_key_at, looked}

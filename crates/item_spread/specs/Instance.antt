@@ -3,11 +3,11 @@ use Rattle.std.specs.Prelude.{true, false, List, [], ◌∷◌, ◌≡◌, refl,
 use Rattle.std.proofs.Common.{sym, ◌∙◌, eq-eqb, ne_eqb, eqb-true, arith}
 use Rattle.lists.specs.Tests.{never, or_left}
 use Rattle.definitions.specs.Cases.{run}
-use Rattle.line_laws.specs.Statements.{line_map}
+use Rattle.law_lines.specs.Statements.{line_map}
 use Rattle.definitions.specs.Map.{LineType}
 use Rattle.rows.specs.Rows.{has_bit}
 use Rattle.rows.specs.RowLaws.{bit-one, bit-none}
-use Rattle.ordering.specs.Lists.{elem}
+use Rattle.order_form.specs.Lists.{elem}
 use Rattle.law_classes.specs.Sets.{named, given_set, type_at, SetIs}
 use Rattle.item_spread.specs.Spread.{Ordered, Starts, Right, Spread}
 use Rattle.law_classes.proofs.Instance.{accepted, accepted-readable, four}

@@ -4,9 +4,9 @@ use Rattle.std.specs.Int.Bits.{bit_and}
 use Rattle.lists.specs.Lists.{any}
 use Rattle.definitions.specs.Records.{Sheet}
 use Rattle.definitions.specs.Map.{LineType}
-use Rattle.line_laws.specs.Statements.{Readable, line_map}
+use Rattle.law_lines.specs.Statements.{Readable, line_map}
 use Rattle.rows.specs.Rows.{has_bit}
-use Rattle.ordering.specs.Lists.{elem, below}
+use Rattle.order_form.specs.Lists.{elem, below}
 use Rattle.law_classes.specs.Sets.{given_set, above_set, passed_set, type_at, SetIs}
 
 -- what the types of a set pass on, united

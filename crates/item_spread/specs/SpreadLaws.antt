@@ -11,14 +11,14 @@ use Rattle.lists.specs.Places.{get_d-in}
 use Rattle.rows.specs.Rows.{has_bit}
 use Rattle.rows.specs.RowLaws.{bit-either, bit-none}
 use Rattle.rows.specs.Next.{NextBit}
-use Rattle.ordering.specs.Lists.{elem, elem-step, below, below_none, below-same}
+use Rattle.order_form.specs.Lists.{elem, elem-step, below, below_none, below-same}
 use Rattle.bitsets.specs.Bitsets.{members, Lowest, Rest, more}
 use Rattle.bitsets.specs.BitLaws.{below_of, in-below, members-next, bit-more}
 use Rattle.definitions.specs.Records.{Sheet}
 use Rattle.definitions.specs.Map.{LineType, LineMap}
 use Rattle.definitions.specs.Items.{parents_of}
-use Rattle.line_laws.specs.Statements.{Readable, line_map}
-use Rattle.line_laws.specs.Declarations.{type-of}
+use Rattle.law_lines.specs.Statements.{Readable, line_map}
+use Rattle.law_lines.specs.Declarations.{type-of}
 use Rattle.law_classes.specs.Sets.{both, some, masked, above_set, passed_set, no_type, type_at, SetIs}
 use Rattle.law_classes.specs.Numbers.{place-of, Fits}
 use Rattle.law_classes.specs.Walks.{passing-walked}

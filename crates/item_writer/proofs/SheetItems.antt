@@ -22,9 +22,9 @@ use Rattle.definitions.specs.Comparisons.{dotted}
 use Rattle.definitions.specs.Map.{LineType, LineMap}
 use Rattle.definitions.specs.Making.{extension_parents, extension_line}
 use Rattle.definitions.specs.Items.{parents_of}
-use Rattle.line_laws.specs.Statements.{line_map}
-use Rattle.line_laws.specs.Within.{Within}
-use Rattle.ordering.specs.Lists.{only, below, below-same, tab-get_d, filter-below, map_below}
+use Rattle.law_lines.specs.Statements.{line_map}
+use Rattle.law_lines.specs.Within.{Within}
+use Rattle.order_form.specs.Lists.{only, below, below-same, tab-get_d, filter-below, map_below}
 use Rattle.rows.specs.Rows.{has_bit}
 use Rattle.rows.specs.RowLaws.{bit-without}
 use Rattle.law_classes.specs.Sets.{Set, both, some, one_word, masked, own_set, above_set, passed_set, classes_in, making_of, own_making, inherited_making, set_items_at, made_set, set_items_for, set_items, no_type, type_at, SetIs}

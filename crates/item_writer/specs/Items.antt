@@ -5,7 +5,7 @@ use Rattle.lists.specs.Lists.{each}
 use Rattle.lists.specs.Tabulating.{tabulate}
 use Rattle.definitions.specs.Records.{Name}
 use Rattle.definitions.specs.Comparisons.{dotted}
-use Rattle.ordering.specs.Lists.{below}
+use Rattle.order_form.specs.Lists.{below}
 use Rattle.rows.specs.Rows.{has_bit}
 use Rattle.catalogue.specs.Layout.{key_at, head_at, parents_at, own_at, above_at, passed_at, word_at, mask_at, extension_key_at, extension_count_at}
 use Rattle.catalogue.specs.Catalogue.{added_in}

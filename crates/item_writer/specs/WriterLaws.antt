@@ -15,7 +15,7 @@ use Rattle.lists.specs.Tabulating.{tabulate}
 use Rattle.lists.specs.Places.{zero-at}
 use Rattle.definitions.specs.Records.{Name}
 use Rattle.definitions.specs.Comparisons.{dotted}
-use Rattle.ordering.specs.Lists.{only, below, below-same, below_one}
+use Rattle.order_form.specs.Lists.{only, below, below-same, below_one}
 use Rattle.rows.specs.Rows.{has_bit}
 use Rattle.rows.specs.RowLaws.{bit-one, bit-none}
 use Rattle.catalogue.specs.Layout.{key_at, head_at, parents_at, own_at, above_at, passed_at, word_at, mask_at, extension_key_at}

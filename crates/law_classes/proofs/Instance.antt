@@ -8,9 +8,9 @@ use Rattle.definitions.specs.Reading.{sheet}
 use Rattle.definitions.specs.Checks.{resource_bytes, self_bytes}
 use Rattle.definitions.specs.Items.{items_of}
 use Rattle.definitions.specs.Cases.{hex, run}
-use Rattle.line_laws.specs.Statements.{Readable, line_map, any_refused}
-use Rattle.line_laws.specs.Reading.{read-is-within}
-use Rattle.line_laws.specs.Within.{Within}
+use Rattle.law_lines.specs.Statements.{Readable, line_map, any_refused}
+use Rattle.law_lines.specs.Reading.{read-is-within}
+use Rattle.law_lines.specs.Within.{Within}
 use Rattle.law_classes.specs.Sets.{named, own_set, given_set, above_set, passed_set, classes_in, made_set, set_items}
 use Rattle.law_classes.specs.Refusal.{unmet, has_child, lost_class, taken_name, own_twice, firsts, identical, crosses, set_refused}
 use Rattle.law_classes.proofs.RefusalLaws.{refused-by-sets}

@@ -16,17 +16,18 @@ use Rattle.lists.specs.Sorting.{Distinct, sorted-imp, perm-sorted, sort-perm, so
 use Rattle.lists.specs.Strict.{asymmetric}
 use Rattle.definitions.specs.Records.{Name, Resource, TypeInfo, Sheet, Item}
 use Rattle.definitions.specs.Comparisons.{name_before, dotted}
-use Rattle.definitions.specs.Map.{LineType, LineMap, line_type_of}
+use Rattle.definitions.specs.Map.{LineType, LineMap, line_type_of, type_map_of, line_map_of}
 use Rattle.definitions.specs.Making.{declared, is_resource, class_names, marks_of, all_virtual, create_synthetic_resource, extension_line, same_item}
 use Rattle.definitions.specs.Items.{owned, given, of_word, associate_word, parents_of, ancestors, own_classes, doms_above, parents_above, words_made, own_resource, inherited_resource, items_at, items_for, items_of}
-use Rattle.laws.specs.Comparisons.{name-strict, look-up-is}
-use Rattle.line_laws.specs.Statements.{Readable, line_map, classes_of, is_refused, any_refused}
-use Rattle.line_laws.specs.Unroll.{tests-unroll, ancestors-unroll}
-use Rattle.line_laws.specs.Declarations.{type-in, type-of, declarations-ascend, name-is, declared-one}
-use Rattle.line_laws.specs.SameItem.{tested-once}
-use Rattle.line_laws.specs.Within.{Within}
-use Rattle.line_laws.specs.Associating.{word-is}
-use Rattle.ordering.specs.Lists.{below, below-same}
+use Rattle.law_orders.specs.Comparisons.{name-strict, look-up-is}
+use Rattle.law_lines.specs.Statements.{Readable, line_map, classes_of, is_refused, any_refused}
+use Rattle.law_lines.specs.Unroll.{tests-unroll, ancestors-unroll}
+use Rattle.law_lines.specs.Numbered.{declarations-numbered}
+use Rattle.law_lines.specs.Declarations.{type-in, type-of, declarations-ascend, name-is, declared-one}
+use Rattle.law_lines.specs.SameItem.{tested-once}
+use Rattle.law_lines.specs.Within.{Within}
+use Rattle.law_lines.specs.Associating.{word-is}
+use Rattle.order_form.specs.Lists.{below, below-same}
 use Rattle.law_classes.specs.Sets.{Set, both, some, one_word, class_of, named, masked, own_set, given_set, above_set, passed_set, classes_in, making_of, own_making, inherited_making, set_items_at, made_set, set_items_for, set_items}
 use Rattle.law_classes.proofs.SetLaws.{Short, Plain, Known, class-of, class-in, word-meets, names-in-set, words-in-set}
 
@@ -72,12 +73,14 @@ short-of (a ∷ b ∷ []) h k = refl
 short-of (a ∷ b ∷ c ∷ l) h k = absurd (omega arith)
 
 pub plain_map : (s : Sheet) → Readable s → Within s → Plain (line_map s)
+unfolding line_map_of type_map_of
 plain_map s ok w = record {
   short = λ D i.
       let t = type-of s i in
       let n = (w.type t.0 t.1).name in
       subst (λ (D : LineType). Short D.name) t.2 (subst Short (sym (name-is t.0)) (short-of t.0.name n.least n.most));
   ascend = declarations-ascend s ok;
+  numbered = declarations-numbered s ok w;
 }
 
 -- tests that agree on the members keep the same
@@ -207,16 +210,16 @@ module _ (s : Sheet) (ok : Readable s) (within : Within s) where
     own_names r = map (λ (u : Resource). dotted u.dom r) (of_word r (owned D))
 
     -- where no own class stands twice, the sorted list has the members of `own & mask`
-    pub own-are : (r : ℕ) → Distinct (own_classes D r) → own_classes D r ≡ map (λ (C : LineType). C.name) (own r)
+    pub own-are : (r : ℕ) → Distinct (own_classes m D r) → own_classes m D r ≡ map (λ (C : LineType). C.name) (own r)
     unfolding own_classes own_set
     own-are r once =
-        let N : Name → Name → Type 0 = λ a b. name_before a b ≡ true in
-        let k : Sorted (λ (a b : Name). a ≡ b → ⊥) (own_names r) = perm-sorted (λ a b. a ≡ b → ⊥) (λ a b h e. h (sym e)) (Permᴰ.symm (sort-perm name_before (own_names r))) once in
-        sorted-unique N (asymmetric name-strict) (sort name_before (own_names r)) (map (λ (C : LineType). C.name) (own r))
-        (sort_sorted name-strict (λ (n : Name). n) (own_names r) k)
+        let N : Name → Name → Type 0 = λ a b. name_before m.words a b ≡ true in
+        let k : Sorted (λ (a b : Name). a ≡ b → ⊥) (own_names r) = perm-sorted (λ a b. a ≡ b → ⊥) (λ a b h e. h (sym e)) (Permᴰ.symm (sort-perm (name_before m.words) (own_names r))) once in
+        sorted-unique N (asymmetric (name-strict m.words)) (sort (name_before m.words) (own_names r)) (map (λ (C : LineType). C.name) (own r))
+        (sort_sorted (name-strict m.words) (λ (n : Name). n) (own_names r) k)
         (sorted-map N (λ (C : LineType). C.name) (own r) (sorted_filter (λ (P Q : LineType). N P.name Q.name) (both (named (owned D)) (masked r)) m.types plain.ascend))
         (λ n i.
-        let x = Memᴰ.of_map (λ (u : Resource). dotted u.dom r) (of_word r (owned D)) ((sort-is name_before (own_names r) n).0 i) in
+        let x = Memᴰ.of_map (λ (u : Resource). dotted u.dom r) (of_word r (owned D)) ((sort-is (name_before m.words) (own_names r) n).0 i) in
         let w = (word-is r (owned D) x.0).0 x.1 in
         let c = class-in m plain (owned D) known-own x.0 w.0 in
         let e : n ≡ c.0.name = sym x.2 ∙ ap (dotted x.0.dom) (sym w.1) ∙ sym c.4 in
@@ -225,18 +228,18 @@ module _ (s : Sheet) (ok : Readable s) (within : Within s) where
         let x = Memᴰ.of_map (λ (C : LineType). C.name) (own r) i in
         let y = filter-of (both (named (owned D)) (masked r)) m.types x.1 in
         let c = class-of m plain (owned D) r x.0 y.0 y.1 in
-        (sort-is name_before (own_names r) n).1
+        (sort-is (name_before m.words) (own_names r) n).1
         (Memᴰ.cast (sym x.2 ∙ c.2 ∙ ap (dotted c.0.dom) c.3) (Memᴰ.map (λ (u : Resource). dotted u.dom r) ((word-is r (owned D) c.0).1 (c.1, c.3)))))
 
     -- where no two of its items are equal, no own class stands twice
-    pub own-once : Distinct (items_for m D As) → (r : ℕ) → In r (words_made D As) → Distinct (own_classes D r)
+    pub own-once : Distinct (items_for m D As) → (r : ℕ) → In r (words_made D As) → Distinct (own_classes m D r)
     unfolding items_for items_at
     own-once items-once r i =
-        sorted-imp (own_classes D r) (λ a b j k h e. h (ap (own_resource m D r) e))
-        (map-sorted (λ x y. x ≡ y → ⊥) (own_resource m D r) (own_classes D r)
-        (sorted-left (λ x y. x ≡ y → ⊥) (map (own_resource m D r) (own_classes D r)) _ (sorted_part (λ x y. x ≡ y → ⊥) (items_at m D As) r (words_made D As) i items-once)))
+        sorted-imp (own_classes m D r) (λ a b j k h e. h (ap (own_resource m D r) e))
+        (map-sorted (λ x y. x ≡ y → ⊥) (own_resource m D r) (own_classes m D r)
+        (sorted-left (λ x y. x ≡ y → ⊥) (map (own_resource m D r) (own_classes m D r)) _ (sorted_part (λ x y. x ≡ y → ⊥) (items_at m D As) r (words_made D As) i items-once)))
 
-    own-items : (r : ℕ) → Distinct (own_classes D r) → map (own_resource m D r) (own_classes D r) ≡ map (own_making m D r) (own r)
+    own-items : (r : ℕ) → Distinct (own_classes m D r) → map (own_resource m D r) (own_classes m D r) ≡ map (own_making m D r) (own r)
     unfolding own_resource own_making
     own-items r once =
         ap (map (own_resource m D r)) (own-are r once)
@@ -246,7 +249,7 @@ module _ (s : Sheet) (ok : Readable s) (within : Within s) where
         let c : (E : LineType) → In E (C ∷ []) → In E m.types = λ E k. cons-elim k (λ e. Memᴰ.cast e (filter-of (both (own_set D) (masked r)) m.types j).0) (λ n. absurd (Memᴰ.not-nil n)) in
         making-is D r (C ∷ []) (C.name ∷ []) c)
 
-    pub at-is : (r : ℕ) → Distinct (own_classes D r) → items_at m D As r ≡ set_items_at m D r
+    pub at-is : (r : ℕ) → Distinct (own_classes m D r) → items_at m D As r ≡ set_items_at m D r
     unfolding items_at set_items_at
     at-is r once =
         ap₂ (λ (a b : List Item). a ++ (b ++ (extension_line D r ∷ []))) (own-items r once)
@@ -254,7 +257,7 @@ module _ (s : Sheet) (ok : Readable s) (within : Within s) where
         ∙ ap (map (inherited_making m D)) (filter_alike (associate_word As) (λ q. some m (both (above_set m D) (masked q))) associate-is (r ∷ [])))
 
     -- the items of T by sets
-    pub for-is : ((r : ℕ) → In r (words_made D As) → Distinct (own_classes D r)) → items_for m D As ≡ set_items_for (length s.words) m D
+    pub for-is : ((r : ℕ) → In r (words_made D As) → Distinct (own_classes m D r)) → items_for m D As ≡ set_items_for (length s.words) m D
     unfolding items_for set_items_for
     for-is once = each_same (items_at m D As) (set_items_at m D) (words_made D As) (λ r i. at-is r (once r i)) ∙ ap (each (set_items_at m D)) words_are
 

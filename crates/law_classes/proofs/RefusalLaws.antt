@@ -24,16 +24,16 @@ use Rattle.definitions.specs.Making.{declared, extension_parents, is_resource_va
 use Rattle.definitions.specs.Items.{owned, given, of_word, ancestors, own_classes, words_made, items_at, items_for}
 use Rattle.definitions.specs.Ancestry.{Parent, Ancestor, direct, further}
 use Rattle.definitions.specs.ItemOrder.{parents_in}
-use Rattle.laws.specs.Comparisons.{same-name, name-same, look-up-is}
-use Rattle.line_laws.specs.Statements.{Readable, line_map, DeclaredFor, classes_of, is_refused, any_refused}
-use Rattle.line_laws.specs.Declarations.{type-in, type-of, name-is, inherits-in, declared-one, declared-some, declarations-distinct, one-declaration}
-use Rattle.line_laws.specs.Ancestors.{parents-above, ancestor-of}
-use Rattle.line_laws.specs.Associating.{word-is, classes-are}
-use Rattle.line_laws.specs.Once.{is_made, line-not, at_key, owned-apart}
-use Rattle.line_laws.specs.Identical.{identical-is-twice}
-use Rattle.line_laws.specs.SameItem.{same_item_lem, item-same, once-tested, tested-once}
-use Rattle.line_laws.specs.Within.{Within}
-use Rattle.ordering.specs.Lists.{below}
+use Rattle.law_orders.specs.Comparisons.{same-name, name-same, look-up-is}
+use Rattle.law_lines.specs.Statements.{Readable, line_map, DeclaredFor, classes_of, is_refused, any_refused}
+use Rattle.law_lines.specs.Declarations.{type-in, type-of, name-is, inherits-in, declared-one, declared-some, declarations-distinct, one-declaration}
+use Rattle.law_lines.specs.Ancestors.{parents-above, ancestor-of}
+use Rattle.law_lines.specs.Associating.{word-is, classes-are}
+use Rattle.law_lines.specs.Once.{is_made, line-not, at_key, owned-apart}
+use Rattle.law_lines.specs.Identical.{identical-is-twice}
+use Rattle.law_lines.specs.SameItem.{same_item_lem, item-same, once-tested, tested-once}
+use Rattle.law_lines.specs.Within.{Within}
+use Rattle.order_form.specs.Lists.{below}
 use Rattle.law_classes.specs.Sets.{both, some, word_of, dom_of, class_of, masked, own_set, above_set, classes_in, making_of, own_making, inherited_making, set_items_at, made_set, set_items_for}
 use Rattle.law_classes.proofs.SetLaws.{Short, Known, parts, class-of, below_of, in-below}
 use Rattle.law_classes.proofs.ItemLaws.{plain_map, words_are, word_below, own-once, at-is, for-is, sorted_part}
@@ -281,12 +281,12 @@ module _ (s : Sheet) (ok : Readable s) where
     -- ---- and back: no class twice and no crossing leave each item once
 
     module _ (single : own_twice D ≡ false) (uncrossed : crosses m D ≡ false) where
-      classes-once : (r : ℕ) → Distinct (own_classes D r)
+      classes-once : (r : ℕ) → Distinct (own_classes m D r)
       unfolding own_classes own_twice
       classes-once r =
           let us = owned D in
           let f : Resource → Name = λ u. dotted u.dom r in
-          perm-sorted (λ a b. a ≡ b → ⊥) (λ a b h e. h (sym e)) (sort-perm name_before (map f (of_word r us)))
+          perm-sorted (λ a b. a ≡ b → ⊥) (λ a b h e. h (sym e)) (sort-perm (name_before m.words) (map f (of_word r us)))
           (sorted-map (λ a b. a ≡ b → ⊥) f (of_word r us)
           (sorted-imp (of_word r us)
           (λ u w i j h e.

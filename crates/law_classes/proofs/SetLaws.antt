@@ -5,9 +5,10 @@ use mathlib.Core.List.{List, [], ◌∷◌, ◌++◌, map}
 use Rattle.std.proofs.Common.{⊎_elim, ◌∙◌, subst, eq-eqb, eqb-true, lt-ltb}
 use Rattle.std.proofs.Math.Path.{sym, ap}
 use Rattle.std.proofs.lemmas.Bool.{not-true}
-use Rattle.lists.specs.Lists.{In, Sorted, filter, set_of}
+use Rattle.lists.specs.Lists.{In, Sorted, list_before, filter, set_of}
 use Rattle.lists.specs.Tests.{by, never, same_test, and_left, and_right, and_both, cons-elim, any-in, any_of, filter-in, filter-of}
 use Rattle.lists.specs.Strict.{asymmetric, number-strict}
+use Rattle.lists.specs.Lexicographic.{list-strict}
 use Rattle.lists.specs.Appending.{map-map, map_same}
 use Rattle.lists.specs.Members.{sorted-map}
 use Rattle.lists.specs.Sorting.{Ascending, sorted-append, sorted_filter, sorted-imp, sorted-unique, set_is, set-sorted}
@@ -16,9 +17,9 @@ use Rattle.definitions.specs.Comparisons.{same_name, name_before, dom_before, do
 use Rattle.definitions.specs.Map.{LineType, LineMap}
 use Rattle.definitions.specs.Making.{class_names}
 use Rattle.definitions.specs.Items.{of_word, has_word}
-use Rattle.laws.specs.Comparisons.{name-strict, dom-strict, same-name, name-same}
-use Rattle.line_laws.specs.Associating.{word-is, has_word_lem, word-of}
-use Rattle.ordering.specs.Lists.{only, below}
+use Rattle.law_orders.specs.Comparisons.{dom-strict, same-name, name-same}
+use Rattle.law_lines.specs.Associating.{word-is, has_word_lem, word-of}
+use Rattle.order_form.specs.Lists.{only, below}
 pub use Rattle.bitsets.specs.BitLaws.{below_of, in-below}
 use Rattle.law_classes.specs.Sets.{Set, both, some, one_word, two_words, word_of, dom_of, class_of, named, masked, classes_in}
 
@@ -68,8 +69,8 @@ alone-once (x ∷ []) (y ∷ z ∷ l) h k e = never k refl
 first-before : (x y r : ℕ) → (ltb x y || (eqb x y && (ltb r r || (eqb r r && false)))) ≡ true → (ltb x y || (eqb x y && false)) ≡ true
 first-before x y r e = rw (number-strict.irreflexive r, eq-eqb r r refl) at e
 
-paired-before : (a b : Name) → Short a → Short b → one_word a ≡ false → one_word b ≡ false → word_of a ≡ word_of b → name_before a b ≡ true → dom_before (dom_of a) (dom_of b) ≡ true
-unfolding name_before dom_before
+paired-before : (a b : Name) → Short a → Short b → one_word a ≡ false → one_word b ≡ false → word_of a ≡ word_of b → list_before a b ≡ true → dom_before (dom_of a) (dom_of b) ≡ true
+unfolding dom_before
 paired-before [] b s t h k e l = never s refl
 paired-before (x ∷ []) b s t h k e l = never refl h
 paired-before (x ∷ y ∷ z ∷ a) b s t h k e l = never s refl
@@ -88,10 +89,11 @@ alone-before (x ∷ []) (y ∷ z ∷ b) t h k = refl
 
 -- ---- a map, and resources whose classes are declared
 
--- what is asked of the map: names of one word or two, ascending
+-- what is asked of the map: names of one word or two, ascending, and so by word number too
 pub record Plain (m : LineMap) : Type 0 where
   pub short : (D : LineType) → In D m.types → Short D.name
-  pub ascend : Sorted (λ (P Q : LineType). name_before P.name Q.name ≡ true) m.types
+  pub ascend : Sorted (λ (P Q : LineType). name_before m.words P.name Q.name ≡ true) m.types
+  pub numbered : Sorted (λ (P Q : LineType). list_before P.name Q.name ≡ true) m.types
 
 -- every class is declared
 abbrev pub Known : LineMap → List Resource → Type 0
@@ -190,21 +192,21 @@ module _ (m : LineMap) (plain : Plain m) (us : List Resource) where
 
     split-sorted : (r : ℕ) → Sorted Later (alone r ++ paired r)
     split-sorted r =
-        let N : LineType → LineType → Type 0 = λ P Q. name_before P.name Q.name ≡ true in
+        let N : LineType → LineType → Type 0 = λ P Q. list_before P.name Q.name ≡ true in
         sorted-append Later (alone r) (paired r)
         (sorted-imp (alone r)
         (λ D E i j b.
         let x = alone_of r i in
         let y = alone_of r j in
         let e = alone-once D.name E.name x.2 y.2 (same_word r D E x.1 y.1) in
-        never b (rw e (name-strict.irreflexive E.name)))
-        (sorted_filter N (λ D. classes r D && one_word D.name) m.types plain.ascend))
+        never b (rw e (list-strict.irreflexive E.name)))
+        (sorted_filter N (λ D. classes r D && one_word D.name) m.types plain.numbered))
         (sorted-imp (paired r)
         (λ D E i j b.
         let x = paired-of r i in
         let y = paired-of r j in
         paired-before D.name E.name (plain.short D x.0) (plain.short E y.0) x.2 y.2 (same_word r D E x.1 y.1) b)
-        (sorted_filter N (λ D. classes r D && not (one_word D.name)) m.types plain.ascend))
+        (sorted_filter N (λ D. classes r D && not (one_word D.name)) m.types plain.numbered))
         (λ D E i j. let y = paired-of r j in alone-before D.name E.name (plain.short E y.0) (alone_of r i).2 y.2)
 
     -- in class order: the doms that the resources give r are those of the members, in their order

@@ -16,7 +16,7 @@ use Rattle.lists.specs.Places.{get_d-in}
 use Rattle.definitions.specs.Map.{LineType, LineMap}
 use Rattle.rows.specs.Rows.{has_bit}
 use Rattle.rows.specs.RowLaws.{bit-either, bit-none}
-use Rattle.ordering.specs.Lists.{tab-get_d, below, below-same, filter-below, map_below}
+use Rattle.order_form.specs.Lists.{tab-get_d, below, below-same, filter-below, map_below}
 pub use Rattle.bitsets.specs.BitLaws.{bit-both, some-bit}
 use Rattle.law_classes.specs.Sets.{Set, both, some, one_word, no_type, type_at, SetIs, classes_in}
 

@@ -7,7 +7,7 @@ use Rattle.definitions.specs.Comparisons.{same_name, dotted}
 use Rattle.definitions.specs.Map.{LineType, LineMap}
 use Rattle.definitions.specs.Making.{extension_parents, extension_line}
 use Rattle.definitions.specs.Items.{owned, given, parents_of, ancestors}
-use Rattle.ordering.specs.Lists.{below}
+use Rattle.order_form.specs.Lists.{below}
 use Rattle.rows.specs.Rows.{has_bit}
 
 abbrev pub Set : Type 0

@@ -13,7 +13,7 @@ use Rattle.lists.specs.Appending.{map-append}
 use Rattle.lists.specs.Places.{get_d-in}
 use Rattle.rows.specs.Rows.{has_bit}
 use Rattle.rows.specs.RowLaws.{bit-either}
-use Rattle.ordering.specs.Lists.{below, below-same, filter-below}
+use Rattle.order_form.specs.Lists.{below, below-same, filter-below}
 use Rattle.bitsets.specs.Bitsets.{members, less}
 use Rattle.bitsets.specs.BitLaws.{bit-both, bit-less, members-of, in_members, members-below}
 use Rattle.definitions.specs.Map.{LineType, LineMap}

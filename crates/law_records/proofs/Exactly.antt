@@ -16,12 +16,12 @@ use Rattle.definitions.specs.ScheduleFields.{Form, packed, recorded, schedule_fi
 use Rattle.definitions.specs.Conversion.{Converted, turned_away, bad_width, concluded, convert}
 use Rattle.definitions.specs.Values.{record_bytes, records_of, schedule_values}
 use Rattle.bits.specs.NumberLaws.{to_bits-split, to_bits-low, bits_of-pack}
-use Rattle.reading_laws.specs.Statements.{Bytes}
-use Rattle.reading_laws.specs.Parsers.{done-only}
-use Rattle.reading_laws.specs.Packed.{length-pack, pack-bytes, fill, packed-only}
-use Rattle.reading_laws.specs.Rules.{none-set, fill-exactly}
-use Rattle.reading_laws.proofs.RoundTrip.{fill-good}
-use Rattle.schedule_laws.proofs.OneToOne.{schedule-fields, bytes-determine}
+use Rattle.law_reading.specs.Statements.{Bytes}
+use Rattle.law_reading.specs.Parsers.{done-only}
+use Rattle.law_reading.specs.Packed.{length-pack, pack-bytes, fill, packed-only}
+use Rattle.law_reading.specs.Rules.{none-set, fill-exactly}
+use Rattle.law_reading.proofs.RoundTrip.{fill-good}
+use Rattle.law_schedule.proofs.OneToOne.{schedule-fields, bytes-determine}
 use Rattle.law_records.specs.Statements.{schedule_bytes, gives, bits_in, CanRead, CanWrite, ReadsExactly, ReadsRecords, ReadsOne, WritesExactly, WritesSchedule, WritesOne}
 use Rattle.law_records.specs.Walks.{Wide, fields-codes, packed-wide, recorded-wide, recorded-bits, allowed-below}
 use Rattle.law_records.specs.Grammar.{schedule-sound, legal-allowed, allowed-legal, legal-packs}

@@ -8,8 +8,8 @@ use Rattle.definitions.specs.Values.{records_of}
 use Rattle.definitions.specs.ScheduleFields.{times, packed, recorded, unwritten, schedule_fields}
 use Rattle.definitions.specs.Conversion.{convert, read_schedule, write_schedule}
 use Rattle.definitions.specs.Cases.{hex, lent}
-use Rattle.reading_laws.specs.Statements.{Bytes}
-use Rattle.schedule_laws.specs.Examples.{everything, everything-legal, at-limits-legal}
+use Rattle.law_reading.specs.Statements.{Bytes}
+use Rattle.law_schedule.specs.Examples.{everything, everything-legal, at-limits-legal}
 use Rattle.law_records.specs.Statements.{schedule_bytes, gives, CanRead, CanWrite, room_ends, bits_end, bad_value, later, Untouched, bytes_given, ReadBack}
 use Rattle.law_records.proofs.Exactly.{recorded-are-bytes, reads-records, writes-schedule, reads-exactly, writes-exactly, reads-one, writes_one}
 use Rattle.law_records.proofs.Refused.{refusals-touch-nothing, width-first, no-room-for-records, no-room-for-schedule, cut-schedule-is-11, cut-records-are-11, more-bytes-are-12, more-records-are-12, order-only-is-11, sixteen-times, room-always-suffices}

@@ -14,7 +14,7 @@ use Rattle.definitions.specs.Conversion.{schedule_fault, bad_width, concluded, c
 use Rattle.definitions.specs.Values.{schedule_values}
 use Rattle.bits.specs.NumberLaws.{num-lt, to_bits-num, pad-take, pad-fill}
 use Rattle.bits.specs.ReadLaws.{is_done}
-use Rattle.reading_laws.specs.Parsers.{field_codes, done-only, cut_short}
+use Rattle.law_reading.specs.Parsers.{field_codes, done-only, cut_short}
 use Rattle.law_records.specs.Statements.{FirstFault, room_ends, bits_end, bad_value, later, FaultIn, BadBehind, Numbers, ReadsNumbers, WritesNumbers, WalksNumbers}
 use Rattle.law_records.specs.Walks.{Wide, fields-codes, packed-wide, recorded-wide}
 use Rattle.law_records.specs.Grammar.{schedule-sound, legal-allowed, allowed-legal}

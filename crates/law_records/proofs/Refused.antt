@@ -20,7 +20,7 @@ use Rattle.definitions.specs.ScheduleFields.{Form, packed, recorded, unwritten, 
 use Rattle.definitions.specs.Conversion.{Converted, turned_away, bad_width, concluded, convert, read_schedule, write_schedule}
 use Rattle.definitions.specs.Values.{schedule_values, records_of}
 use Rattle.bits.specs.NumberLaws.{length-to_bits, length-bits_of, bits_of-append, bits_of-pack}
-use Rattle.reading_laws.specs.Packed.{length-pack, fill}
+use Rattle.law_reading.specs.Packed.{length-pack, fill}
 use Rattle.law_records.specs.Statements.{schedule_bytes, gives, bits_in, ThreeNumbers, RefusalsTouchNothing, WidthFirst, NoRoomForRecords, NoRoomForSchedule, CutScheduleIs11, CutRecordsAre11, MoreBytesAre12, MoreRecordsAre12, OrderOnlyIs11, SixteenTimes, RoomAlwaysSuffices}
 use Rattle.law_records.specs.Walks.{Wide, fields-codes, too_short, packed-wide, recorded-wide, values-few, room-enough}
 use Rattle.law_records.specs.Grammar.{schedule-sound, legal-allowed, legal-packs}

@@ -4,7 +4,7 @@ use Rattle.std.proofs.Common.{sym, ap, ◌∙◌, subst}
 use Rattle.std.proofs.Math.Seq
 use Rattle.definitions.specs.Conversion.{read_schedule, write_schedule}
 use Rattle.definitions.specs.Values.{records_of}
-use Rattle.schedule_laws.proofs.Listed.{listed-exactly}
+use Rattle.law_schedule.proofs.Listed.{listed-exactly}
 use Rattle.law_records.specs.Statements.{schedule_bytes, gives, bytes_given, WriteAfterRead, ReadAfterWrite, OursIsRead}
 use Rattle.law_records.proofs.Exactly.{reads-records, writes-schedule, reads-exactly, writes-exactly}
 

@@ -11,10 +11,10 @@ use Rattle.definitions.specs.Values.{name_values, parent_values, mark_values, it
 use Rattle.definitions.specs.ScheduleFields.{times, packed, recorded, schedule_fields, write_fields}
 use Rattle.definitions.specs.Answer.{schedule, Input, standard, outcome}
 use Rattle.definitions.specs.Cases.{hex, lent, run}
-use Rattle.reading_laws.specs.Statements.{Bytes}
-use Rattle.reading_laws.specs.Packed.{pack-bytes}
-use Rattle.reading_laws.specs.Examples.{worked_bytes}
-use Rattle.schedule_laws.specs.Examples.{everything, everything-legal, sized, worked_schedule}
+use Rattle.law_reading.specs.Statements.{Bytes}
+use Rattle.law_reading.specs.Packed.{pack-bytes}
+use Rattle.law_reading.specs.Examples.{worked_bytes}
+use Rattle.law_schedule.specs.Examples.{everything, everything-legal, sized, worked_schedule}
 use Rattle.law_records.specs.Statements.{schedule_bytes, CanRead, CanWrite, BadBehind}
 
 -- ---- every construct

@@ -13,9 +13,9 @@ use Rattle.definitions.specs.Answer.{schedule, Input, overwrite, schedule_of, ou
 use Rattle.definitions.specs.ScheduleFields.{Fields, field, Form, packed, recorded, unwritten, schedule_fields, write_fields}
 use Rattle.definitions.specs.Conversion.{Converted, convert, read_schedule, write_schedule}
 use Rattle.definitions.specs.Values.{schedule_values, records_of}
-use Rattle.synthesis_laws.specs.Statements.{ListsLines}
-use Rattle.reading_laws.specs.Statements.{Bytes}
-use Rattle.schedule_laws.specs.Statements.{bytes_written, NamesInOrder}
+use Rattle.law_synthesis.specs.Statements.{ListsLines}
+use Rattle.law_reading.specs.Statements.{Bytes}
+use Rattle.law_schedule.specs.Statements.{bytes_written, NamesInOrder}
 
 -- the bytes that a schedule is packed into (FORMAT 6.4)
 abbrev pub schedule_bytes : Schedule → List ℕ

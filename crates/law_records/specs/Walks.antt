@@ -18,7 +18,7 @@ use Rattle.definitions.specs.Parse.{past, Parsed, done, refused, Parser, next, �
 use Rattle.definitions.specs.Legal.{Every}
 use Rattle.definitions.specs.ScheduleFields.{Fields, end, field, Form, packed, recorded, unwritten, read_fields, write_fields}
 use Rattle.bits.specs.NumberLaws.{length-to_bits}
-use Rattle.reading_laws.specs.Parsers.{Reads, Only, Exact, Codes, reads-pure, only-pure, between-codes, reads-next, reads-last, only_next, only-last, done-only, cut_short}
+use Rattle.law_reading.specs.Parsers.{Reads, Only, Exact, Codes, reads-pure, only-pure, between-codes, reads-next, reads-last, only_next, only-last, done-only, cut_short}
 
 -- values that the fields allow, one for each
 unfoldable pub Allowed : Fields → List ℕ → Type 0

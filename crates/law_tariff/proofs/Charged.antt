@@ -11,8 +11,8 @@ use Rattle.definitions.specs.ScheduleFields.{packed, unwritten, schedule_fields,
 use Rattle.definitions.specs.Conversion.{bad_width, concluded, convert}
 use Rattle.definitions.specs.Values.{schedule_values}
 use Rattle.bits.specs.NumberLaws.{bits_of-pack}
-use Rattle.reading_laws.specs.Packed.{fill}
-use Rattle.reading_laws.proofs.RoundTrip.{fill-good}
+use Rattle.law_reading.specs.Packed.{fill}
+use Rattle.law_reading.proofs.RoundTrip.{fill-good}
 use Rattle.law_records.specs.Statements.{schedule_bytes}
 use Rattle.law_records.specs.Walks.{fields-codes, packed-wide, unwritten-bits}
 use Rattle.law_records.specs.Grammar.{schedule-sound, legal-allowed}

@@ -6,9 +6,9 @@ use Rattle.std.proofs.lemmas.List.{length-replicate}
 use Rattle.definitions.specs.Map.{type_map_of}
 use Rattle.definitions.specs.Answer.{schedule, schedule_of}
 use Rattle.definitions.specs.Cases.{hex}
-use Rattle.schedule_laws.specs.Statements.{bytes_written}
-use Rattle.schedule_laws.specs.Examples.{everything, everything-legal, sized, at-limits-legal}
-use Rattle.relisting_laws.proofs.Examples.{asked, listed, relisted, both}
+use Rattle.law_schedule.specs.Statements.{bytes_written}
+use Rattle.law_schedule.specs.Examples.{everything, everything-legal, sized, at-limits-legal}
+use Rattle.law_relisting.proofs.Examples.{asked, listed, relisted, both}
 use Rattle.law_records.specs.Statements.{schedule_bytes}
 use Rattle.tariff_definitions.specs.Tariff.{TariffRow, rows_of, total_of, Charged, charged}
 use Rattle.law_tariff.specs.Statements.{numbers_of, LegalTariff, accepts, IsCharged}

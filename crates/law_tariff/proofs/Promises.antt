@@ -15,9 +15,9 @@ use Rattle.definitions.specs.Parse.{Parsed, done, refused}
 use Rattle.definitions.specs.Map.{type_map_of}
 use Rattle.definitions.specs.Lines.{LineOf}
 use Rattle.definitions.specs.Answer.{schedule, schedule_of}
-use Rattle.reading_laws.specs.Parsers.{done-value}
-use Rattle.schedule_laws.proofs.Listed.{listed-exactly}
-use Rattle.relisting_laws.proofs.Alike.{answers-alike}
+use Rattle.law_reading.specs.Parsers.{done-value}
+use Rattle.law_schedule.proofs.Listed.{listed-exactly}
+use Rattle.law_relisting.proofs.Alike.{answers-alike}
 use Rattle.tariff_definitions.specs.Decoded.{schedule_from}
 use Rattle.tariff_definitions.specs.Tariff.{TariffRow, rows_of, allowed_row, same_key, tariff_number, charges, sum, charge, total_of, charged_for, values_in, charged}
 use Rattle.law_tariff.specs.Statements.{SameKey, numbers_of, AnyRowOrder, FromTheSheet, RelistedTotals}

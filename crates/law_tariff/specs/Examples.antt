@@ -9,11 +9,11 @@ use Rattle.definitions.specs.Map.{type_map_of}
 use Rattle.definitions.specs.Answer.{schedule, Input, standard, schedule_of, outcome}
 use Rattle.definitions.specs.Cases.{hex, lent, run}
 use Rattle.definitions.specs.ScheduleFields.{times, name_fields, parent_fields, mark_fields, marks_fields, made_fields, line_fields, item_fields, schedule_fields, read_fields}
-use Rattle.reading_laws.specs.Examples.{worked_bytes}
-use Rattle.synthesis_laws.specs.Statements.{MakesLines}
-use Rattle.schedule_laws.specs.Statements.{Listed}
-use Rattle.schedule_laws.proofs.Listed.{listed-exactly}
-use Rattle.relisting_laws.proofs.Examples.{asked, listed}
+use Rattle.law_reading.specs.Examples.{worked_bytes}
+use Rattle.law_synthesis.specs.Statements.{MakesLines}
+use Rattle.law_schedule.specs.Statements.{Listed}
+use Rattle.law_schedule.proofs.Listed.{listed-exactly}
+use Rattle.law_relisting.proofs.Examples.{asked, listed}
 use Rattle.tariff_definitions.specs.Decoded.{many, name, mark, made, line, item, schedule as taken_schedule}
 use Rattle.tariff_definitions.specs.Tariff.{TariffRow, rows_of, allowed_row, tariff_number, sum, charge, total_of, turned_away, values_in, charged}
 

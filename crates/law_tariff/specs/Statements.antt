@@ -10,9 +10,9 @@ use Rattle.definitions.specs.Relisted.{Holds, RelistedInputs}
 use Rattle.definitions.specs.Answer.{schedule, Input, outcome}
 use Rattle.definitions.specs.ScheduleFields.{packed, unwritten}
 use Rattle.definitions.specs.Conversion.{convert}
-use Rattle.synthesis_laws.specs.Statements.{MakesLines}
-use Rattle.reading_laws.specs.Statements.{Bytes}
-use Rattle.schedule_laws.specs.Statements.{bytes_written}
+use Rattle.law_synthesis.specs.Statements.{MakesLines}
+use Rattle.law_reading.specs.Statements.{Bytes}
+use Rattle.law_schedule.specs.Statements.{bytes_written}
 use Rattle.law_records.specs.Statements.{schedule_bytes}
 use Rattle.tariff_definitions.specs.Tariff.{TariffRow, rows_of, tariff_number, total_of, Charged, charged}
 

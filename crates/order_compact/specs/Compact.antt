@@ -1,10 +1,10 @@
 -- What the steps that fill the compact form leave in it, out of a draft.
 use Rattle.std.specs.Prelude.{List, ◌≡◌, ℕ, ◌≤◌, ◌<◌, get_or}
 use Rattle.bitsets.specs.Bitsets.{Lowest}
-use Rattle.ordering.specs.Reading as reading
-use Rattle.ordering.specs.Reading.{no_name, how_many}
-use Rattle.ordering.specs.declared.Parent.{Parent}
-use Rattle.ordering.specs.declared.Parents.{Parents}
+use Rattle.order_form.specs.Reading as reading
+use Rattle.order_form.specs.Reading.{no_name, how_many}
+use Rattle.order_form.specs.declared.Parent.{Parent}
+use Rattle.order_form.specs.declared.Parents.{Parents}
 use Rattle.fields.specs.Keys.{name_with}
 use Rattle.sheet_draft.specs.Draft.{key_at, parent_count_at, parent_at}
 use Rattle.sheet_draft.specs.declared.Draft.{Draft}

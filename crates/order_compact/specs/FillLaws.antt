@@ -3,9 +3,9 @@ use Rattle.std.specs.Prelude.{List, [], ◌≡◌, ℕ, ◌+◌, ◌<◌, eqb, l
 use Rattle.std.proofs.Common.{refl, ap, ◌∙◌, arith, eqb-true, get_or-set_same, get_or-set_other}
 use Rattle.std.proofs.lemmas.Bool.{eqb-false}
 use Rattle.lists.specs.Tests.{by}
-use Rattle.ordering.specs.Reading.{no_name, no_parent}
-use Rattle.ordering.specs.declared.Parent.{Parent}
-use Rattle.ordering.specs.declared.Parents.{Parents}
+use Rattle.order_form.specs.Reading.{no_name, no_parent}
+use Rattle.order_form.specs.declared.Parent.{Parent}
+use Rattle.order_form.specs.declared.Parents.{Parents}
 use Rattle.fields.specs.Keys.{name_with}
 use Rattle.order_table.specs.Keys.{parent_of}
 use Rattle.sheet_draft.specs.Draft.{key_at, parent_count_at, parent_at}

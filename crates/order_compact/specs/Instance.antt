@@ -1,7 +1,7 @@
 -- What the compact form asks is no empty demand.
 use Rattle.std.specs.Prelude.{◌≡◌, refl, ◌<◌}
 use Rattle.std.proofs.Common.{arith}
-use Rattle.ordering.specs.Reading.{type_at}
+use Rattle.order_form.specs.Reading.{type_at}
 use Rattle.sheet_keys.specs.Keys.{name_of_key}
 use Rattle.sheet_draft.specs.Draft.{key_at}
 use Rattle.order_parents.specs.Parents.{row_of}

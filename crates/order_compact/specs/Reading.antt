@@ -1,9 +1,9 @@
 -- The compact form reads the map of the draft.
 use Rattle.std.specs.Prelude.{List, ◌≡◌, ℕ, ◌*◌, ◌<◌}
 use Rattle.definitions.specs.Map.{TypeMap}
-use Rattle.ordering.specs.Reading.{type_at, Reads}
-use Rattle.ordering.specs.Compact.{Within}
-use Rattle.ordering.specs.declared.Parents.{Parents}
+use Rattle.order_form.specs.Reading.{type_at, Reads}
+use Rattle.order_form.specs.Compact.{Within}
+use Rattle.order_form.specs.declared.Parents.{Parents}
 use Rattle.sheet_keys.specs.Keys.{name_of_key}
 use Rattle.sheet_draft.specs.Draft.{key_at}
 use Rattle.catalogue.specs.declared.Catalogue.{Catalogue}

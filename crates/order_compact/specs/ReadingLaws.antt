@@ -10,11 +10,11 @@ use Rattle.rows.specs.RowLaws.{bit-none}
 use Rattle.definitions.specs.Records.{TypeInfo}
 use Rattle.definitions.specs.Comparisons.{same_name}
 use Rattle.definitions.specs.Map.{TypeMap}
-use Rattle.ordering.specs.Lists.{tab, tab-same, map-tab}
-use Rattle.ordering.specs.Reading.{no_name, listed, no_type, type_at, place_in, first_word, second_word, words_of, parent_in, ReadsType, Reads}
-use Rattle.ordering.specs.declared.Parent.{Parent}
-use Rattle.ordering.specs.Reading as reading
-use Rattle.ordering.specs.declared.Parents.{Parents}
+use Rattle.order_form.specs.Lists.{tab, tab-same, map-tab}
+use Rattle.order_form.specs.Reading.{no_name, listed, no_type, type_at, place_in, first_word, second_word, words_of, parent_in, ReadsType, Reads}
+use Rattle.order_form.specs.declared.Parent.{Parent}
+use Rattle.order_form.specs.Reading as reading
+use Rattle.order_form.specs.declared.Parents.{Parents}
 use Rattle.sheet_keys.specs.Keys.{name_of_key}
 use Rattle.sheet_draft.specs.Draft.{key_at, parent_count_at, parent_at}
 use Rattle.fields.specs.Keys.{first_of, second_of, name_with}

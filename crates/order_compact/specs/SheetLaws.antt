@@ -4,9 +4,9 @@ use Rattle.std.proofs.Math.Path.{ap}
 use Rattle.std.proofs.Common.{subst, arith}
 use Rattle.definitions.specs.Records.{TypeInfo, Sheet}
 use Rattle.definitions.specs.Map.{type_map_of}
-use Rattle.line_laws.specs.Within as line
-use Rattle.ordering.specs.Reading.{type_at}
-use Rattle.ordering.specs.Compact.{Within}
+use Rattle.law_lines.specs.Within as line
+use Rattle.order_form.specs.Reading.{type_at}
+use Rattle.order_form.specs.Compact.{Within}
 use Rattle.sheet_keys.specs.Keys.{name_of_key}
 use Rattle.sheet_draft.specs.Draft.{key_at, type_in}
 use Rattle.sheet_draft.specs.Drafted.{Drafted, Entered}

@@ -9,7 +9,7 @@ ghost use Rattle.order_compact.specs.Compact.{PlaceIs, Drafts, TypePut};
 ghost use Rattle.order_compact.specs.Reading.{Compacts};
 
 use catalogue::Catalogue;
-use ordering::Parents;
+use order_form::Parents;
 use sheet_draft::Draft;
 use sheet_order::ByName;
 

@@ -8,7 +8,7 @@ use Rattle.definitions.specs.Records.{Sheet}
 use Rattle.definitions.specs.Map.{LineType, type_map_of, line_type_of}
 use Rattle.definitions.specs.Order.{organize_type_map}
 use Rattle.definitions.specs.Packing.{order_bits}
-use Rattle.ordering.specs.Reading.{type_at}
+use Rattle.order_form.specs.Reading.{type_at}
 use Rattle.catalogue.specs.Layout.{key_at}
 use Rattle.catalogue.specs.Catalogue.{name_of_key, Listed}
 use Rattle.catalogue.specs.declared.Catalogue.{Catalogue}

@@ -6,8 +6,8 @@ use Rattle.rows.specs.RowLaws.{bit-one, bit-none}
 use Rattle.definitions.specs.Records.{Name, domain, TypeInfo}
 use Rattle.definitions.specs.Comparisons.{same_name, elem_name}
 use Rattle.definitions.specs.Map.{TypeMap}
-use Rattle.ordering.specs.Lists.{tab}
-use Rattle.ordering.specs.Reading.{type_at}
+use Rattle.order_form.specs.Lists.{tab}
+use Rattle.order_form.specs.Reading.{type_at}
 use Rattle.catalogue.specs.Layout.{parents_at, looked, blank}
 use Rattle.catalogue.specs.declared.Catalogue.{Catalogue}
 use Rattle.sheet_draft.specs.declared.Draft.{Draft}
@@ -22,7 +22,7 @@ abbrev typed : ℕ → List Name → TypeInfo
 typed w ps = record { name = w ∷ []; variant = domain; virtual = false; trait = false; parents = ps; annotations = []; marks = [] }
 
 abbrev pub pair : TypeMap
-pair = record { resource = 0; self = 1; types = typed 2 [] ∷ typed 3 ((2 ∷ []) ∷ []) ∷ []; extensions = [] }
+pair = record { words = []; resource = 0; self = 1; types = typed 2 [] ∷ typed 3 ((2 ∷ []) ∷ []) ∷ []; extensions = [] }
 
 -- row 0 is `b`, with one parent, row 1 is `a`
 abbrev pub draft : Draft

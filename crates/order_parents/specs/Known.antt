@@ -6,8 +6,8 @@ use Rattle.definitions.specs.Records.{Name, TypeInfo}
 use Rattle.definitions.specs.Comparisons.{same_name, elem_name}
 use Rattle.definitions.specs.Map.{TypeMap}
 use Rattle.definitions.specs.Order.{is_self}
-use Rattle.ordering.specs.Lists.{tab}
-use Rattle.ordering.specs.Reading.{type_at}
+use Rattle.order_form.specs.Lists.{tab}
+use Rattle.order_form.specs.Reading.{type_at}
 use Rattle.sheet_keys.specs.Keys.{name_of_key}
 use Rattle.sheet_draft.specs.Draft.{parent_count_at, parent_at}
 use Rattle.catalogue.specs.Layout.{parents_at, looked}

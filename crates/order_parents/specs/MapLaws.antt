@@ -15,8 +15,8 @@ use Rattle.definitions.specs.Records.{TypeInfo}
 use Rattle.definitions.specs.Comparisons.{same_name, elem_name}
 use Rattle.definitions.specs.Map.{TypeMap}
 use Rattle.definitions.specs.Order.{is_self}
-use Rattle.ordering.specs.Lists.{tab, tab-get_d, any-tab-same, same-list-sym}
-use Rattle.ordering.specs.Reading.{no_type, type_at}
+use Rattle.order_form.specs.Lists.{tab, tab-get_d, any-tab-same, same-list-sym}
+use Rattle.order_form.specs.Reading.{no_type, type_at}
 use Rattle.law_classes.specs.Numbers.{place-of}
 use Rattle.sheet_keys.specs.Keys.{name_of_key}
 use Rattle.sheet_draft.specs.Draft.{parent_count_at, parent_at}

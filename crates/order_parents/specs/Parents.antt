@@ -2,7 +2,7 @@
 use Rattle.std.specs.Prelude.{Bool, ◌&&◌, not, List, ◌≡◌, ℕ, ◌^◌, ◌≤◌, ◌<◌, eqb, get_or}
 use Rattle.lists.specs.Lists.{any, all}
 use Rattle.rows.specs.Rows.{has_bit}
-use Rattle.ordering.specs.Lists.{tab}
+use Rattle.order_form.specs.Lists.{tab}
 use Rattle.sheet_draft.specs.Draft.{parent_count_at, parent_at}
 use Rattle.sheet_draft.specs.Drafted.{no_entry}
 use Rattle.catalogue.specs.Layout.{parents_at, looked}

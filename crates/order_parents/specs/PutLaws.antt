@@ -9,7 +9,7 @@ use Rattle.lists.specs.Lists.{any, all}
 use Rattle.lists.specs.Tests.{by}
 use Rattle.rows.specs.Rows.{has_bit}
 use Rattle.rows.specs.RowLaws.{bit-either, bit-none}
-use Rattle.ordering.specs.Lists.{tab, any-tab-step, all-tab-step}
+use Rattle.order_form.specs.Lists.{tab, any-tab-step, all-tab-step}
 use Rattle.sheet_draft.specs.Draft.{parent_count_at, parent_at}
 use Rattle.catalogue.specs.Layout.{looked}
 use Rattle.catalogue.specs.declared.Catalogue.{Catalogue}

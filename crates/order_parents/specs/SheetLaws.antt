@@ -19,10 +19,10 @@ use Rattle.bitsets.specs.BitLaws.{bit-both}
 use Rattle.definitions.specs.Records.{Name, TypeInfo, Sheet}
 use Rattle.definitions.specs.Comparisons.{same_name, name_before}
 use Rattle.definitions.specs.Map.{LineType, type_map_of, line_type_of, line_map_of}
-use Rattle.line_laws.specs.Statements.{line_map}
-use Rattle.line_laws.specs.Within.{NameWithin, TypeWithin, Within}
-use Rattle.ordering.specs.Lists.{tab, get_d_any}
-use Rattle.ordering.specs.Reading.{no_type, type_at}
+use Rattle.law_lines.specs.Statements.{line_map}
+use Rattle.law_lines.specs.Within.{NameWithin, TypeWithin, Within}
+use Rattle.order_form.specs.Lists.{tab, get_d_any}
+use Rattle.order_form.specs.Reading.{no_type, type_at}
 use Rattle.law_classes.specs.Sets as lines
 use Rattle.law_classes.specs.Sets.{some, one_word, SetIs}
 use Rattle.law_classes.specs.Numbers.{Fits}
@@ -41,7 +41,7 @@ use Rattle.order_parents.specs.Known.{Looks, Rows, ParentSets, Childed}
 -- the types of the draft by name, by the entries
 abbrev pub ByName : Sheet → List Bool → Draft → List Entry → ℕ → Type 0
 ByName s bs d entries n =
-    map (λ e. type_in (length s.words) bs d e.row) (take n entries) ≡ sort (λ (T U : TypeInfo). name_before T.name U.name) (types_in (length s.words) bs d n)
+    map (λ e. type_in (length s.words) bs d e.row) (take n entries) ≡ sort (λ (T U : TypeInfo). name_before s.words T.name U.name) (types_in (length s.words) bs d n)
 
 tabulate-tab : {A : Type 0} (f : ℕ → A) (n : ℕ) → tabulate f n ≡ tab f n
 unfolding tabulate
@@ -85,7 +85,7 @@ module _ (s : Sheet) where
 
   pub type-within : Within s → (a : ℕ) → a < length (type_map_of s).types → TypeWithin (length s.words) (type_at (type_map_of s) a)
   unfolding type_map_of
-  type-within w a h = w.type _ ((sort-is (λ (T U : TypeInfo). name_before T.name U.name) s.types _).0 (get_d-in (type_map_of s).types no_type a h))
+  type-within w a h = w.type _ ((sort-is (λ (T U : TypeInfo). name_before s.words T.name U.name) s.types _).0 (get_d-in (type_map_of s).types no_type a h))
 
 -- ---- keys within the words of the sheet
 
@@ -151,7 +151,7 @@ module _ (s : Sheet) (bs : List Bool) (d : Draft) (entries : List Entry) (n : �
 
   types_are : (type_map_of s).types ≡ map row_type (take n entries)
   unfolding type_map_of
-  types_are = sym (o ∙ ap (sort (λ (T U : TypeInfo). name_before T.name U.name)) r.types)
+  types_are = sym (o ∙ ap (sort (λ (T U : TypeInfo). name_before s.words T.name U.name)) r.types)
 
   pub rows-count : length (type_map_of s).types ≡ n
   rows-count = ap length types_are ∙ length-map (take n entries) row_type ∙ length-take-le n entries (omega (arith, r.few, en.long))

@@ -5,7 +5,7 @@ use Rattle.std.specs.Bool.{MatchBool}
 use Rattle.std.specs.List.{range_with_len, AllWithin, HoldsAt}
 use Rattle.std.proofs.lemmas.List.FromFn.{length-range_with_len, get_or-range_with_len}
 use Rattle.lists.specs.Lists.{any, all, place_of}
-use Rattle.ordering.specs.Lists.{tab, any_none, all-tab-of, any-tab-at, all-tab-fails, place_of-tab-at, place_of-tab-none}
+use Rattle.order_form.specs.Lists.{tab, any_none, all-tab-of, any-tab-at, all-tab-fails, place_of-tab-at, place_of-tab-none}
 
 -- the number at place k
 at-k : (n k : ℕ) (P : ℕ → Type 0) → k < n → HoldsAt P (range_with_len 0 n) k → P k

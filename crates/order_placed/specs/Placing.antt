@@ -2,11 +2,11 @@
 use Rattle.std.specs.Prelude.{Bool, true, false, ◌&&◌, not, ◌⊎◌, ◌≡◌, ℕ, ◌<◌, ltb, length}
 use Rattle.lists.specs.Lists.{any, all}
 use Rattle.rows.specs.Rows.{has_bit}
-use Rattle.ordering.specs.Lists.{elem, below}
-use Rattle.ordering.specs.Reading.{listed, self_in}
-use Rattle.ordering.specs.declared.Parent.{Parent}
-use Rattle.ordering.specs.Rounds.{placed, final}
-use Rattle.ordering.specs.declared.Parents.{Parents}
+use Rattle.order_form.specs.Lists.{elem, below}
+use Rattle.order_form.specs.Reading.{listed, self_in}
+use Rattle.order_form.specs.declared.Parent.{Parent}
+use Rattle.order_form.specs.Rounds.{placed, final}
+use Rattle.order_form.specs.declared.Parents.{Parents}
 
 -- A parent that is a type of the set.
 unfoldable pub settled_in : Parents → ℕ → Parent → Bool

@@ -13,11 +13,11 @@ use Rattle.rows.specs.Rows.{has_bit}
 use Rattle.rows.specs.RowLaws.{bit-none}
 use Rattle.bitsets.specs.Bitsets.{more}
 use Rattle.bitsets.specs.BitLaws.{bit-more}
-use Rattle.ordering.specs.Lists.{all-imp, tab, all-tab-in, all-tab-of, any-tab-out, elem, only, below, below_in, below_one, below_split, below-same}
-use Rattle.ordering.specs.Reading.{parent_at, how_many, listed, self_in}
-use Rattle.ordering.specs.declared.Parent.{Parent}
-use Rattle.ordering.specs.Rounds.{settled, is_ready, free, next, round, placed, final, stays, was, earlier, final-rests}
-use Rattle.ordering.specs.declared.Parents.{Parents}
+use Rattle.order_form.specs.Lists.{all-imp, tab, all-tab-in, all-tab-of, any-tab-out, elem, only, below, below_in, below_one, below_split, below-same}
+use Rattle.order_form.specs.Reading.{parent_at, how_many, listed, self_in}
+use Rattle.order_form.specs.declared.Parent.{Parent}
+use Rattle.order_form.specs.Rounds.{settled, is_ready, free, next, round, placed, final, stays, was, earlier, final-rests}
+use Rattle.order_form.specs.declared.Parents.{Parents}
 use Rattle.order_placed.specs.Placing.{settled_in, free_in, off, Plain, Sound, Closed, Joined, Passed, PlacedAll}
 
 -- ---- a set with a type more

@@ -4,11 +4,11 @@
 
 ghost use Rattle.std.specs.Prelude.{◌≡◌, not, ◌<◌};
 ghost use Rattle.lists.specs.Lists.{any, all, null};
-ghost use Rattle.ordering.specs.Reading.{listed, self_in};
-ghost use Rattle.ordering.specs.Rounds.{placed, lists_self};
+ghost use Rattle.order_form.specs.Reading.{listed, self_in};
+ghost use Rattle.order_form.specs.Rounds.{placed, lists_self};
 ghost use Rattle.order_placed.specs.Placing.{free_in, Passed, PlacedAll};
 
-use ordering::Parents;
+use order_form::Parents;
 
 // Whether type t lists a parent as `self`.
 fn lists_self(l: &Parents, t: usize) -> bool

@@ -1,7 +1,7 @@
 -- What the order asks follows from what was put of the parents.
 use Rattle.std.specs.Prelude.{List, ◌≡◌, ℕ, ◌<◌, length}
 use Rattle.definitions.specs.Map.{TypeMap}
-use Rattle.ordering.specs.Compact.{Within}
+use Rattle.order_form.specs.Compact.{Within}
 use Rattle.catalogue.specs.Layout.{parents_at}
 use Rattle.catalogue.specs.declared.Catalogue.{Catalogue}
 use Rattle.sheet_draft.specs.declared.Draft.{Draft}

@@ -3,8 +3,8 @@ use Rattle.std.specs.Prelude.{true, ◌≡◌, refl, ◌≤◌, length}
 use Rattle.std.proofs.Common.{arith}
 use Rattle.lists.specs.Lists.{all}
 use Rattle.definitions.specs.Order.{is_self}
-use Rattle.ordering.specs.Reading.{type_at, is_name}
-use Rattle.ordering.specs.Compact.{Within}
+use Rattle.order_form.specs.Reading.{type_at, is_name}
+use Rattle.order_form.specs.Compact.{Within}
 use Rattle.order_parents.specs.Known.{known, all_known}
 use Rattle.order_parents.specs.Instance.{pair, sets, pair-sets, below_two}
 use Rattle.order_rounds.specs.Organized.{Asked}

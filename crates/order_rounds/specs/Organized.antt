@@ -2,9 +2,9 @@
 use Rattle.std.specs.Prelude.{Bool, true, map, ◌≡◌, ℕ, ◌<◌, length, get_or, take}
 use Rattle.definitions.specs.Map.{TypeMap}
 use Rattle.definitions.specs.Order.{has_order, organize_type_map}
-use Rattle.ordering.specs.Lists.{elem}
-use Rattle.ordering.specs.Reading.{type_at}
-use Rattle.ordering.specs.Compact.{Within}
+use Rattle.order_form.specs.Lists.{elem}
+use Rattle.order_form.specs.Reading.{type_at}
+use Rattle.order_form.specs.Compact.{Within}
 use Rattle.item_spread.specs.Spread.{Ordered}
 use Rattle.catalogue.specs.declared.Catalogue.{Catalogue}
 use Rattle.order_parents.specs.Known.{all_known, ParentSets}

@@ -14,14 +14,14 @@ use Rattle.definitions.specs.Records.{Name, TypeInfo}
 use Rattle.definitions.specs.Comparisons.{same_name}
 use Rattle.definitions.specs.Map.{TypeMap}
 use Rattle.definitions.specs.Order.{is_self, inherits_self, has_order, organize_type_map}
-use Rattle.ordering.specs.Lists.{elem, same-list-sym}
-use Rattle.ordering.specs.Reading.{listed, no_type, type_at, place_in, parent_in, Reads}
-use Rattle.ordering.specs.declared.Parent.{Parent}
-use Rattle.ordering.specs.Compact.{compact_of, Within, compact-reads}
-use Rattle.ordering.specs.Names.{place_same, self-lists, order-found, order_is, whole-order, no_self}
-use Rattle.ordering.specs.Rounds.{final, count-full}
-use Rattle.ordering.specs.declared.Parents.{Parents}
-use Rattle.parent_laws.specs.Earlier.{at-below, parent-earlier, all-below}
+use Rattle.order_form.specs.Lists.{elem, same-list-sym}
+use Rattle.order_form.specs.Reading.{listed, no_type, type_at, place_in, parent_in, Reads}
+use Rattle.order_form.specs.declared.Parent.{Parent}
+use Rattle.order_form.specs.Compact.{compact_of, Within, compact-reads}
+use Rattle.order_form.specs.Names.{place_same, self-lists, order-found, order_is, whole-order, no_self}
+use Rattle.order_form.specs.Rounds.{final, count-full}
+use Rattle.order_form.specs.declared.Parents.{Parents}
+use Rattle.law_parents.specs.Earlier.{at-below, parent-earlier, all-below}
 use Rattle.law_classes.specs.Numbers.{place-of}
 use Rattle.item_spread.specs.Spread.{Ordered}
 use Rattle.catalogue.specs.Layout.{parents_at}

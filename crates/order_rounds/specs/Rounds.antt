@@ -4,11 +4,11 @@ use Rattle.lists.specs.Lists.{any, all}
 use Rattle.bounded.specs.Items.{items_of}
 use Rattle.rows.specs.Rows.{has_bit}
 use Rattle.bitsets.specs.Bitsets.{members}
-use Rattle.ordering.specs.Lists.{elem}
-use Rattle.ordering.specs.Reading.{listed}
-use Rattle.ordering.specs.declared.Parent.{Parent}
-use Rattle.ordering.specs.Rounds.{lists_self, final}
-use Rattle.ordering.specs.declared.Parents.{Parents}
+use Rattle.order_form.specs.Lists.{elem}
+use Rattle.order_form.specs.Reading.{listed}
+use Rattle.order_form.specs.declared.Parent.{Parent}
+use Rattle.order_form.specs.Rounds.{lists_self, final}
+use Rattle.order_form.specs.declared.Parents.{Parents}
 use Rattle.catalogue.specs.Layout.{parents_at}
 use Rattle.catalogue.specs.declared.Catalogue.{Catalogue}
 use Rattle.order_rounds.specs.declared.sequence.Order.{Order}

@@ -18,11 +18,11 @@ use Rattle.rows.specs.Rows.{has_bit}
 use Rattle.rows.specs.RowLaws.{bit-none}
 use Rattle.bitsets.specs.Bitsets.{members, less, first_bits}
 use Rattle.bitsets.specs.BitLaws.{bit-both, bit-less, bit-first, bit_past, some-bit, below_of, in-below, in_members, members-of, members-none, members-below}
-use Rattle.ordering.specs.Lists.{elem, elem-left, elem-right, elem-cases, any-tab-out, below, below-is, below-same}
-use Rattle.ordering.specs.Reading.{listed, self_in}
-use Rattle.ordering.specs.declared.Parent.{Parent}
-use Rattle.ordering.specs.Rounds.{settled, is_ready, free, next, round, placed, final, lists_self, count_most, rests, next-is}
-use Rattle.ordering.specs.declared.Parents.{Parents}
+use Rattle.order_form.specs.Lists.{elem, elem-left, elem-right, elem-cases, any-tab-out, below, below-is, below-same}
+use Rattle.order_form.specs.Reading.{listed, self_in}
+use Rattle.order_form.specs.declared.Parent.{Parent}
+use Rattle.order_form.specs.Rounds.{settled, is_ready, free, next, round, placed, final, lists_self, count_most, rests, next-is}
+use Rattle.order_form.specs.declared.Parents.{Parents}
 use Rattle.item_spread.specs.Spread.{United}
 use Rattle.catalogue.specs.Layout.{parents_at}
 use Rattle.catalogue.specs.declared.Catalogue.{Catalogue}

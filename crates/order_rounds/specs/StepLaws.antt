@@ -8,7 +8,7 @@ use Rattle.rows.specs.Rows.{has_bit}
 use Rattle.rows.specs.RowLaws.{bit-none}
 use Rattle.bitsets.specs.Bitsets.{members, more, less, Lowest, Rest}
 use Rattle.bitsets.specs.BitLaws.{bit-more, bit-less, rest-is, in_members, members-of, members-next, members-none}
-use Rattle.ordering.specs.Lists.{elem}
+use Rattle.order_form.specs.Lists.{elem}
 use Rattle.catalogue.specs.Layout.{parents_at}
 use Rattle.catalogue.specs.declared.Catalogue.{Catalogue}
 use Rattle.order_rounds.specs.Rounds.{all_listed_in, AllPlaced, ReadyIn, ChildAdded, Childless, ChildrenPut}

@@ -6,7 +6,7 @@ ghost use Rattle.fields.specs.Keys.{name_with};
 ghost use Rattle.order_table.specs.Keys.{parent_of};
 
 use fields::{Key, Name};
-use ordering::{Parent, Parents};
+use order_form::{Parent, Parents};
 
 // Puts the name of type t.
 pub fn put_name(l: &mut Parents, t: usize, key: Key)

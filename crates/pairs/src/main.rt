@@ -1,16 +1,16 @@
 // Intersection and difference of given pairs of annotations. Each annotation stands on standard input as its kind, its tag,
 // how many words it has, and for each of these the word and two bytes of its dom set, bit 0 for none; the names of an Inherit
-// stand there as in crates/annotations. A line of output holds both results in the same numbers, or `none`, with a bar
+// stand there as in crates/synth_annotations. A line of output holds both results in the same numbers, or `none`, with a bar
 // between them.
 #![tactic(auto)]
 
 ghost use Rattle.std.specs.Prelude.{◌≤◌};
 
-use annotations::AnnotationInfo;
-use records::Kind;
+use sheet_records::Kind;
 use std::fmt::Display;
 use std::io::{BufReader, BufWriter, Read, Write};
 use std::{fmt, io, iter};
+use synth_annotations::AnnotationInfo;
 
 // An annotation as a line holds it.
 #[derive(Clone, Copy)]
@@ -85,8 +85,8 @@ struct Pair {
 
 impl Pair {
     fn answer<W: Write>(&self, out: &mut W) -> io::Result<()> {
-        let shared = Part(annotations::intersection(self.x, self.y));
-        let rest = Part(annotations::difference(self.x, self.y));
+        let shared = Part(synth_annotations::intersection(self.x, self.y));
+        let rest = Part(synth_annotations::difference(self.x, self.y));
         writeln!(out, " {shared} | {rest}")?;
         out.flush()
     }

@@ -11,8 +11,8 @@ use Rattle.definitions.specs.Answer as rules
 use Rattle.definitions.specs.Answer.{sheet_fault}
 use Rattle.fields.specs.declared.Fault.{Fault}
 use Rattle.fields.specs.Fields.{fault_of}
-use Rattle.decoding.specs.Decoding.{turned_back, decoded}
-use Rattle.decoding.specs.DecodingLaws.{was_read, not-read, seven, five, six}
+use Rattle.law_decoding.specs.Decoding.{turned_back, decoded}
+use Rattle.law_decoding.specs.DecodingLaws.{was_read, not-read, seven, five, six}
 use Rattle.sheet_words.specs.Words.{Telling, telling_of}
 use Rattle.catalogue.specs.declared.Catalogue.{Catalogue}
 use Rattle.sheet_draft.specs.declared.Draft.{Draft}

@@ -5,7 +5,7 @@ use Rattle.definitions.specs.Checks.{resource_bytes, self_bytes}
 use Rattle.definitions.specs.Map.{number_of}
 use Rattle.definitions.specs.Records.{Sheet}
 use Rattle.definitions.specs.Relisted.{Holds}
-use Rattle.decoding.specs.Decoding.{turned_back, decoded}
+use Rattle.law_decoding.specs.Decoding.{turned_back, decoded}
 use Rattle.catalogue.specs.declared.Catalogue.{Catalogue}
 use Rattle.sheet_draft.specs.declared.Decoding.{Decoding}
 use Rattle.sheet_draft.specs.declared.Draft.{Draft}

@@ -19,9 +19,9 @@ use Rattle.definitions.specs.Records.{Extension, Sheet}
 use Rattle.definitions.specs.Comparisons.{same_name}
 use Rattle.definitions.specs.Map.{type_map_of, line_map_of}
 use Rattle.definitions.specs.Making.{extension_parents}
-use Rattle.line_laws.specs.Statements.{line_map}
-use Rattle.line_laws.specs.Within.{ExtensionWithin, Within}
-use Rattle.ordering.specs.Lists.{tab, below, below-same, below_none, filter-below, map_below}
+use Rattle.law_lines.specs.Statements.{line_map}
+use Rattle.law_lines.specs.Within.{ExtensionWithin, Within}
+use Rattle.order_form.specs.Lists.{tab, below, below-same, below_none, filter-below, map_below}
 use Rattle.law_classes.specs.Sets.{type_at}
 use Rattle.catalogue.specs.declared.Catalogue.{Catalogue}
 use Rattle.catalogue.specs.Layout.{key_at, extension_key_at, extension_count_at, extension_parent_at}

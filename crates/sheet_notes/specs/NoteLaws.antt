@@ -19,8 +19,8 @@ use Rattle.definitions.specs.Reading.{word_field, annotation, mark}
 use Rattle.definitions.specs.Records.{Annotation}
 use Rattle.fields.specs.Fields.{fault_of}
 use Rattle.fields.specs.declared.Fault.{Fault}
-use Rattle.records.specs.Annotations.{annotation_as, row_of_word, row_of_tag, rows_for}
-use Rattle.records.specs.AnnotationLaws.{annotation-rows}
+use Rattle.sheet_records.specs.Annotations.{annotation_as, row_of_word, row_of_tag, rows_for}
+use Rattle.sheet_records.specs.AnnotationLaws.{annotation-rows}
 use Rattle.sheet_window.specs.WindowLaws.{field_in, split}
 use Rattle.sheet_notes.specs.Notes.{Notes, notes, forget, steps, of_skip, nested_in_two}
 

@@ -7,13 +7,13 @@ ghost use Rattle.definitions.specs.Parse.{counted};
 ghost use Rattle.definitions.specs.Reading.{name, annotation, mark};
 ghost use Rattle.bits.specs.Reading.{Addressable};
 ghost use Rattle.fields.specs.Fields.{bits_in};
-ghost use Rattle.records.specs.Kinds.{number_of};
-ghost use Rattle.records.specs.Annotations.{rows_for};
+ghost use Rattle.sheet_records.specs.Kinds.{number_of};
+ghost use Rattle.sheet_records.specs.Annotations.{rows_for};
 ghost use Rattle.sheet_notes.specs.Notes.{notes, forget, steps, of_skip};
 
 use bits::Cursor;
 use fields::{Fault, Sheet};
-use records::Kind;
+use sheet_records::Kind;
 
 fn skip_name(s: Sheet, c: Cursor) -> Result<Cursor, Fault>
     ensures { of_skip (bits_in s.entry) result ≡ forget (name s.entry.words (drop c.at (bits_in s.entry))) }
@@ -61,7 +61,7 @@ fn skip_annotation(s: Sheet, c: Cursor, single: bool) -> Result<Cursor, Fault>
 {
     let (number, next) = sheet_fields::read_between(s.bytes, c, 3, 0, 6)?;
     let kind = Kind::of(number);
-    if records::is_nested_in_two(kind, single) {
+    if sheet_records::is_nested_in_two(kind, single) {
         return Err(Fault::NotAllowed);
     }
     skip_rows(s, next, kind)
@@ -92,7 +92,7 @@ fn skip_mark(s: &[u8], c: Cursor) -> Result<Cursor, Fault>
             at: at + 1 + 8 * flag,
         });
     }
-    let (_, end) = records::read_mark(s, c)?;
+    let (_, end) = sheet_records::read_mark(s, c)?;
     Ok(end)
 }
 

@@ -2,7 +2,7 @@
 use Rattle.std.specs.Prelude.{Bool, not, ◌||◌, List, ℕ, ◌≤◌, eqb, take}
 use Rattle.lists.specs.Lists.{any, repeats, ascends}
 use Rattle.lists.specs.Tabulating.{tabulate}
-use Rattle.repeats.specs.Repeats.{type_repeats}
+use Rattle.sheet_same.specs.Repeats.{type_repeats}
 use Rattle.sheet_draft.specs.declared.Decoding.{Decoding}
 use Rattle.sheet_draft.specs.declared.Draft.{Draft}
 use Rattle.sheet_draft.specs.declared.entry.Entry.{Entry}

@@ -20,9 +20,9 @@ use Rattle.lists.specs.Tabulating.{tabulate, map-tabulate, length-tabulate, get_
 use Rattle.definitions.specs.Comparisons.{same_name}
 use Rattle.definitions.specs.Checks.{something_twice}
 use Rattle.definitions.specs.Records as records
-use Rattle.repeats.specs.RangeLaws.{any-range}
-use Rattle.repeats.specs.Repeats.{repeats_in, type_repeats, same_type_name, same_extension_key}
-use Rattle.repeats.specs.RepeatLaws.{something-twice}
+use Rattle.sheet_same.specs.RangeLaws.{any-range}
+use Rattle.sheet_same.specs.Repeats.{repeats_in, type_repeats, same_type_name, same_extension_key}
+use Rattle.sheet_same.specs.RepeatLaws.{something-twice}
 use Rattle.sheet_keys.specs.Keys.{name_of_key}
 use Rattle.sheet_notes.specs.Notes.{notes}
 use Rattle.sheet_draft.specs.declared.Decoding.{Decoding}

@@ -6,7 +6,7 @@ ghost use Rattle.lists.specs.Lists.{any, repeats, ascends};
 ghost use Rattle.definitions.specs.Bits.{bits_of};
 ghost use Rattle.bits.specs.Reading.{Addressable};
 ghost use Rattle.fields.specs.Fields.{bits_in};
-ghost use Rattle.repeats.specs.Repeats.{type_repeats};
+ghost use Rattle.sheet_same.specs.Repeats.{type_repeats};
 ghost use Rattle.sheet_draft.specs.Draft.{types_in};
 ghost use Rattle.sheet_draft.specs.Drafted.{entry_before};
 ghost use Rattle.sheet_types.specs.Rows.{NotesRead};

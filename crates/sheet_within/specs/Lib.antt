@@ -2,3 +2,4 @@ pub mod Within
 pub mod WithinLaws
 pub mod PlainLaws
 pub mod UpLaws
+pub mod OnceLaws

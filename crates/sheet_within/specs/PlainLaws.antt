@@ -17,13 +17,13 @@ use Rattle.definitions.specs.Reading.{name, annotation}
 use Rattle.definitions.specs.Records.{Resource, Annotation}
 use Rattle.bits.specs.NumberLaws.{num-lt}
 use Rattle.fields.specs.ParseLaws.{repeat-length}
-use Rattle.records.specs.Annotations.{resource_of, annotation_as, rows_for}
-use Rattle.records.specs.AnnotationLaws.{annotation-rows}
-use Rattle.records.specs.Kinds.{number_of}
-use Rattle.records.specs.declared.Kind.{Kind}
-use Rattle.records.specs.declared.Kind.TheVariants.{MakeList, Alias, Inherit, Derive, NoDerive}
-use Rattle.repeats.specs.RangeLaws.{any-range}
-use Rattle.repeats.specs.Repeats.{same_word, repeats_word, repeats_in}
+use Rattle.sheet_records.specs.Annotations.{resource_of, annotation_as, rows_for}
+use Rattle.sheet_records.specs.AnnotationLaws.{annotation-rows}
+use Rattle.sheet_records.specs.Kinds.{number_of}
+use Rattle.sheet_records.specs.declared.Kind.{Kind}
+use Rattle.sheet_records.specs.declared.Kind.TheVariants.{MakeList, Alias, Inherit, Derive, NoDerive}
+use Rattle.sheet_same.specs.RangeLaws.{any-range}
+use Rattle.sheet_same.specs.Repeats.{same_word, repeats_word, repeats_in}
 use Rattle.sheet_window.specs.WindowLaws.{field_in, split}
 use Rattle.sheet_keys.specs.Keys.{name_of_key, names_in}
 use Rattle.sheet_within.specs.Within.{words_in, PlainNames, PlainNotes, PlainEach}

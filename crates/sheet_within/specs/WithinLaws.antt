@@ -10,8 +10,8 @@ use Rattle.definitions.specs.Records.{Annotation, Mark}
 use Rattle.bits.specs.declared.Cursor.{Cursor}
 use Rattle.fields.specs.declared.Fault.{Fault}
 use Rattle.fields.specs.Fields.{of_parsed}
-use Rattle.records.specs.Annotations.{Annotations, of_annotations}
-use Rattle.repeats.specs.Repeats.{repeats_in}
+use Rattle.sheet_records.specs.Annotations.{Annotations, of_annotations}
+use Rattle.sheet_same.specs.Repeats.{repeats_in}
 use Rattle.sheet_window.specs.WindowLaws.{field_in}
 use Rattle.sheet_notes.specs.Notes.{Notes, notes}
 use Rattle.sheet_draft.specs.Draft.{notes_of}

@@ -3,16 +3,17 @@
 
 ghost use Rattle.std.specs.Prelude.{true, false, ◌≡◌, ◌+◌, ◌/◌, ◌≤◌, ◌<◌, length, drop, eqb};
 ghost use Rattle.fields.specs.Fields.{bits_in};
-ghost use Rattle.repeats.specs.Repeats.{repeats_in};
+ghost use Rattle.sheet_same.specs.Repeats.{repeats_in};
 ghost use Rattle.sheet_notes.specs.Notes.{notes};
 ghost use Rattle.sheet_draft.specs.Draft.{notes_of};
 ghost use Rattle.sheet_types.specs.Rows.{is_done};
 ghost use Rattle.lists.specs.Lists.{any, repeats};
-ghost use Rattle.sheet_within.specs.Within.{words_in, PlainNames, PlainNotes, NamesUp, NextUp, PlainEach};
+ghost use Rattle.sheet_within.specs.Within.{words_in, PlainNames, PlainNotes, NamesUp, CountAt, NextUp, NamesOnce, NextOnce, NoneIs, PlainEach};
 
 use bits::Cursor;
 use fields::Sheet;
-use records::Kind;
+use rows::Row;
+use sheet_records::Kind;
 
 // The annotations by value: for whatever the tests below leave open. `single`, here and below, is that of `records`: a fact of
 // the sheet, which the definitions take as a Bool too.
@@ -20,8 +21,8 @@ fn is_repeating_by_value(s: Sheet, at: usize, single: bool) -> bool
     requires { is_done (notes s.words single (drop at (bits_in s))) ≡ true }
     ensures { result ≡ repeats_in (notes_of (notes s.entry.words single (drop at (bits_in s.entry)))).annotations }
 {
-    match records::read_annotations(s, Cursor { at }, single) {
-        Ok((annotations, _)) => repeats::is_repeating(annotations),
+    match sheet_records::read_annotations(s, Cursor { at }, single) {
+        Ok((annotations, _)) => sheet_same::is_repeating(annotations),
         Err(_) => false,
     }
 }
@@ -84,29 +85,39 @@ fn names_up(s: Sheet, at: usize, n: usize, low: usize) -> Option<Up>
     Some(Up { top, at: next.at })
 }
 
-// One associate with such names, at least one.
-fn associate_up(s: Sheet, at: usize, single: bool, low: usize) -> Option<Up>
-    ensures { NextUp s.entry.words single (bits_in s.entry) at low result }
+// How many names an associate at a place has; none where no associate stands there.
+fn count_at(s: Sheet, at: usize, single: bool) -> Option<usize>
+    ensures { CountAt s.entry.words single (bits_in s.entry) at result }
 {
     if s.bytes.len() < at / 8 + 4 {
         return None;
     }
     let w = sheet_window::window(s.bytes, at, 7);
-    if w % 16 == 0 {
-        return None;
-    }
     let Ok(kind) = Kind::try_from(w / 16) else {
         return None;
     };
     match kind {
-        Kind::Associate => names_up(s, at + 7, w % 16, low),
-        Kind::NestAssociate if single => names_up(s, at + 7, w % 16, low),
+        Kind::Associate => Some(w % 16),
+        Kind::NestAssociate if single => Some(w % 16),
         _ => None,
     }
 }
 
+// One associate with names that ascend, at least one.
+fn associate_up(s: Sheet, at: usize, single: bool, low: usize) -> Option<Up>
+    ensures { NextUp s.entry.words single (bits_in s.entry) at low result }
+{
+    let Some(n) = count_at(s, at, single) else {
+        return None;
+    };
+    if n == 0 {
+        return None;
+    }
+    names_up(s, at + 7, n, low)
+}
+
 // Whether n annotations are associates whose first words ascend from one to the next.
-fn is_plain_each(s: Sheet, at: usize, single: bool, n: usize) -> bool
+fn is_plain_up(s: Sheet, at: usize, single: bool, n: usize) -> bool
     ensures { PlainEach s.entry.words single (bits_in s.entry) at n result }
 {
     let mut p = at;
@@ -121,8 +132,87 @@ fn is_plain_each(s: Sheet, at: usize, single: bool, n: usize) -> bool
     true
 }
 
-// Whether the annotations at a place are found to repeat nothing: none, one, or associates whose words ascend, as most types have
-// them.
+// The place behind what was read, and the first words in it as a set.
+#[derive(Clone, Copy)]
+pub struct Once {
+    pub words: Row,
+    pub at: usize,
+}
+
+// n names whose first words differ, or none.
+fn names_once(s: Sheet, at: usize, n: usize) -> Option<Once>
+    ensures { NamesOnce s.entry.words (bits_in s.entry) at n result }
+{
+    let mut next = Cursor { at };
+    let mut words = rows::empty_row();
+    for _ in 0..n {
+        let Ok((key, end)) = sheet_keys::read_key(s, next) else {
+            return None;
+        };
+        let w = (key / 256) as usize;
+        if rows::holds(words, w) {
+            return None;
+        }
+        let one = rows::alone(w);
+        words = rows::in_either(words, one);
+        next = end;
+    }
+    Some(Once { words, at: next.at })
+}
+
+// One associate with such names.
+fn associate_once(s: Sheet, at: usize, single: bool) -> Option<Once>
+    ensures { NextOnce s.entry.words single (bits_in s.entry) at result }
+{
+    let Some(n) = count_at(s, at, single) else {
+        return None;
+    };
+    names_once(s, at + 7, n)
+}
+
+// Whether a set is one of the first n.
+fn has_set(sets: &[Row; 16], n: usize, words: Row) -> bool
+    requires { n ≤ 16 }
+    ensures { NoneIs sets.now n words result }
+{
+    for set in &sets[..n] {
+        if *set == words {
+            return true;
+        }
+    }
+    false
+}
+
+// Whether n annotations are associates of which each has words that differ, and no two have the same.
+fn is_plain_once(s: Sheet, at: usize, single: bool, n: usize) -> bool
+    requires { n ≤ 16 }
+    ensures { PlainEach s.entry.words single (bits_in s.entry) at n result }
+{
+    let none = rows::empty_row();
+    let mut sets = [none; 16];
+    let mut p = at;
+    for i in 0..n {
+        let Some(once) = associate_once(s, p, single) else {
+            return false;
+        };
+        if has_set(&sets, i, once.words) {
+            return false;
+        }
+        sets[i] = once.words;
+        p = once.at;
+    }
+    true
+}
+
+// Whether n annotations are associates that repeat nothing: mostly their words ascend, which takes fewer steps.
+fn is_plain_each(s: Sheet, at: usize, single: bool, n: usize) -> bool
+    requires { n ≤ 16 }
+    ensures { PlainEach s.entry.words single (bits_in s.entry) at n result }
+{
+    is_plain_up(s, at, single, n) || is_plain_once(s, at, single, n)
+}
+
+// Whether the annotations at a place are found to repeat nothing: none, one, or associates, whose words mostly ascend.
 fn is_plain_in(s: Sheet, at: usize, single: bool) -> bool
     requires { at / 8 + 4 ≤ length s.bytes.now }
     ensures { PlainNotes s.entry.words single (bits_in s.entry) at result }

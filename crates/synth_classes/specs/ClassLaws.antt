@@ -6,7 +6,7 @@ use Rattle.std.proofs.lemmas.Bool.{eqb-false}
 use Rattle.std.specs.Int.Count.{count_trailing_zeros}
 use Rattle.lists.specs.Tests.{by}
 use Rattle.definitions.specs.Comparisons.{dotted}
-use Rattle.annotations.specs.Reading.{dom_at}
+use Rattle.synth_annotations.specs.Reading.{dom_at}
 use Rattle.fields.specs.Fields.{two_words}
 use Rattle.sheet_keys.specs.Keys.{name_of_key}
 use Rattle.catalogue.specs.Layout.{looked}

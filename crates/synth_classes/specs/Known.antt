@@ -15,14 +15,14 @@ use Rattle.rows.specs.NextLaws.{next-zeros}
 use Rattle.definitions.specs.Records.{Sheet}
 use Rattle.definitions.specs.Map.{LineType, LineMap, line_type_of, type_map_of}
 use Rattle.definitions.specs.Making.{declared, is_resource, is_resource_variant}
-use Rattle.laws.specs.Comparisons.{same-name, name-same}
-use Rattle.line_laws.specs.Statements.{Readable, line_map}
-use Rattle.line_laws.specs.Within.{Within}
-use Rattle.line_laws.specs.Declarations.{type-in, name-is, declared-some}
+use Rattle.law_orders.specs.Comparisons.{same-name, name-same}
+use Rattle.law_lines.specs.Statements.{Readable, line_map}
+use Rattle.law_lines.specs.Within.{Within}
+use Rattle.law_lines.specs.Declarations.{type-in, name-is, declared-some}
 use Rattle.law_classes.specs.Sets.{no_type, type_at}
 use Rattle.law_classes.specs.Numbers.{place-of}
 use Rattle.law_classes.proofs.ItemLaws.{declared-self}
-use Rattle.ordering.specs.Reading as ordering
+use Rattle.order_form.specs.Reading as ordering
 use Rattle.catalogue.specs.Layout.{key_at, looked}
 use Rattle.catalogue.specs.declared.Catalogue.{Catalogue}
 use Rattle.catalogue.specs.Catalogue as catalogue
@@ -68,7 +68,7 @@ module _ (s : Sheet) (t : Catalogue) (k : Known s t) where
       (λ e. null-nil (declared m (name_of_key key)) e)
       (λ e.
       let d = declared-some s k.readable (name_of_key key) e in
-      absurd (h (key-within (length s.words) key (subst (λ c. Rattle.line_laws.specs.Within.NameWithin (length s.words) c) d.2 (k.within.type d.0 d.1).name))))
+      absurd (h (key-within (length s.words) key (subst (λ c. Rattle.law_lines.specs.Within.NameWithin (length s.words) c) d.2 (k.within.type d.0 d.1).name))))
 
   module _ (key : ℕ) (w : KeyWithin (length s.words) key) where
     abbrev set : ℕ

@@ -1,14 +1,14 @@
 -- What is made for a type and a word, by the doms of its classes and the direct parents that it comes from.
 use Rattle.std.specs.Prelude.{List, map, ℕ}
 use Rattle.rows.specs.declared.Row.{Row}
-use Rattle.annotations.specs.Reading.{dom_at, doms_of}
+use Rattle.synth_annotations.specs.Reading.{dom_at, doms_of}
 use Rattle.definitions.specs.Records.{Name, Item}
 use Rattle.definitions.specs.Comparisons.{dotted}
 use Rattle.definitions.specs.Map.{LineType, LineMap}
 use Rattle.definitions.specs.Making.{class_names, create_synthetic_resource}
 use Rattle.definitions.specs.Synthesis.{first_parents}
 use Rattle.law_classes.specs.Sets.{type_at}
-use Rattle.dedup.specs.Reading.{names_at}
+use Rattle.synth_dedup.specs.Reading.{names_at}
 
 -- the class of a word and a dom
 abbrev pub class_name : ℕ → ℕ → Name

@@ -8,7 +8,7 @@ use Rattle.lists.specs.Appending.{map-map, filter_map, filter_alike}
 use Rattle.rows.specs.declared.Row.{Row}
 use Rattle.rows.specs.Rows.{has}
 use Rattle.rows.specs.Lists.{below, filter-between}
-use Rattle.annotations.specs.Reading.{dom_at, doms_of}
+use Rattle.synth_annotations.specs.Reading.{dom_at, doms_of}
 use Rattle.definitions.specs.Records.{Name}
 use Rattle.definitions.specs.Comparisons.{dotted}
 use Rattle.synth_classes.specs.Made.{class_name, classes_of}

@@ -4,7 +4,7 @@
 ghost use Rattle.std.specs.Prelude.{◌≡◌, ◌+◌, ◌*◌, ◌%◌, ◌<◌};
 ghost use Rattle.definitions.specs.Comparisons.{dotted};
 ghost use Rattle.fields.specs.Fields.{name_of};
-ghost use Rattle.annotations.specs.Reading.{dom_at};
+ghost use Rattle.synth_annotations.specs.Reading.{dom_at};
 ghost use Rattle.catalogue.specs.Layout.{key_at};
 ghost use Rattle.sheet_keys.specs.Keys.{name_of_key};
 ghost use Rattle.synth_classes.specs.Classes.{place_if, place_of, place_in};

@@ -14,12 +14,12 @@ use Rattle.sheet_notes.specs.Notes.{Notes, notes}
 use Rattle.sheet_draft.specs.Draft.{key_at, place_at, notes_of, notes_at, type_in}
 use Rattle.sheet_draft.specs.declared.Draft.{Draft}
 use Rattle.sheet_draft.specs.declared.entry.Entry.{Entry}
-use Rattle.ordering.specs.Reading.{type_at}
+use Rattle.order_form.specs.Reading.{type_at}
 use Rattle.item_entries.specs.Entries.{row_in}
 use Rattle.item_draft.specs.Fill.{Drawn}
 use Rattle.item_draft.specs.Rows as rows
-use Rattle.own_associates.specs.Owning.{Stand, Noted}
-use Rattle.own_associates.specs.declared.Location.{Location}
+use Rattle.synth_own.specs.Owning.{Stand, Noted}
+use Rattle.synth_own.specs.declared.Location.{Location}
 use Rattle.synth_places.specs.Places.{ReadAt, Readable, Located}
 
 -- ---- one type

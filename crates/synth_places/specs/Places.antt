@@ -6,8 +6,8 @@ use Rattle.sheet_draft.specs.declared.Draft.{Draft}
 use Rattle.sheet_draft.specs.declared.entry.Entry.{Entry}
 use Rattle.item_notes.specs.Notes.{DoneAt}
 use Rattle.item_entries.specs.Entries.{row_in, RowsThere}
-use Rattle.own_associates.specs.Owning.{Noted}
-use Rattle.own_associates.specs.declared.Location.{Location}
+use Rattle.synth_own.specs.Owning.{Noted}
+use Rattle.synth_own.specs.declared.Location.{Location}
 
 -- Annotations and marks of a row can be read, in a sheet of W words (FORMAT 2.6).
 abbrev pub ReadAt : ℕ → List Bool → Draft → ℕ → Type 0

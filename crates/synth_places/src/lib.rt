@@ -4,13 +4,13 @@
 
 ghost use Rattle.std.specs.Prelude.{◌<◌};
 ghost use Rattle.definitions.specs.Bits.{bits_of};
-ghost use Rattle.own_associates.specs.Owning.{Noted};
+ghost use Rattle.synth_own.specs.Owning.{Noted};
 ghost use Rattle.sheet_draft.specs.Draft.{notes_at};
 ghost use Rattle.item_entries.specs.Entries.{row_in};
 ghost use Rattle.synth_places.specs.Places.{ReadAt, Readable, Located};
 
-use own_associates::Location;
 use sheet_order::ByName;
+use synth_own::Location;
 
 // Where the annotations of the type at a place in name order stand, if it has any.
 #[tactic(auto, using(crate::specs::PlaceLaws::none_there, crate::specs::PlaceLaws::some_there))]

@@ -15,22 +15,22 @@ use Rattle.rows.specs.declared.Row.{Row}
 use Rattle.rows.specs.Rows.{has, bit, has_bit}
 use Rattle.rows.specs.RowLaws.{bit_is}
 use Rattle.rows.specs.Lists.{between, below}
-use Rattle.ordering.specs.Lists as ordering
-use Rattle.ordering.specs.Lists.{only, below-same}
+use Rattle.order_form.specs.Lists as ordering
+use Rattle.order_form.specs.Lists.{only, below-same}
 use Rattle.bitsets.specs.Bitsets.{members, first_bits, Lowest, Rest, Walks}
 use Rattle.bitsets.specs.BitLaws.{bit-both, bit-first, bit_past, some-bit, members-of, in_members, members-next, members-none, members-below}
 use Rattle.definitions.specs.Records.{Name, Sheet}
 use Rattle.definitions.specs.Comparisons.{dotted}
 use Rattle.definitions.specs.Map.{LineType, LineMap}
 use Rattle.definitions.specs.Synthesis.{first_parents}
-use Rattle.line_laws.specs.Statements.{line_map}
+use Rattle.law_lines.specs.Statements.{line_map}
 use Rattle.law_classes.specs.Sets.{no_type}
-use Rattle.dedup.specs.Reading.{names_at}
+use Rattle.synth_dedup.specs.Reading.{names_at}
 use Rattle.catalogue.specs.Layout.{key_at}
 use Rattle.catalogue.specs.Catalogue.{name_of_key}
 use Rattle.catalogue.specs.declared.Catalogue.{Catalogue}
 use Rattle.item_refusal.specs.RepeatLaws.{one_place}
-use Rattle.annotations.specs.Reading.{dom_at}
+use Rattle.synth_annotations.specs.Reading.{dom_at}
 use Rattle.synth_classes.specs.Made.{class_name, classes_of, type_names, names_in, firsts_of}
 use Rattle.synth_classes.specs.Walks.{class-names}
 use Rattle.synth_classes.specs.Known.{Known}

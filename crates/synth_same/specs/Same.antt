@@ -10,7 +10,7 @@ use Rattle.bitsets.specs.Bitsets.{members, first_bits}
 use Rattle.definitions.specs.Bits.{to_bits}
 use Rattle.definitions.specs.Records.{Sheet}
 use Rattle.definitions.specs.Making.{same_item}
-use Rattle.line_laws.specs.Statements.{line_map}
+use Rattle.law_lines.specs.Statements.{line_map}
 use Rattle.catalogue.specs.Layout.{key_at, head_at, marks_at, mark_width}
 use Rattle.catalogue.specs.Catalogue.{virtual_head}
 use Rattle.catalogue.specs.declared.Catalogue.{Catalogue}

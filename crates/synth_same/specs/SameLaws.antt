@@ -21,10 +21,10 @@ use Rattle.definitions.specs.Records.{Name, Mark, Sheet, Item, synthesized, exte
 use Rattle.definitions.specs.Packing.{mark_bits}
 use Rattle.definitions.specs.Map.{LineType, LineMap, line_type_of}
 use Rattle.definitions.specs.Making.{declared, extension_parents, marks_of, all_virtual, create_synthetic_resource}
-use Rattle.laws.specs.Comparisons.{look-up-is}
-use Rattle.line_laws.specs.Statements.{line_map}
-use Rattle.line_laws.specs.Declarations.{type-of}
-use Rattle.line_laws.specs.SameItem.{same_item_lem, item-same}
+use Rattle.law_orders.specs.Comparisons.{look-up-is}
+use Rattle.law_lines.specs.Statements.{line_map}
+use Rattle.law_lines.specs.Declarations.{type-of}
+use Rattle.law_lines.specs.SameItem.{same_item_lem, item-same}
 use Rattle.law_classes.specs.Sets.{type_at}
 use Rattle.catalogue.specs.Layout.{head_at, marks_at}
 use Rattle.catalogue.specs.Catalogue.{virtual_head}

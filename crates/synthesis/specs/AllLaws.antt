@@ -15,21 +15,21 @@ use Rattle.definitions.specs.Packing.{row_bytes}
 use Rattle.definitions.specs.Synthesis.{listed_parents, interpret_type}
 use Rattle.definitions.specs.Map.{TypeMap, type_map_of}
 use Rattle.rows.specs.RowLaws.{bit-none}
-use Rattle.ordering.specs.Lists.{tab, tab-step, any-tab-at, elem, elem-cases}
-use Rattle.ordering.specs.Reading.{type_at, Reads}
-use Rattle.ordering.specs.declared.Parents.{Parents}
-use Rattle.own_associates.specs.declared.Location.{Location}
+use Rattle.order_form.specs.Lists.{tab, tab-step, any-tab-at, elem, elem-cases}
+use Rattle.order_form.specs.Reading.{type_at, Reads}
+use Rattle.order_form.specs.declared.Parents.{Parents}
+use Rattle.synth_own.specs.declared.Location.{Location}
 use Rattle.catalogue.specs.declared.Catalogue.{Catalogue}
 use Rattle.emitting.specs.declared.Writer.{Writer}
 use Rattle.emitting.specs.Writing.{counted, state, counted-over, same_self, same_then}
-use Rattle.interpretation.specs.Emit.{emit}
-use Rattle.visit_laws.specs.Trail as visit
-use Rattle.visit_laws.specs.Trail.{Reached, seen_in, flags_of, got_from, play, play_all, nothing_played}
-use Rattle.visiting.specs.Trails.{zero_arrival, item_at, reached_at, TrailOf}
-use Rattle.visiting.specs.declared.Trail.{Trail}
-use Rattle.store.specs.declared.Saved.{Saved}
-use Rattle.handing.specs.Handing.{Stored, StoredParents}
-use Rattle.handing.specs.Keeping.{stored-parents}
+use Rattle.synth_interpretation.specs.Emit.{emit}
+use Rattle.law_visit.specs.Trail as visit
+use Rattle.law_visit.specs.Trail.{Reached, seen_in, flags_of, got_from, play, play_all, nothing_played}
+use Rattle.synth_visiting.specs.Trails.{zero_arrival, item_at, reached_at, TrailOf}
+use Rattle.synth_visiting.specs.declared.Trail.{Trail}
+use Rattle.synth_store.specs.declared.Saved.{Saved}
+use Rattle.synth_handing.specs.Handing.{Stored, StoredParents}
+use Rattle.synth_handing.specs.Keeping.{stored-parents}
 use Rattle.synthesis.specs.Going.{Going}
 use Rattle.synthesis.specs.GoingLaws.{same-name, play-last}
 use Rattle.synthesis.specs.Playing.{Turn, Plays, AllReady, PlayedTo, AllPlayed}

@@ -2,13 +2,13 @@
 use Rattle.std.specs.Prelude.{List, ◌≡◌, ℕ, ◌<◌}
 use Rattle.definitions.specs.Map.{TypeMap}
 use Rattle.rows.specs.Rows.{has_bit}
-use Rattle.ordering.specs.Lists.{tab}
-use Rattle.ordering.specs.Reading.{how_many, type_at}
-use Rattle.ordering.specs.declared.Parents.{Parents}
+use Rattle.order_form.specs.Lists.{tab}
+use Rattle.order_form.specs.Reading.{how_many, type_at}
+use Rattle.order_form.specs.declared.Parents.{Parents}
 use Rattle.emitting.specs.declared.Writer.{Writer}
 use Rattle.emitting.specs.Writing.{state}
-use Rattle.interpretation.specs.Emit.{emit}
-use Rattle.visit_laws.specs.Trail.{Reached, succeeded, nothing_played, play_all}
+use Rattle.synth_interpretation.specs.Emit.{emit}
+use Rattle.law_visit.specs.Trail.{Reached, succeeded, nothing_played, play_all}
 
 -- a type that is reached, by its place and the bits of its fresh listings
 abbrev pub reached_at : TypeMap → Parents → ℕ → ℕ → Reached

@@ -14,17 +14,17 @@ use Rattle.definitions.specs.Inherited.{InheritedAnnotation}
 use Rattle.definitions.specs.Synthesis.{listed_parents, interpret_type}
 use Rattle.definitions.specs.Packing.{row_bytes}
 use Rattle.rows.specs.Rows.{has_bit}
-use Rattle.ordering.specs.Lists.{tab, tab-length, map-tab, tab-same}
-use Rattle.ordering.specs.Reading.{how_many, listed, type_at, place_in, Reads}
-use Rattle.ordering.specs.declared.Parent.{Parent}
-use Rattle.ordering.specs.Names.{place_same}
-use Rattle.ordering.specs.declared.Parents.{Parents}
-use Rattle.parent_laws.specs.Placed.{ParentsBelow}
-use Rattle.parent_laws.specs.Listed.{parent, parent-below}
-use Rattle.interpretation.specs.Emit.{emit}
-use Rattle.visit_laws.specs.Trail.{Reached, seen_in, Told, Played, succeeded, passes, flags_of, got_from, all_of, play, play_all, nothing_played}
-use Rattle.hearing.specs.Hearing.{hands_at, FlagsOf, WithOk}
-use Rattle.hearing.specs.declared.Flags.{Flags}
+use Rattle.order_form.specs.Lists.{tab, tab-length, map-tab, tab-same}
+use Rattle.order_form.specs.Reading.{how_many, listed, type_at, place_in, Reads}
+use Rattle.order_form.specs.declared.Parent.{Parent}
+use Rattle.order_form.specs.Names.{place_same}
+use Rattle.order_form.specs.declared.Parents.{Parents}
+use Rattle.law_parents.specs.Placed.{ParentsBelow}
+use Rattle.law_parents.specs.Listed.{parent, parent-below}
+use Rattle.synth_interpretation.specs.Emit.{emit}
+use Rattle.law_visit.specs.Trail.{Reached, seen_in, Told, Played, succeeded, passes, flags_of, got_from, all_of, play, play_all, nothing_played}
+use Rattle.synth_hearing.specs.Hearing.{hands_at, FlagsOf, WithOk}
+use Rattle.synth_hearing.specs.declared.Flags.{Flags}
 use Rattle.emitting.specs.Emitting.{State, emit-append}
 use Rattle.emitting.specs.declared.Writer.{Writer}
 use Rattle.emitting.specs.Writing.{state}

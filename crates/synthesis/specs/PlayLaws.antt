@@ -9,33 +9,33 @@ use Rattle.definitions.specs.Map.{TypeMap, LineType, line_type_of, line_map_of, 
 use Rattle.definitions.specs.Inherited.{InheritedAnnotation, dedup, own_associates}
 use Rattle.definitions.specs.Synthesis as definitions
 use Rattle.definitions.specs.Synthesis.{listed_parents, interpret_type, interpret_all}
-use Rattle.line_laws.specs.Statements.{line_map}
+use Rattle.law_lines.specs.Statements.{line_map}
 use Rattle.rows.specs.Rows.{has_bit}
-use Rattle.ordering.specs.Lists.{tab, tab-length}
-use Rattle.ordering.specs.Reading.{how_many, listed, type_at, listed-length}
-use Rattle.ordering.specs.declared.Parent.{Parent}
-use Rattle.ordering.specs.declared.Parents.{Parents}
-use Rattle.own_associates.specs.declared.Location.{Location}
+use Rattle.order_form.specs.Lists.{tab, tab-length}
+use Rattle.order_form.specs.Reading.{how_many, listed, type_at, listed-length}
+use Rattle.order_form.specs.declared.Parent.{Parent}
+use Rattle.order_form.specs.declared.Parents.{Parents}
+use Rattle.synth_own.specs.declared.Location.{Location}
 use Rattle.catalogue.specs.declared.Catalogue.{Catalogue}
-use Rattle.dedup.specs.declared.inherited.Inherited.{Inherited}
-use Rattle.dedup.specs.Reading.{inherited_of}
-use Rattle.own_associates.specs.Owning as owning
-use Rattle.own_associates.specs.Owning.{OwnAssociates, OwnFit, OwnOf}
+use Rattle.synth_dedup.specs.declared.inherited.Inherited.{Inherited}
+use Rattle.synth_dedup.specs.Reading.{inherited_of}
+use Rattle.synth_own.specs.Owning as owning
+use Rattle.synth_own.specs.Owning.{OwnAssociates, OwnFit, OwnOf}
 use Rattle.order_parents.specs.SheetLaws.{line-count, line_at}
 use Rattle.emitting.specs.declared.Writer.{Writer}
 use Rattle.emitting.specs.Writing.{state}
-use Rattle.interpretation.specs.Emit.{emit}
+use Rattle.synth_interpretation.specs.Emit.{emit}
 use Rattle.synth_classes.specs.Made.{type_names}
-use Rattle.interpreting.specs.Annotations.{own_entries_in, interpreted_at, TypeDone}
-use Rattle.interpreting.specs.OwnLaws.{own-entries}
-use Rattle.store.specs.declared.Saved.{Saved}
-use Rattle.handing.specs.Handing.{names_of, handed_to, StoredParents, Ready, Gathered, KeepsIt}
-use Rattle.handing.specs.Keeping.{eight, got-all}
-use Rattle.held_laws.specs.HeldLaws.{parents-below, parents-are}
-use Rattle.held_laws.specs.Limits.{own-fits}
-use Rattle.parent_laws.specs.Placed.{ParentsBelow}
-use Rattle.hearing.specs.Hearing.{FlagsOf, WithOk}
-use Rattle.hearing.specs.declared.Flags.{Flags}
+use Rattle.synth_interpreting.specs.Annotations.{own_entries_in, interpreted_at, TypeDone}
+use Rattle.synth_interpreting.specs.OwnLaws.{own-entries}
+use Rattle.synth_store.specs.declared.Saved.{Saved}
+use Rattle.synth_handing.specs.Handing.{names_of, handed_to, StoredParents, Ready, Gathered, KeepsIt}
+use Rattle.synth_handing.specs.Keeping.{eight, got-all}
+use Rattle.law_synth_map.specs.HeldLaws.{parents-below, parents-are}
+use Rattle.law_synth_map.specs.Limits.{own-fits}
+use Rattle.law_parents.specs.Placed.{ParentsBelow}
+use Rattle.synth_hearing.specs.Hearing.{FlagsOf, WithOk}
+use Rattle.synth_hearing.specs.declared.Flags.{Flags}
 use Rattle.synthesis.specs.Playing.{Flagged, Receives, Turn, Plays}
 use Rattle.synthesis.specs.GoingLaws.{goes_on}
 
@@ -62,7 +62,7 @@ module _ (p : Parents) (bs : List Bool) (ns : List (Option Location)) (st : List
         reads = λ s h sp.
             let m = type_map_of s in
             k.reads s h sp
-            ∙ ap dedup
+            ∙ ap (dedup m.words)
             (sym
             (got-all m (tab (has_bit f.row) (how_many p t)) (listed_parents m (type_at m t))
             (tab-length (has_bit f.row) (how_many p t) ∙ sym (ap length (parents-are s bs ns p h t l) ∙ length-map (listed p t) (λ (q : Parent). type_at m q.place) ∙ listed-length p t))
@@ -88,7 +88,7 @@ unfolding type_names line_map_of line_type_of
 names-are s = map-map (λ (D : LineType). D.name) line_type_of (type_map_of s).types
 
 pub interpreted-type : (s : Sheet) (T : ℕ) → T < length (type_map_of s).types → (o : OwnAssociates) (h : Inherited) (got : List InheritedAnnotation)
-    → map owning.read_own (owning.listed o) ≡ own_associates (type_at (type_map_of s) T) → inherited_of (names_of (type_map_of s)) h ≡ dedup got
+    → map owning.read_own (owning.listed o) ≡ own_associates (type_at (type_map_of s) T) → inherited_of (names_of (type_map_of s)) h ≡ dedup (type_map_of s).words got
     → interpreted_at (line_map s) T o h ≡ interpret_type (type_map_of s) (type_at (type_map_of s) T) got
 unfolding interpreted_at interpret_type
 interpreted-type s T l o h got w r =

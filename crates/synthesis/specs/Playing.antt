@@ -5,24 +5,24 @@ use Rattle.definitions.specs.Records.{Sheet}
 use Rattle.definitions.specs.Map.{TypeMap, type_map_of}
 use Rattle.definitions.specs.Inherited.{dedup}
 use Rattle.rows.specs.Rows.{has_bit}
-use Rattle.ordering.specs.Lists.{tab}
-use Rattle.ordering.specs.Reading.{how_many, type_at}
-use Rattle.ordering.specs.declared.Parents.{Parents}
-use Rattle.own_associates.specs.declared.Location.{Location}
+use Rattle.order_form.specs.Lists.{tab}
+use Rattle.order_form.specs.Reading.{how_many, type_at}
+use Rattle.order_form.specs.declared.Parents.{Parents}
+use Rattle.synth_own.specs.declared.Location.{Location}
 use Rattle.catalogue.specs.declared.Catalogue.{Catalogue}
-use Rattle.dedup.specs.declared.inherited.Inherited.{Inherited}
-use Rattle.dedup.specs.Reading.{inherited_of}
-use Rattle.held_map.specs.HeldMap.{HeldMap}
-use Rattle.visit_laws.specs.Trail.{Reached, seen_in, play_all, nothing_played}
-use Rattle.visiting.specs.Trails.{TrailOf}
-use Rattle.visiting.specs.Trails as trails
-use Rattle.visiting.specs.declared.Trail.{Trail}
-use Rattle.hearing.specs.declared.Flags.{Flags}
+use Rattle.synth_dedup.specs.declared.inherited.Inherited.{Inherited}
+use Rattle.synth_dedup.specs.Reading.{inherited_of}
+use Rattle.synth_map.specs.HeldMap.{HeldMap}
+use Rattle.law_visit.specs.Trail.{Reached, seen_in, play_all, nothing_played}
+use Rattle.synth_visiting.specs.Trails.{TrailOf}
+use Rattle.synth_visiting.specs.Trails as trails
+use Rattle.synth_visiting.specs.declared.Trail.{Trail}
+use Rattle.synth_hearing.specs.declared.Flags.{Flags}
 use Rattle.emitting.specs.declared.Writer.{Writer}
 use Rattle.emitting.specs.Writing.{state, SameSlice}
-use Rattle.interpretation.specs.Emit.{emit}
-use Rattle.store.specs.declared.Saved.{Saved}
-use Rattle.handing.specs.Handing.{names_of, Stored, StoredParents, handed_to}
+use Rattle.synth_interpretation.specs.Emit.{emit}
+use Rattle.synth_store.specs.declared.Saved.{Saved}
+use Rattle.synth_handing.specs.Handing.{names_of, Stored, StoredParents, handed_to}
 use Rattle.synthesis.specs.Going.{reached_at, Going}
 use Rattle.synthesis.specs.Synthesized.{Synthesizes}
 use Rattle.synthesis.specs.declared.Visit.{Visit}
@@ -34,7 +34,7 @@ pub record Flagged (p : Parents) (t : ℕ) (f : Flags) : Type 0 where
 -- r is what type t gets from the listings with a flag; and what it inherits where all hand on stands in the store afterwards
 pub record Receives (p : Parents) (bs : List Bool) (ns : List (Option Location)) (st : List Saved) (t : ℕ) (f : Flags) (after : List Saved) (r : Inherited) : Type 0 where
   pub reads : (s : Sheet) → HeldMap s bs ns p → StoredParents p (type_map_of s) st t 255
-      → inherited_of (names_of (type_map_of s)) r ≡ dedup (handed_to (type_map_of s) p t f.row)
+      → inherited_of (names_of (type_map_of s)) r ≡ dedup (type_map_of s).words (handed_to (type_map_of s) p t f.row)
   pub stored : (s : Sheet) → HeldMap s bs ns p → StoredParents p (type_map_of s) st t 255 → Stored (type_map_of s) after t
   pub others : (m : TypeMap) (u : ℕ) → (u ≡ t → ⊥) → Stored m st u → Stored m after u
   pub long : length after ≡ length st

@@ -6,18 +6,18 @@ use Rattle.definitions.specs.Map.{type_map_of}
 use Rattle.definitions.specs.Synthesis.{synthesis}
 use Rattle.definitions.specs.Packing.{row_bytes}
 use Rattle.definitions.specs.Answer.{most_rows, most_row_bytes}
-use Rattle.ordering.specs.Lists.{tab}
-use Rattle.ordering.specs.declared.Parents.{Parents}
-use Rattle.own_associates.specs.declared.Location.{Location}
+use Rattle.order_form.specs.Lists.{tab}
+use Rattle.order_form.specs.declared.Parents.{Parents}
+use Rattle.synth_own.specs.declared.Location.{Location}
 use Rattle.catalogue.specs.declared.Catalogue.{Catalogue}
 use Rattle.emitting.specs.declared.Report.{Report}
 use Rattle.emitting.specs.declared.Writer.{Writer}
 use Rattle.emitting.specs.Writing.{counted, Begins, Tells, told-rows, told-more, emits_begun}
-use Rattle.interpretation.specs.Emit.{emit}
-use Rattle.visit_laws.specs.Trail.{nothing_played, play_all}
-use Rattle.visiting.specs.Trails.{reached_at, TrailOf}
-use Rattle.visiting.specs.Along.{rows-along}
-use Rattle.visiting.specs.declared.Trail.{Trail}
+use Rattle.synth_interpretation.specs.Emit.{emit}
+use Rattle.law_visit.specs.Trail.{nothing_played, play_all}
+use Rattle.synth_visiting.specs.Trails.{reached_at, TrailOf}
+use Rattle.synth_visiting.specs.Along.{rows-along}
+use Rattle.synth_visiting.specs.declared.Trail.{Trail}
 use Rattle.synthesis.specs.Playing.{AllPlayed}
 use Rattle.synthesis.specs.Synthesized.{Synthesized, as_written}
 

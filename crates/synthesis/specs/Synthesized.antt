@@ -9,10 +9,10 @@ use Rattle.definitions.specs.Map.{type_map_of}
 use Rattle.definitions.specs.Packing.{name_bytes, row_bytes}
 use Rattle.definitions.specs.Synthesis.{synthesis}
 use Rattle.definitions.specs.Answer.{most_rows, most_row_bytes, overwrite}
-use Rattle.ordering.specs.declared.Parents.{Parents}
-use Rattle.own_associates.specs.declared.Location.{Location}
+use Rattle.order_form.specs.declared.Parents.{Parents}
+use Rattle.synth_own.specs.declared.Location.{Location}
 use Rattle.catalogue.specs.declared.Catalogue.{Catalogue}
-use Rattle.held_map.specs.HeldMap.{HeldMap}
+use Rattle.synth_map.specs.HeldMap.{HeldMap}
 use Rattle.synth_classes.specs.Known.{Known}
 use Rattle.emitting.specs.Emitting as emitting
 use Rattle.emitting.specs.Emitting.{State}

@@ -7,18 +7,18 @@ ghost use Rattle.bits.specs.Reading.{Addressable};
 ghost use Rattle.definitions.specs.Bits.{bits_of};
 ghost use Rattle.definitions.specs.Records.{Sheet};
 ghost use Rattle.definitions.specs.Answer.{most_row_bytes};
-ghost use Rattle.handing.specs.Handing.{Ready};
+ghost use Rattle.synth_handing.specs.Handing.{Ready};
 ghost use Rattle.synthesis.specs.Playing.{Flagged, Receives, Turn, Plays, AllReady, AllPlayed};
 ghost use Rattle.synthesis.specs.Synthesized.{Synthesizes, Synthesized};
 
 use catalogue::Catalogue;
-use dedup::Inherited;
 use emitting::{Report, Writer};
-use hearing::Flags;
-use ordering::Parents;
-use own_associates::Location;
-use store::Saved;
-use visiting::Trail;
+use order_form::Parents;
+use synth_dedup::Inherited;
+use synth_hearing::Flags;
+use synth_own::Location;
+use synth_store::Saved;
+use synth_visiting::Trail;
 
 // The tables of a map, lent: the sheet, its catalogue, its order, and where the annotations of each type stand in the sheet.
 #[derive(Clone, Copy)]
@@ -47,25 +47,32 @@ fn receive(m: Tables, store: &mut [Saved; 64], t: usize, flags: Flags) -> Inheri
     ensures { Receives m.entry.order.now (bits_of m.entry.sheet.now) m.entry.notes.now store.old t flags store.new result }
 {
     if flags.all {
-        return handing::keep_inherited(m.sheet, m.order, m.notes, store, t);
+        return synth_handing::keep_inherited(m.sheet, m.order, m.notes, store, t);
     }
-    let got = handing::gather(m.sheet, m.order, m.notes, store, t, flags.row);
-    handing::keep_inherited(m.sheet, m.order, m.notes, store, t);
+    let got = synth_handing::gather(m.sheet, m.order, m.notes, store, t, flags.row);
+    synth_handing::keep_inherited(m.sheet, m.order, m.notes, store, t);
     got
 }
 
 // A type takes what its parents hand on and is interpreted; its parents were, in the loop that calls this and not by recursion.
-// The types whose call succeeded, as bits.
+// The types whose call succeeded, as bits. `inline(never)`: as in `synth_dedup`.
+#[inline(never)]
 fn inherit_annotations(m: Tables, store: &mut [Saved; 64], out: &mut Writer<'_>, v: Visit) -> u64
     requires { Turn m.catalogue.now (bits_of m.sheet.now) m.notes.now m.order.now store.old v.place }
     ensures { Plays m.entry.catalogue.now (bits_of m.entry.sheet.now) m.entry.notes.now m.entry.order.now store.old out.old v store.new out.new result }
 {
     let place = v.place;
-    let flags = hearing::flags_of(m.order, place, v.fresh, v.ok);
+    let flags = synth_hearing::flags_of(m.order, place, v.fresh, v.ok);
     let got = receive(m, store, place, flags);
-    let own = own_associates::own_associates(m.sheet, m.notes[place]);
-    let clean = interpreting::interpret_inherited_annotations(m.catalogue, place, own, got, out);
-    hearing::with_ok(v.ok, place, flags.all, clean)
+    let own = synth_own::own_associates(m.sheet, m.notes[place]);
+    let clean = synth_interpreting::interpret_inherited_annotations(
+        m.catalogue,
+        place,
+        &own,
+        &got,
+        out,
+    );
+    synth_hearing::with_ok(v.ok, place, flags.all, clean)
 }
 
 // The types in the order in which they are reached. One past the limit what is written stays as it is, so that no type more is
@@ -110,7 +117,7 @@ pub fn apply_associate_annotations(
     requires most_row_bytes_in_bounds { most_row_bytes ≤ length diagnosis.old }
     ensures { Synthesized t.now (bits_of s.now) notes.now l.now diagnosis.old diagnosis.new result.rows result.more }
 {
-    let trail = visiting::trail_of(l);
+    let trail = synth_visiting::trail_of(l);
     let tables = Tables {
         sheet: s,
         catalogue: t,

@@ -1,7 +1,7 @@
 use native.Mathlib.Omega.{arith}
 use Rattle.std.proofs.Common.{sym, ap, ◌∙◌}
 use Rattle.definitions.specs.Bits.{bits_of}
-use Rattle.records.specs.Kinds.{number_of}
+use Rattle.sheet_records.specs.Kinds.{number_of}
 use Rattle.item_notes.specs.NoteLaws.{room, names_at, names-fit, rows_fit, listed, kind-known, one-of, listing-kind, inherit-names, inherit-room, skipped_names, word-room, skipped_word, skipped_none}
 use Rattle.item_notes.proofs.with_annotation.Goals as goal
 

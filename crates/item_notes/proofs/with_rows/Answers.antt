@@ -1,7 +1,7 @@
 use native.Mathlib.Omega.{arith}
 use Prim.Native.Nat.{◌+◌, ◌*◌, ◌/◌, ◌%◌, ◌^◌, ◌≤◌}
 use Rattle.definitions.specs.Bits.{bits_of}
-use Rattle.records.specs.Kinds.{number_of}
+use Rattle.sheet_records.specs.Kinds.{number_of}
 use Rattle.item_notes.specs.NoteLaws.{room, rows_start, rows-there, rows_more, rows_all, peek-small}
 use Rattle.item_notes.proofs.with_rows.Goals as goal
 use Rattle.item_notes.proofs.with_rows.Goals.{After-with_row-out}

@@ -1,5 +1,5 @@
 use Rattle.definitions.specs.Bits.{bits_of}
-use Rattle.records.specs.Kinds.{number_of}
+use Rattle.sheet_records.specs.Kinds.{number_of}
 use Rattle.item_notes.specs.NoteLaws.{RowsTo}
 use Rattle.item_notes.proofs.with_rows.Given as goal
 

@@ -1,7 +1,7 @@
 use Rattle.std.proofs.Common.{refl, ◌∙◌, sym, ◌≡◌, true, false, rules, tests, arith}
 use Rattle.std.proofs.lemmas.Iterator.{cases_from_any, YieldsList-from_range}
 use Rattle.lists.specs.Lists.{all}
-use Rattle.ordering.specs.Reading.{listed, self_in}
+use Rattle.order_form.specs.Reading.{listed, self_in}
 use Rattle.order_placed.specs.PlacingLaws.{first-is}
 use Rattle.order_placed.proofs.RangeLaws.{any_range}
 use Rattle.order_placed.proofs.first_places.Goals as goal

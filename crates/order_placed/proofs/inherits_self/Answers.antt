@@ -1,9 +1,9 @@
 use Rattle.std.proofs.Common.{refl, List, ◌≡◌, true, false, rules, tests, arith}
 use Rattle.std.proofs.lemmas.Iterator.{cases_from_any, YieldsList-from_range}
 use Rattle.lists.specs.Lists.{any}
-use Rattle.ordering.specs.Reading.{listed, self_in}
-use Rattle.ordering.specs.declared.Parent.{Parent}
-use Rattle.ordering.specs.Rounds.{lists_self}
+use Rattle.order_form.specs.Reading.{listed, self_in}
+use Rattle.order_form.specs.declared.Parent.{Parent}
+use Rattle.order_form.specs.Rounds.{lists_self}
 use Rattle.order_placed.proofs.RangeLaws.{any_range}
 use Rattle.order_placed.proofs.inherits_self.Goals as goal
 

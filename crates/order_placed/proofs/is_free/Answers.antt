@@ -1,6 +1,6 @@
 use Rattle.std.proofs.Common.{refl, ◌≡◌, true, false, rules, tests, arith}
 use Rattle.std.proofs.lemmas.Iterator.{cases_from_all, YieldsList-from_range}
-use Rattle.ordering.specs.Reading.{parent_at, listed}
+use Rattle.order_form.specs.Reading.{parent_at, listed}
 use Rattle.order_placed.specs.Placing.{settled_in, free_in}
 use Rattle.order_placed.proofs.RangeLaws.{all_range}
 use Rattle.order_placed.proofs.is_free.Goals as goal

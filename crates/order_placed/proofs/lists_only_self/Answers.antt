@@ -1,6 +1,6 @@
 use Rattle.std.proofs.Common.{refl, ◌≡◌, true, false, rules, tests, arith}
 use Rattle.std.proofs.lemmas.Iterator.{cases_from_all, YieldsList-from_range}
-use Rattle.ordering.specs.Reading.{parent_at, listed, self_in}
+use Rattle.order_form.specs.Reading.{parent_at, listed, self_in}
 use Rattle.order_placed.proofs.RangeLaws.{all_range}
 use Rattle.order_placed.proofs.lists_only_self.Goals as goal
 

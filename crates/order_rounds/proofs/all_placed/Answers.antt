@@ -3,7 +3,7 @@ use Prim.Native.Nat.{◌-◌}
 use native.Mathlib.Omega.{arith}
 use borrow.Author.Tests.{eq-eqb, ne_eqb}
 use Rattle.bitsets.specs.WalkLaws.{all-failed, all-passed, all_end}
-use Rattle.ordering.specs.Lists.{elem}
+use Rattle.order_form.specs.Lists.{elem}
 use Rattle.order_rounds.specs.Rounds.{all_listed_in}
 use Rattle.order_rounds.specs.StepLaws.{elem-none, elem-there}
 use Rattle.order_rounds.proofs.all_placed.Goals as goal

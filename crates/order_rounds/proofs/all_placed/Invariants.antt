@@ -3,7 +3,7 @@ use Prim.Native.Nat.{ℕ, ◌≤◌, ◌<◌}
 use lib.ListN.{length, get_or}
 use Rattle.lists.specs.Lists.{all}
 use Rattle.bitsets.specs.Bitsets.{members}
-use Rattle.ordering.specs.Lists.{elem}
+use Rattle.order_form.specs.Lists.{elem}
 use Rattle.order_rounds.proofs.all_placed.Given as goal
 
 abbrev pub invariant-loop-j : goal.invariant-loop-j

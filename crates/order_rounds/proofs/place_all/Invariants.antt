@@ -1,6 +1,6 @@
 use Prim.Native.Nat.{ℕ, ◌-◌, ◌^◌, ◌≤◌, ◌<◌}
 use Rattle.bounded.specs.Items.{items_of}
-use Rattle.ordering.specs.declared.Parents.{Parents}
+use Rattle.order_form.specs.declared.Parents.{Parents}
 use Rattle.order_rounds.specs.Rounds.{SetsFor}
 use Rattle.order_rounds.specs.StageLaws.{Stage}
 use Rattle.order_rounds.proofs.place_all.Given as goal

@@ -1,7 +1,7 @@
 use Rattle.std.proofs.Common.{sym, ap}
 use Rattle.fields.specs.FieldLaws.{err_was}
-use Rattle.records.specs.Annotations.{rows_for}
-use Rattle.records.specs.AnnotationLaws.{rows_nothing, rows_names}
+use Rattle.sheet_records.specs.Annotations.{rows_for}
+use Rattle.sheet_records.specs.AnnotationLaws.{rows_nothing, rows_names}
 use Rattle.sheet_notes.specs.Notes.{forget}
 use Rattle.sheet_notes.specs.NoteLaws.{word-steps, tag-steps}
 use Rattle.sheet_notes.proofs.skip_rows.Goals as goal

@@ -1,9 +1,9 @@
 use Rattle.sheet_within.specs.PlainLaws.{none-there, no-associate, other-there, associate-there, nested-there, each-there}
-use Rattle.bits.specs.NumberLaws.{length-bits_of}
+use Rattle.bits.specs.NumberLaws.{length-bits_of, num-lt}
 use Rattle.definitions.specs.Bits.{bits_of}
-use Rattle.records.specs.Kinds.{number_of}
+use Rattle.sheet_records.specs.Kinds.{number_of}
 use Rattle.std.proofs.Common.{◌≡◌, sym, ap, ◌∙◌, inl, inr}
-use lib.ListN.{length}
+use lib.ListN.{length, drop}
 use Prim.Native.Nat.{◌+◌, ◌/◌, ◌%◌, ◌<◌, ◌≤◌}
 use native.Mathlib.Omega.{arith}
 use Rattle.sheet_within.proofs.is_plain_in.Goals as goal
@@ -17,6 +17,11 @@ returns-then-w-lt128 c =
     let w = c.window-w in
     let l : a.at + 11 ≤ length bs = omega (arith, length-bits_of a.s.bytes.now, s.requires) in
     none-there a.s.words bs a.at w.result l w.ensures a.single c.if-w-lt128.true
+
+pub is_plain_each-requires : goal.is_plain_each-requires
+is_plain_each-requires c =
+    let a = c.args in
+    omega (arith, c.window-w.ensures, num-lt 11 (drop a.at (bits_of a.s.bytes.now)))
 
 -- src/lib.rt:183:9
 pub returns-then-w-ge256 : goal.returns-then-w-ge256

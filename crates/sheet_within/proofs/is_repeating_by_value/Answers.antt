@@ -1,7 +1,7 @@
 use mathlib.Core.Path.{ap, ◌∙◌}
 use lib.ListN.{drop}
 use Rattle.definitions.specs.Bits.{bits_of}
-use Rattle.repeats.specs.Repeats.{repeats_in}
+use Rattle.sheet_same.specs.Repeats.{repeats_in}
 use Rattle.sheet_within.specs.WithinLaws.{by_value}
 use Rattle.sheet_within.proofs.is_repeating_by_value.Goals as goal
 

@@ -1,5 +1,5 @@
 use Rattle.std.proofs.Common.{rules, ◌≡◌}
-use Rattle.visiting.specs.Ranks.{orderly}
+use Rattle.synth_visiting.specs.Ranks.{orderly}
 use Rattle.synthesis.specs.SynthesisLaws.{synthesized-by}
 use Rattle.synthesis.proofs.apply_associate_annotations.Goals as goal
 

@@ -4,9 +4,9 @@ use Prim.Native.Nat.{ℕ, ◌<◌}
 use native.Mathlib.Omega.{arith}
 use lib.ListN.{length, get_or, take}
 use Rattle.std.proofs.Common.{get_or-take, length-take-le}
-use Rattle.visiting.specs.declared.Arrival.{Arrival}
-use Rattle.visiting.specs.declared.Trail.{Trail}
-use Rattle.visiting.specs.Trails.{zero_arrival}
+use Rattle.synth_visiting.specs.declared.Arrival.{Arrival}
+use Rattle.synth_visiting.specs.declared.Trail.{Trail}
+use Rattle.synth_visiting.specs.Trails.{zero_arrival}
 use Rattle.synthesis.specs.AllLaws.{played-none, played-more, played-full, turn}
 use Rattle.synthesis.proofs.play_all.Goals as goal
 

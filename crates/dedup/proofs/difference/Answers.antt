@@ -1,6 +1,0 @@
-use Rattle.dedup.specs.Entries.{diff}
-use Rattle.dedup.proofs.difference.Goals as goal
-
-pub returns : goal.returns
-unfolding diff
-returns c = rw c.left_words-words.ensures

@@ -1,9 +1,0 @@
-use Rattle.std.proofs.Common.{ap, replicate, refl}
-use Rattle.rows.specs.declared.Row.{Row}
-use Rattle.records.specs.declared.Kind.TheVariants.{MakeList}
-use Rattle.dedup.specs.Entries.{entries_of}
-use Rattle.dedup.proofs.no_entries.Goals as goal
-
-pub returns : goal.returns
-unfolding entries_of
-returns c = (refl, refl, ap (λ (r : Row). replicate 201 (record { kind = MakeList; words = r; parents = 0 })) c.empty_row.ensures)

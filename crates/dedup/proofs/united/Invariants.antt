@@ -1,7 +1,0 @@
-use mathlib.Core.Path.{◌≡◌}
-use lib.ListN.{length}
-use Rattle.dedup.specs.JoinLaws.{Upto}
-use Rattle.dedup.proofs.united.Given as goal
-
-abbrev pub invariant-loop-w : goal.invariant-loop-w
-invariant-loop-w l = (length l.out ≡ 200) × Upto l.doms l.y-items l.out l.w

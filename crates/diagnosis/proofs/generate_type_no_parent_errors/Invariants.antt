@@ -1,7 +1,0 @@
-use Rattle.diagnosis.specs.Emit.{Emits}
-use Rattle.diagnosis.specs.Walk.{before}
-use Rattle.diagnosis.proofs.generate_type_no_parent_errors.Given as goal
-
--- The rows of the types passed that are not placed have gone out.
-abbrev pub invariant-loop-t : goal.invariant-loop-t
-invariant-loop-t l = Emits l.initial.out l.out (before l.l l.placed l.t)

@@ -1,7 +1,0 @@
-use Rattle.std.proofs.Common.{rules}
-use Rattle.emitting.specs.Emitting as emitting
-use Rattle.diagnosis.proofs.put_parent_row.Goals as goal
-
-pub returns : goal.returns
-unfolding emitting.emit
-returns c = search rules

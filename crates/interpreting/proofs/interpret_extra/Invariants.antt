@@ -1,9 +1,0 @@
-use lib.ListN.{take}
-use Rattle.dedup.specs.Reading.{read_all, table_of}
-use Rattle.interpreting.specs.Annotations.{Added}
-use Rattle.interpreting.specs.InheritedLaws.{total}
-use Rattle.interpreting.proofs.interpret_extra.Given as goal
-
-abbrev pub invariant-loop-e : goal.invariant-loop-e
-invariant-loop-e l =
-    Added l.t l.place (λ ns. read_all ns (table_of l.h.doms) (take l.e-index l.e-items)) (total (take l.e-index l.e-items)) l.initial.p l.initial.out l.p l.out

@@ -1,5 +1,0 @@
-use Rattle.visiting.specs.Going.{Trying}
-use Rattle.visiting.proofs.trail_of.Given as goal
-
-abbrev pub invariant-loop-t : goal.invariant-loop-t
-invariant-loop-t l = Trying l.l l.t l.trail
