@@ -13,6 +13,7 @@ pub mod Making
 pub mod Synthesis
 pub mod Items
 pub mod Packing
+pub mod SoFar
 pub mod Answer
 pub mod Legal
 pub mod LegalSchedule

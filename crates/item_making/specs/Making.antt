@@ -1,5 +1,5 @@
 -- What is made for a type and a word, as the catalogue has it.
-use Rattle.std.specs.Prelude.{Bool, true, false, cond, ◌&&◌, List, [], ◌∷◌, ◌++◌, map, ◌≡◌, ℕ, ◌+◌, ◌≤◌, ◌<◌}
+use Rattle.std.specs.Prelude.{Bool, true, false, ⊤, cond, ◌&&◌, List, [], ◌∷◌, ◌++◌, map, ◌≡◌, ℕ, ◌+◌, ◌≤◌, ◌<◌}
 use Rattle.std.specs.Int.Bits.{bit_and, bit_xor}
 use Rattle.lists.specs.Lists.{all, each}
 use Rattle.definitions.specs.Bits.{odd, to_bits}
@@ -12,6 +12,9 @@ use Rattle.bitsets.specs.Bitsets.{members, Rest}
 use Rattle.catalogue.specs.Layout.{key_at, head_at, marks_at, mark_width, mark_count, extension_count_at, second_at}
 use Rattle.catalogue.specs.Catalogue.{name_of_key, virtual_head, parents_in}
 use Rattle.catalogue.specs.declared.Catalogue.{Catalogue}
+use Rattle.item_fields.specs.Fields.{line_bits}
+use Rattle.item_making.specs.declared.Item.{Item}
+use Rattle.item_making.specs.declared.Item.TheVariants.{Synthesized, Extension}
 use Rattle.item_making.specs.declared.Making.{Making}
 use Rattle.item_making.specs.declared.Gathered.{Gathered}
 
@@ -117,6 +120,18 @@ making_bits t a word parents cs =
 
 unfoldable pub made_bits : Catalogue → ℕ → Making → List Bool
 made_bits t a m = making_bits t a m.word (parents_of t m) (classes_of t m.classes)
+
+-- ---- an item
+
+-- What is asked of one: the records of a making are those of the catalogue.
+abbrev pub Listable : Catalogue → Item → Type 0
+Listable t (Synthesized m) = Recorded t m.records
+Listable t (Extension word) = ⊤
+
+-- The bits of an item of the type at a place (FORMAT 6.2, 6.3).
+abbrev pub item_in : Catalogue → ℕ → Item → List Bool
+item_in t a (Synthesized m) = made_bits t a m
+item_in t a (Extension word) = line_bits (key_at t a) (head_at t a) word
 
 -- ---- a making of one class
 

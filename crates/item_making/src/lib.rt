@@ -1,5 +1,5 @@
-// What is made for a type and a word, out of the catalogue, added to a pen: a synthesized resource (FORMAT 6.2) and an extension
-// line (FORMAT 6.3).
+// The items of a schedule, out of the catalogue, added to a pen: a synthesized resource (FORMAT 6.2) or an extension line (FORMAT 6.3).
+// `add_item` is the one step by which a schedule grows.
 #![tactic(auto)]
 
 ghost use Rattle.std.specs.Prelude.{true, [], ◌∷◌, ◌++◌, ◌≡◌, ◌+◌, ◌*◌, ◌%◌, ◌≤◌, ◌<◌, length};
@@ -9,9 +9,10 @@ ghost use Rattle.definitions.specs.Packing.{parent_bits};
 ghost use Rattle.catalogue.specs.Layout.{key_at, head_at, mark_count, extension_count_at};
 ghost use Rattle.bitsets.specs.Bitsets.{members};
 ghost use Rattle.item_pen.specs.Pen.{field_bits, Holds, RoomFor, Adds};
+ghost use Rattle.item_pen.specs.SoFar.{Grows};
 ghost use Rattle.item_fields.specs.Fields.{line_bits};
 ghost use Rattle.item_making.specs.Making.{each_of, classes_of, marks_in, Recorded, added, record_bits, first_bits, marks_bits, Gathers};
-ghost use Rattle.item_making.specs.Making.{all_marks_bits, GathersAll, parents_of, made_bits, others_bits, behind_bits, tail_bits, Alone};
+ghost use Rattle.item_making.specs.Making.{Listable, item_in, all_marks_bits, GathersAll, parents_of, made_bits, others_bits, behind_bits, tail_bits, Alone};
 
 use catalogue::Catalogue;
 use item_pen::{Field, Pen};
@@ -29,6 +30,13 @@ pub struct Making {
     // Whether a first parent is P.r, for a type P, or the type itself. One place asks it, and only so: an enum of two cases would
     // be the same test.
     pub inherited: bool,
+}
+
+// An item: what is made, or the extension line of a word.
+#[derive(Clone, Copy)]
+pub enum Item {
+    Synthesized(Making),
+    Extension(u64),
 }
 
 // How many marks some classes have, and, in the last bit of a number, whether all are virtual: heads and items have it as a bit,
@@ -322,7 +330,7 @@ fn width_of(t: &Catalogue, a: usize, m: Making) -> usize
 
 // A synthesized resource T.r, after the Rust's function of that name (FORMAT 4, 6.2). With the pen up its bits are counted and
 // not made.
-pub fn create_synthetic_resource(pen: &mut Pen<'_>, t: &Catalogue, a: usize, m: Making)
+fn create_synthetic_resource(pen: &mut Pen<'_>, t: &Catalogue, a: usize, m: Making)
     requires a_bound { (a < 64) × Recorded t.now m.records }
     requires room_for { RoomFor pen.old 1 (made_bits t.now a m) }
     ensures { Adds pen.old pen.new 1 (made_bits t.now a m) }
@@ -336,11 +344,25 @@ pub fn create_synthetic_resource(pen: &mut Pen<'_>, t: &Catalogue, a: usize, m: 
 }
 
 // The extension line of a type and a word (FORMAT 4.8, 6.3).
-pub fn extension_line(pen: &mut Pen<'_>, t: &Catalogue, a: usize, word: u64)
+fn extension_line(pen: &mut Pen<'_>, t: &Catalogue, a: usize, word: u64)
     requires a_bound { a < 64 }
     requires room_for { RoomFor pen.old 1 (line_bits (key_at t.now a) (head_at t.now a) word) }
     ensures { Adds pen.old pen.new 1 (line_bits (key_at t.now a) (head_at t.now a) word) }
 {
     pen.count_item();
     pen.add(item_fields::line_field(t.keys[a], t.heads[a], word));
+}
+
+// One item more: whatever schedule stood so far, it stands with this item behind it, and the pen's number is that of its bits (FORMAT
+// 6.4). Each item of a schedule is added here. In line, since a caller knows which of the two its item is.
+#[inline(always)]
+pub fn add_item(pen: &mut Pen<'_>, t: &Catalogue, a: usize, item: Item)
+    requires a_bound { (a < 64) × Listable t.now item }
+    requires room_for { RoomFor pen.old 1 (item_in t.now a item) }
+    ensures { Grows pen.old pen.new (item_in t.now a item ∷ []) }
+{
+    match item {
+        Item::Synthesized(m) => create_synthetic_resource(pen, t, a, m),
+        Item::Extension(word) => extension_line(pen, t, a, word),
+    }
 }

@@ -71,15 +71,12 @@ flushed held f = cond (ltb 56 (held.width + f.width)) (field_bits held) []
 pub record TakesIn (held f r : Field) : Type 0 where
   pub bits : flushed held f ++ field_bits r ≡ field_bits held ++ field_bits f
 
--- ---- lists of items
+-- ---- items
 
 -- The bits of the items, each given by its own.
 abbrev pub joined : List (List Bool) → List Bool
 joined xs = each (λ (x : List Bool). x) xs
 
--- What adding the items asks; they were added.
+-- What adding the items asks.
 abbrev pub RoomForAll : Pen → List (List Bool) → Type 0
 RoomForAll P xs = RoomFor P (length xs) (joined xs)
-
-abbrev pub AddsAll : Pen → Pen → List (List Bool) → Type 0
-AddsAll P Q xs = Adds P Q (length xs) (joined xs)

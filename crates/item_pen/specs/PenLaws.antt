@@ -1,17 +1,16 @@
 -- Laws of fields and of the pen.
 use Rattle.std.specs.Borrow.{MutBor}
-use Rattle.std.specs.Prelude.{Bool, true, false, List, [], ◌∷◌, ◌++◌, ◌≡◌, refl, ℕ, ◌+◌, ◌*◌, ◌-◌, ◌/◌, ◌%◌, ◌^◌, ◌≤◌, ◌<◌, length}
+use Rattle.std.specs.Prelude.{Bool, true, false, List, [], ◌++◌, ◌≡◌, refl, ℕ, ◌+◌, ◌*◌, ◌-◌, ◌/◌, ◌%◌, ◌^◌, ◌≤◌, ◌<◌, length}
 use Rattle.std.proofs.Common.{append_assoc, append-nil, sym, ap, ap₂, ◌∙◌, subst, mod-lt, one-mul, arith, lt-ltb, le-ltb, length-append}
 use Rattle.std.proofs.Math.Arith.{digits_lt}
 use Rattle.std.proofs.Math.Pow
-use Rattle.lists.specs.Appending.{each_append}
 use Rattle.definitions.specs.Bits.{to_bits}
 use Rattle.bits.specs.Writing.{put, Wrote, Left}
 use Rattle.bits.specs.NumberLaws.{length-to_bits, to_bits-split, to_bits-low}
 use Rattle.bits.specs.WriteLaws.{put-append, length-put, left_less, left-none}
 use Rattle.item_pen.specs.declared.field.Field.{Field}
 use Rattle.item_pen.specs.declared.Pen.{Pen}
-use Rattle.item_pen.specs.Pen.{field_bits, Holds, Room, Penned, Begins, RoomFor, Adds, joined, RoomForAll, AddsAll, flushed}
+use Rattle.item_pen.specs.Pen.{field_bits, Holds, Room, Penned, Begins, RoomFor, Adds, flushed}
 
 -- ---- fields
 
@@ -153,64 +152,6 @@ pending-none {P} {Q} {n} {m} {bs} {rest} z e p =
     let s : p.count ≡ n = omega (arith, p.sum) in
     let w : p.done ≡ bs = sym (append-nil p.done) ∙ ap (λ (l : List Bool). p.done ++ l) (sym e) ∙ p.whole in
     subst (λ (k : ℕ). Adds P Q k bs) s (adds-as w p.adds)
-
--- ---- lists of items
-
-joined-append : (xs ys : List (List Bool)) → joined (xs ++ ys) ≡ joined xs ++ joined ys
-joined-append xs ys = each_append (λ (x : List Bool). x) xs ys
-
--- one item
-pub adds_one : {P Q : Pen} {x : List Bool} → Adds P Q 1 x → AddsAll P Q (x ∷ [])
-adds_one {P} {Q} {x} w = adds-as (sym (append-nil x)) w
-
-pub room-one : {P : Pen} (x : List Bool) → RoomForAll P (x ∷ []) → RoomFor P 1 x
-room-one x r = room_as (append-nil x) r
-
--- the items by another name
-pub all-as : {P Q : Pen} (xs ys : List (List Bool)) → xs ≡ ys → AddsAll P Q xs → AddsAll P Q ys
-all-as {P} {Q} xs ys e w = subst (AddsAll P Q) e w
-
-pub room-all-as : {P : Pen} (xs ys : List (List Bool)) → xs ≡ ys → RoomForAll P xs → RoomForAll P ys
-room-all-as {P} xs ys e w = subst (RoomForAll P) e w
-
--- some items and then others
-pub all_then : {P Q R : Pen} (xs ys : List (List Bool)) → AddsAll P Q xs → AddsAll Q R ys → AddsAll P R (xs ++ ys)
-all_then {P} {Q} {R} xs ys v w =
-    subst (λ (k : ℕ). Adds P R k (joined (xs ++ ys))) (sym (length-append xs ys)) (adds-as (sym (joined-append xs ys)) (adds_then v w))
-
-module _ {P : Pen} (xs ys : List (List Bool)) (r : RoomForAll P (xs ++ ys)) where
-  parted : RoomFor P (length xs + length ys) (joined xs ++ joined ys)
-  parted = subst (λ (k : ℕ). RoomFor P k (joined xs ++ joined ys)) (length-append xs ys) (room_as (joined-append xs ys) r)
-
-  pub all_head : RoomForAll P xs
-  all_head = room-head (length xs) (length ys) (joined xs) (joined ys) parted
-
-  pub all_tail : {Q : Pen} → AddsAll P Q xs → RoomForAll Q ys
-  all_tail w = room-tail (length xs) (length ys) (joined xs) (joined ys) w parted
-
--- what is left to add of the items xs
-abbrev pub PendingAll : Pen → List (List Bool) → Pen → List (List Bool) → Type 0
-PendingAll P xs Q rest = Pending P (length xs) (joined xs) Q (length rest) (joined rest)
-
--- all of them, by another name
-pub all_start : {P : Pen} (zs rest : List (List Bool)) → rest ≡ zs → PendingAll P zs P rest
-all_start {P} zs rest e = subst (PendingAll P zs P) (sym e) (pending-all P (length zs) (joined zs))
-
-module _ {rest : List (List Bool)} (zs xs ys : List (List Bool)) (e : rest ≡ xs ++ ys) where
-  bits-part : joined rest ≡ joined xs ++ joined ys
-  bits-part = ap joined e ∙ joined-append xs ys
-
-  count-part : length rest ≡ length xs + length ys
-  count-part = ap length e ∙ length-append xs ys
-
-  pub all_room : {P Q : Pen} → PendingAll P zs Q rest → RoomForAll P zs → RoomForAll Q xs
-  all_room p r = pending-room (length xs) (length ys) (joined xs) (joined ys) bits-part count-part p r
-
-  pub all-less : {P Q R : Pen} → PendingAll P zs Q rest → AddsAll Q R xs → PendingAll P zs R ys
-  all-less p w = pending-less (length xs) (length ys) (joined xs) (joined ys) bits-part count-part p w
-
-pub all_none : (zs : List (List Bool)) {rest : List (List Bool)} {P Q : Pen} → rest ≡ [] → PendingAll P zs Q rest → AddsAll P Q zs
-all_none zs e p = pending-none (ap length e) (ap joined e) p
 
 -- ---- a pen that has put nothing
 

@@ -1,13 +1,14 @@
 -- What the passes write is the schedule of the sheet.
 use Rattle.std.proofs.Math.Bool.{Bool}
-use Rattle.std.specs.Prelude.{true, false, ◌≡◌, ℕ, ◌+◌, ◌/◌, ◌≤◌, ◌<◌, replicate, Ok, Err}
-use mathlib.Core.List.{List, ◌++◌, map, append_assoc}
+use Rattle.std.specs.Prelude.{true, false, ◌≡◌, ℕ, ◌+◌, ◌/◌, ◌≤◌, ◌<◌, sum_by, take, replicate, Ok, Err}
+use mathlib.Core.List.{List, [], ◌++◌, map, append_assoc, append-nil}
 use Rattle.std.proofs.Math.Path.{refl, sym, ap, ap₂}
 use Rattle.std.proofs.Common.{◌∙◌, arith, length-append}
 use Rattle.std.proofs.Math.ListN.{length}
-use Rattle.std.proofs.lemmas.List.{length-map}
+use Rattle.std.proofs.lemmas.List.{length-map, take-map}
 use Rattle.lists.specs.Lists.{each}
 use Rattle.lists.specs.Tests.{never}
+use Rattle.lists.specs.Sums.{each_long}
 use Rattle.lists.specs.Places.{zero-at}
 use Rattle.lists.specs.Appending.{each_map}
 use Rattle.lists.specs.Tabulating.{length-tabulate}
@@ -16,14 +17,15 @@ use Rattle.definitions.specs.Records.{Name, Sheet}
 use Rattle.definitions.specs.Map.{type_map_of}
 use Rattle.definitions.specs.Order.{organize_type_map}
 use Rattle.definitions.specs.Items.{items_of}
-use Rattle.definitions.specs.Packing.{name_bits, item_bits, order_bits, schedule_bits}
+use Rattle.definitions.specs.Packing.{name_bits, item_bits, order_bits, item_count_bits, schedule_bits}
+use Rattle.definitions.specs.SoFar.{bits_so_far}
 use Rattle.definitions.specs.Answer.{schedule, schedule_of}
 use Rattle.bits.specs.NumberLaws.{length-to_bits}
 use Rattle.bits.specs.Writing.{put, Wrote}
 use Rattle.law_lines.specs.Statements.{Readable, line_map, any_refused}
-use Rattle.law_lines.specs.Within.{Within}
+use Rattle.law_lines.specs.Within.{Within, most_schedule_bits}
 use Rattle.law_lines.specs.Bounds.{items-at-most}
-use Rattle.law_lines.specs.Size.{schedule-at-most}
+use Rattle.law_lines.specs.SoFar.{so_far-is-length, map-so_far-at-most}
 use Rattle.catalogue.specs.Catalogue.{Catalogued}
 use Rattle.catalogue.specs.declared.Catalogue.{Catalogue}
 use Rattle.law_classes.proofs.ItemLaws.{items-by-sets}
@@ -31,7 +33,9 @@ use Rattle.std.specs.Borrow.{MutBor}
 use Rattle.item_pen.specs.declared.field.Field.{Field}
 use Rattle.item_pen.specs.declared.Pen.{Pen}
 use Rattle.item_pen.specs.Pen as pen
-use Rattle.item_pen.specs.Pen.{field_bits, joined, Begins, RoomFor, Adds, RoomForAll, AddsAll}
+use Rattle.item_pen.specs.Pen.{field_bits, joined, Begins, RoomFor, Adds, RoomForAll}
+use Rattle.item_pen.specs.SoFar.{SoFar, Grows}
+use Rattle.item_pen.specs.SoFarLaws.{so-far-front}
 use Rattle.item_pen.specs.PenLaws.{adds_then, adds-as, room_as, room-head, room-tail, room_begun, penned_begun}
 use Rattle.item_writer.specs.Items.{Sound, all_items, Cleared, WordsAre}
 use Rattle.item_writer.proofs.SheetItems.{sound, items-are}
@@ -44,70 +48,82 @@ use Rattle.order_listing.proofs.OrderLaws.{names-are}
 use Rattle.order_listing.specs.Order.{name_of, names_in, names_bits}
 use Rattle.answers.specs.declared.Refusal.TheVariants.{ShortListing}
 use Rattle.item_schedule.specs.declared.Pass.{Pass}
-use Rattle.item_schedule.specs.Schedule.{bits_in, Passable, Passed, Orderly, Schedulable, ListsSchedule}
+use Rattle.item_schedule.specs.Schedule.{front_bits, bits_in, Passable, Passed, Orderly, Schedulable, RunsAlong, ListsSchedule}
 
--- ---- one pass, part by part
+-- ---- what stands in front of the items, part by part
 
-module _ {down : Bool} {lent : MutBor (List ℕ)} {t : Catalogue} {words : List ℕ} {order : Order} {items : ℕ} (h : Passable down lent.now t words order items) {P : Pen} (begun : Begins lent down P) where
-  abbrev m : ℕ
-  m = length (all_items t)
+-- the count of the types, and what is behind it
+abbrev types_bits : Order → List Bool
+types_bits order = to_bits 7 order.types.count
 
-  -- the count of the types, and what is behind it
-  abbrev pub types_bits : List Bool
-  types_bits = to_bits 7 order.types.count
+abbrev behind_types : Catalogue → Order → ℕ → List Bool
+behind_types t order items = names_bits t order ++ to_bits 16 items
 
-  abbrev pub behind_types : List Bool
-  behind_types = names_bits t order ++ (to_bits 16 items ++ joined (all_items t))
+module _ (t : Catalogue) (order : Order) (items : ℕ) {P : Pen} (h : RoomFor P 0 (front_bits t order items)) where
+  whole : RoomFor P (0 + 0) (types_bits order ++ behind_types t order items)
+  unfolding front_bits
+  whole = h
 
-  -- the count of the items, and what is behind it
-  abbrev pub behind_names : List Bool
-  behind_names = to_bits 16 items ++ joined (all_items t)
-
-  abbrev pub Whole : Type 0
-  Whole = RoomFor P (0 + (0 + (0 + m))) (types_bits ++ behind_types)
-
-  pub whole : Whole
-  unfolding bits_in
-  whole = room_begun begun (0 + (0 + (0 + m))) (types_bits ++ behind_types) h.fits h.small (omega (arith, h.few))
-
-  module _ {types : Field} (held₁ : pen.Holds types 7 types_bits) where
+  module _ {types : Field} (held₁ : pen.Holds types 7 (types_bits order)) where
     pub room_for_types : RoomFor P 0 (field_bits types)
-    room_for_types = room_as (sym held₁.bits) (room-head 0 (0 + (0 + m)) types_bits behind_types whole)
+    room_for_types = room_as (sym held₁.bits) (room-head 0 0 (types_bits order) (behind_types t order items) whole)
 
     module _ {P₁ : Pen} (w₁ : Adds P P₁ 0 (field_bits types)) where
-      r₁ : RoomFor P₁ (0 + (0 + m)) behind_types
-      r₁ = room-tail 0 (0 + (0 + m)) types_bits behind_types (adds-as held₁.bits w₁) whole
+      r₁ : RoomFor P₁ (0 + 0) (behind_types t order items)
+      r₁ = room-tail 0 0 (types_bits order) (behind_types t order items) (adds-as held₁.bits w₁) whole
 
       pub room_for_names : RoomFor P₁ 0 (names_bits t order)
-      room_for_names = room-head 0 (0 + m) (names_bits t order) behind_names r₁
+      room_for_names = room-head 0 0 (names_bits t order) (to_bits 16 items) r₁
 
       module _ {P₂ : Pen} (w₂ : Adds P₁ P₂ 0 (names_bits t order)) where
-        r₂ : RoomFor P₂ (0 + m) behind_names
-        r₂ = room-tail 0 (0 + m) (names_bits t order) behind_names w₂ r₁
+        r₂ : RoomFor P₂ 0 (to_bits 16 items)
+        r₂ = room-tail 0 0 (names_bits t order) (to_bits 16 items) w₂ r₁
 
         module _ {count : Field} (held₂ : pen.Holds count 16 (to_bits 16 items)) where
           pub room_for_count : RoomFor P₂ 0 (field_bits count)
-          room_for_count = room_as (sym held₂.bits) (room-head 0 m (to_bits 16 items) (joined (all_items t)) r₂)
+          room_for_count = room_as (sym held₂.bits) r₂
 
-          module _ {P₃ : Pen} (w₃ : Adds P₂ P₃ 0 (field_bits count)) where
-            pub room_for_items : RoomForAll P₃ (all_items t)
-            room_for_items = room-tail 0 m (to_bits 16 items) (joined (all_items t)) (adds-as held₂.bits w₃) r₂
+          pub begun_so_far : {P₃ : Pen} → Adds P₂ P₃ 0 (field_bits count) → SoFar P (front_bits t order items) [] P₃
+          unfolding front_bits
+          begun_so_far w₃ = so-far-front (adds_then (adds-as held₁.bits w₁) (adds_then w₂ (adds-as held₂.bits w₃)))
 
-            module _ {P₄ : Pen} (w₄ : AddsAll P₃ P₄ (all_items t)) where
-              pub added : Adds P P₄ (0 + (0 + (0 + m))) (types_bits ++ behind_types)
-              added = adds_then (adds-as held₁.bits w₁) (adds_then w₂ (adds_then (adds-as held₂.bits w₃) w₄))
+-- ---- one pass
 
-              pub passed : {after : List ℕ} → after ≡ P₄.buf.now → Passed down lent.now after t order items (record { items = P₄.items; bits = P₄.at })
-              unfolding bits_in
-              passed e =
-                  let p = penned_begun begun added in
-                  record { counted = omega (arith, added.items, begun.items); penned = record { next = p.next; holds = e ∙ p.holds } }
+module _ {down : Bool} {lent : MutBor (List ℕ)} {t : Catalogue} {words : List ℕ} {order : Order} {items : ℕ} (h : Passable down lent.now t words order items) {P : Pen} (begun : Begins lent down P) where
+  abbrev front : List Bool
+  front = front_bits t order items
+
+  room : RoomFor P (0 + length (all_items t)) (front ++ joined (all_items t))
+  unfolding bits_in
+  room = room_begun begun (0 + length (all_items t)) (front ++ joined (all_items t)) h.fits h.small (omega (arith, h.few))
+
+  pub room_for_front : RoomFor P 0 front
+  room_for_front = room-head 0 (length (all_items t)) front (joined (all_items t)) room
+
+  module _ {P₁ : Pen} (s : SoFar P front [] P₁) where
+    pub room_for_items : RoomForAll P₁ (all_items t)
+    room_for_items = room-tail 0 (length (all_items t)) front (joined (all_items t)) (adds-as (append-nil front) s.adds) room
+
+    module _ {P₂ : Pen} (g : Grows P₁ P₂ (all_items t)) where
+      -- all items stand
+      whole_so_far : SoFar P front (all_items t) P₂
+      whole_so_far = g.so_far P front [] s
+
+      pub same_slice : P₂.buf.ghost_name ≡ P.buf.ghost_name
+      same_slice = whole_so_far.adds.slice
+
+      pub passed : {after : List ℕ} → after ≡ P₂.buf.now → Passed down lent.now after t order items (record { items = P₂.items; bits = P₂.at })
+      unfolding bits_in
+      passed e =
+          let a = whole_so_far.adds in
+          let p = penned_begun begun a in
+          record { counted = omega (arith, a.items, begun.items); penned = record { next = p.next; holds = e ∙ p.holds } }
 
 -- ---- the numbers of bits
 
 -- they go by the catalogue and the order alone
 pub bits-long : (t : Catalogue) (order : Order) (k l : ℕ) → length (bits_in t order k) ≡ length (bits_in t order l)
-unfolding bits_in
+unfolding bits_in front_bits
 bits-long t order k l = simp (length-append, length-to_bits)
 
 -- ---- the order that was found
@@ -137,13 +153,17 @@ module _ (s : Sheet) (t : Catalogue) (order : Order) (h : Orderly s t order) whe
   items-counted = ap length items-made ∙ length-map (items_of (line_map s)) item_bits
 
   pub bits_are : bits_in t order (length (all_items t)) ≡ schedule_bits (schedule_of schedule (type_map_of s))
-  unfolding bits_in names_bits names_in schedule_bits schedule_of order_bits
+  unfolding bits_in front_bits names_bits names_in schedule_bits schedule_of order_bits
   bits_are =
       let ns = organize_type_map (type_map_of s) in
       let is = items_of (line_map s) in
       let counted : List Bool = to_bits 16 (length is) ++ each item_bits is in
       let e : order.types.count ≡ length ns = sym (length-tabulate (name_of t order.types.items) order.types.count) ∙ ap length h.names in
-      ap₂ (λ (k : ℕ) (b : List Bool). to_bits 7 order.types.count ++ (each name_bits (names_in t order) ++ (to_bits 16 k ++ b))) items-counted items-joined
+      let parts : bits_in t order (length (all_items t)) ≡ to_bits 7 order.types.count ++ (each name_bits (names_in t order) ++ (to_bits 16 (length (all_items t)) ++ joined (all_items t))) =
+      append_assoc (to_bits 7 order.types.count) (each name_bits (names_in t order) ++ to_bits 16 (length (all_items t))) (joined (all_items t))
+      ∙ ap (λ (b : List Bool). to_bits 7 order.types.count ++ b) (append_assoc (each name_bits (names_in t order)) (to_bits 16 (length (all_items t))) (joined (all_items t))) in
+      parts
+      ∙ ap₂ (λ (k : ℕ) (b : List Bool). to_bits 7 order.types.count ++ (each name_bits (names_in t order) ++ (to_bits 16 k ++ b))) items-counted items-joined
       ∙ ap₂ (λ (k : ℕ) (l : List Name). to_bits 7 k ++ (each name_bits l ++ counted)) e h.names
       ∙ sym (append_assoc (to_bits 7 (length ns)) (each name_bits ns) counted)
 
@@ -151,8 +171,41 @@ module _ (s : Sheet) (t : Catalogue) (order : Order) (h : Orderly s t order) whe
   pub as_long : (k : ℕ) → length (bits_in t order k) ≡ length (schedule_bits (schedule_of schedule (type_map_of s)))
   as_long k = bits-long t order k (length (all_items t)) ∙ ap length bits_are
 
-  pub bits_most : (k : ℕ) → length (bits_in t order k) ≤ 200000000
-  bits_most k = omega (arith, as_long k, schedule-at-most s h.readable h.within)
+  pub bits_most : (k : ℕ) → length (bits_in t order k) ≤ most_schedule_bits
+  unfolding schedule_of
+  bits_most k =
+      omega (arith, as_long k, so_far-is-length (organize_type_map (type_map_of s)) (items_of (line_map s)), map-so_far-at-most s h.readable h.within)
+
+  -- what stands in front of the items has as many bits, whatever number stands for that of the items
+  front-long : (k : ℕ) → length (front_bits t order k) ≡ length (order_bits (organize_type_map (type_map_of s))) + item_count_bits
+  unfolding front_bits names_bits names_in order_bits
+  front-long k =
+      let ns = organize_type_map (type_map_of s) in
+      let e : length (each name_bits (names_in t order)) ≡ length (each name_bits ns) = ap (λ (l : List Name). length (each name_bits l)) h.names in
+      omega (
+        arith,
+        e,
+        length-append (to_bits 7 order.types.count) (each name_bits (names_in t order) ++ to_bits 16 k),
+        length-append (each name_bits (names_in t order)) (to_bits 16 k),
+        length-append (to_bits 7 (length ns)) (each name_bits ns),
+        length-to_bits 7 order.types.count,
+        length-to_bits 7 (length ns),
+        length-to_bits 16 k,
+      )
+
+  -- after each item the number is that of the schedule so far
+  pub number-is-so-far : (start P : Pen) (items k : ℕ) → start.at ≡ 0 → SoFar start (front_bits t order items) (take k (all_items t)) P
+      → P.at ≡ bits_so_far (organize_type_map (type_map_of s)) (take k (items_of (line_map s)))
+  unfolding bits_so_far
+  number-is-so-far start P items k z w =
+      let is = items_of (line_map s) in
+      let made : take k (all_items t) ≡ map item_bits (take k is) = ap (take k) items-made ∙ take-map item_bits k is in
+      let sum : sum_by length (take k (all_items t)) ≡ sum_by (λ x. length (item_bits x)) (take k is) =
+      sym (each_long (λ (x : List Bool). x) (take k (all_items t)))
+      ∙ ap (λ (l : List (List Bool)). length (joined l)) made
+      ∙ ap length (each_map (λ (x : List Bool). x) item_bits (take k is))
+      ∙ each_long item_bits (take k is) in
+      omega (arith, w.number, z, front-long items, sum)
 
   passable : (down : Bool) (buf words : List ℕ) (k : ℕ) → WordsAre t words → (down ≡ true → size (length (bits_in t order k)) ≤ length buf) → Passable down buf t words order k
   passable down buf words k w f = record {
@@ -162,6 +215,10 @@ module _ (s : Sheet) (t : Catalogue) (order : Order) (h : Orderly s t order) whe
     small = omega (arith, bits_most k);
     few = omega (arith, items-counted, items-at-most s h.readable h.within);
   }
+
+-- whichever sheet it is
+pub runs_along : (t : Catalogue) (order : Order) → RunsAlong t order
+runs_along t order = record { number = λ s h. number-is-so-far s t order h }
 
 -- what the two passes ask
 module _ {t : Catalogue} {order : Order} (h : Schedulable t order) where
@@ -178,7 +235,7 @@ module _ {t : Catalogue} {order : Order} (h : Schedulable t order) where
       pub to_write : (r.bits + 7) / 8 ≤ length mid → Passable true mid t words order r.items
       to_write l = passable h.sheet t order h.orderly true mid words r.items w (λ d. omega (arith, p.penned.next, bits-long t order 0 r.items))
 
-  pub few_bits : {entry mid : List ℕ} {r : Pass} → Passed false entry mid t order 0 r → r.bits ≤ 200000000
+  pub few_bits : {entry mid : List ℕ} {r : Pass} → Passed false entry mid t order 0 r → r.bits ≤ most_schedule_bits
   few_bits p = omega (arith, p.penned.next, bits_most h.sheet t order h.orderly 0)
 
 -- ---- a listing

@@ -1,7 +1,10 @@
 // The schedule of a map, out of its catalogue and its order. One function counts its bits and writes them (FORMAT 6.1).
 #![tactic(auto)]
 
-ghost use Rattle.item_schedule.specs.Schedule.{Passable, Passed, Schedulable, ListsSchedule};
+ghost use Rattle.std.specs.Prelude.{[]};
+ghost use Rattle.item_pen.specs.Pen.{RoomFor};
+ghost use Rattle.item_pen.specs.SoFar.{SoFar};
+ghost use Rattle.item_schedule.specs.Schedule.{front_bits, Passable, Passed, Schedulable, ListsSchedule};
 
 use answers::{Answer, Refusal};
 use catalogue::Catalogue;
@@ -15,8 +18,20 @@ struct Pass {
     bits: usize,
 }
 
-// Counts the schedule, or writes it from the first bit on: the number of types, their names in order, the number of items, the
-// items. `items` is that number. `down` is a bool, as `Pen` has it.
+// The number of types, their names in order and the number of items, which stand in front of the items: behind them the schedule so
+// far has no item.
+fn add_front(pen: &mut Pen<'_>, t: &Catalogue, order: &Order, items: usize)
+    requires { RoomFor pen.old 0 (front_bits t.now order.now items) }
+    ensures { SoFar pen.old (front_bits t.now order.now items) [] pen.new }
+{
+    let number = order.types.count as u64;
+    pen.add_once(item_pen::number(7, number));
+    order_listing::add_names(pen, t, order);
+    pen.add_once(item_pen::number(16, items as u64));
+}
+
+// Counts the schedule, or writes it from the first bit on: what stands in front of the items, then item by item. `items` is their
+// number. `down` is a bool, as `Pen` has it.
 fn add_all(
     buf: &mut [u8],
     down: bool,
@@ -28,11 +43,8 @@ fn add_all(
     requires { Passable down buf.old t.now words.now order.now items }
     ensures { Passed down buf.old buf.new t.now order.now items result }
 {
-    let number = order.types.count as u64;
     let mut pen = Pen::new(buf, down);
-    pen.add_once(item_pen::number(7, number));
-    order_listing::add_names(&mut pen, t, order);
-    pen.add_once(item_pen::number(16, items as u64));
+    add_front(&mut pen, t, order, items);
     item_writer::add_items(&mut pen, t, words);
     Pass {
         items: pen.items,

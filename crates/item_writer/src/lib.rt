@@ -1,15 +1,17 @@
-// The items of a map, out of its catalogue, added to a pen: of a type and a word, of a type, of all types in name order (FORMAT
-// 5.3).
+// The items of a map, out of its catalogue, added to a pen one by one: of a type and a word, of a type, of all types in name order
+// (FORMAT 5.3). `item_making::add_item` adds each. Every function says by `Grows` that the schedule so far, whatever it was, has its
+// items behind it. The loops over them have one invariant, `Growing`: so far it has those of the items that are not left to add.
 #![tactic(auto)]
 
 ghost use Rattle.std.specs.Prelude.{◌≤◌, ◌<◌, length};
 ghost use Rattle.catalogue.specs.Layout.{parents_at};
-ghost use Rattle.item_pen.specs.Pen.{RoomForAll, AddsAll};
+ghost use Rattle.item_pen.specs.Pen.{RoomForAll};
+ghost use Rattle.item_pen.specs.SoFar.{Grows};
 ghost use Rattle.item_writer.specs.Items.{Sound, PassingIs, CommonIs, WithRecord, RecordsAre, Sited, own_items, inherited_items, word_items, type_items, all_items};
 ghost use Rattle.item_writer.specs.Items.{WordsFill, Cleared, WordsAre};
 
 use catalogue::{Catalogue, Extension};
-use item_making::Making;
+use item_making::{Item, Making};
 use item_pen::Pen;
 
 // A type and a word with a making, and the extension records for both.
@@ -85,11 +87,11 @@ fn records_of(t: &Catalogue, a: usize, word: u64) -> u64
     out
 }
 
-// The own resources of a type and a word, by ascending class (FORMAT 4.3, 5.3).
+// The own resources of a type and a word, by ascending class (FORMAT 4.3, 5.3). The loop has the schedule so far: `Growing`.
 fn add_own(pen: &mut Pen<'_>, t: &Catalogue, site: Site, own: u64)
     requires sited { Sited t.now site }
     requires room_for_all { RoomForAll pen.old (own_items t.now site own) }
-    ensures { AddsAll pen.old pen.new (own_items t.now site own) }
+    ensures { Grows pen.old pen.new (own_items t.now site own) }
 {
     for c in bitsets::members(own) {
         let class = bitsets::with_one(0, c);
@@ -100,7 +102,7 @@ fn add_own(pen: &mut Pen<'_>, t: &Catalogue, site: Site, own: u64)
             classes: class,
             inherited: false,
         };
-        item_making::create_synthetic_resource(pen, t, site.place, m);
+        item_making::add_item(pen, t, site.place, Item::Synthesized(m));
     }
 }
 
@@ -108,7 +110,7 @@ fn add_own(pen: &mut Pen<'_>, t: &Catalogue, site: Site, own: u64)
 fn add_inherited(pen: &mut Pen<'_>, t: &Catalogue, site: Site, mask: u64, common: u64)
     requires sited { Sited t.now site × CommonIs t.now (parents_at t.now site.place) common }
     requires room_for_all { RoomForAll pen.old (inherited_items t.now site mask) }
-    ensures { AddsAll pen.old pen.new (inherited_items t.now site mask) }
+    ensures { Grows pen.old pen.new (inherited_items t.now site mask) }
 {
     let classes = t.above[site.place] & mask;
     if classes == 0 {
@@ -122,14 +124,14 @@ fn add_inherited(pen: &mut Pen<'_>, t: &Catalogue, site: Site, mask: u64, common
         classes,
         inherited: true,
     };
-    item_making::create_synthetic_resource(pen, t, site.place, m);
+    item_making::add_item(pen, t, site.place, Item::Synthesized(m));
 }
 
 // The items of a type and the k-th word: own resources, the inherited one, the extension line (FORMAT 5.3).
 fn add_word(pen: &mut Pen<'_>, t: &Catalogue, a: usize, k: usize, common: u64)
     requires sound { Sound t.now × (a < t.now.count) × (k < t.now.word_count) × CommonIs t.now (parents_at t.now a) common }
     requires room_for_all { RoomForAll pen.old (word_items t.now a k) }
-    ensures { AddsAll pen.old pen.new (word_items t.now a k) }
+    ensures { Grows pen.old pen.new (word_items t.now a k) }
 {
     let word = t.words[k].word;
     let mask = t.words[k].types;
@@ -140,7 +142,7 @@ fn add_word(pen: &mut Pen<'_>, t: &Catalogue, a: usize, k: usize, common: u64)
     };
     add_own(pen, t, site, t.own[a] & mask);
     add_inherited(pen, t, site, mask, common);
-    item_making::extension_line(pen, t, a, word);
+    item_making::add_item(pen, t, a, Item::Extension(word));
 }
 
 // The word k is noted for each type of its mask. `words`, here and below, is a slice: an array would ask for exactly 64 places,
@@ -164,11 +166,12 @@ pub fn fill_words(t: &Catalogue, words: &mut [u64])
     }
 }
 
-// The items of a type: its words with a making, ascending (FORMAT 5.3).
+// The items of a type: its words with a making, ascending (FORMAT 5.3). The loop has the schedule so far, and that the words left are
+// words of the catalogue.
 fn add_type(pen: &mut Pen<'_>, t: &Catalogue, words: &[u64], a: usize)
     requires sound { Sound t.now × (a < t.now.count) × (64 ≤ length words.now) × WordsAre t.now words.now }
     requires room_for_all { RoomForAll pen.old (type_items t.now a) }
-    ensures { AddsAll pen.old pen.new (type_items t.now a) }
+    ensures { Grows pen.old pen.new (type_items t.now a) }
 {
     let common = common_of(t, t.parents[a]);
     let made = t.own[a] | t.above[a];
@@ -178,11 +181,11 @@ fn add_type(pen: &mut Pen<'_>, t: &Catalogue, words: &[u64], a: usize)
     }
 }
 
-// The items of all types, in name order (FORMAT 5.3).
+// The items of all types, in name order (FORMAT 5.3). The loop has the schedule so far: `Growing`.
 pub fn add_items(pen: &mut Pen<'_>, t: &Catalogue, words: &[u64])
     requires sound { Sound t.now × (64 ≤ length words.now) × WordsAre t.now words.now }
     requires room_for_all { RoomForAll pen.old (all_items t.now) }
-    ensures { AddsAll pen.old pen.new (all_items t.now) }
+    ensures { Grows pen.old pen.new (all_items t.now) }
 {
     for a in 0..t.count {
         add_type(pen, t, words, a);

@@ -20,7 +20,9 @@ use Rattle.definitions.specs.Relisted.{end, and, Relisted}
 use Rattle.definitions.specs.Bits.{bits_of}
 use Rattle.definitions.specs.Parse.{done}
 use Rattle.definitions.specs.Reading.{sheet}
-use Rattle.definitions.specs.Packing.{schedule_bits}
+use Rattle.definitions.specs.Packing.{item_bits, schedule_bits}
+use Rattle.definitions.specs.SoFar.{bits_so_far}
+use Rattle.definitions.specs.LegalSchedule.{most_parents, most_marks}
 use Rattle.definitions.specs.Answer.{schedule, schedule_of}
 use Rattle.definitions.specs.Cases.{hex, run}
 use Rattle.law_orders.specs.Relisting.{with_parents, relist-parents}
@@ -33,7 +35,7 @@ use Rattle.law_lines.specs.SameItem.{once-tested}
 use Rattle.law_lines.specs.Identical.{identical-is-twice}
 use Rattle.law_lines.proofs.Refused.{refused-is-tested, accepted-is-tested, all-declared}
 use Rattle.law_lines.specs.InOrder.{own-lists-by-class, one-source, one-part, not-both-ways, each-has-part, one-in-order, items-in-order, one_way, before-all-that-follow}
-use Rattle.law_lines.specs.Within.{Within, CountsWithin, ItemWithin}
+use Rattle.law_lines.specs.Within.{Within, CountsWithin, ItemWithin, most_item_bits}
 use Rattle.law_lines.specs.Reading.{read-is-within}
 use Rattle.law_lines.specs.Bounds.{items-at-most}
 use Rattle.law_lines.specs.Counts.{counts-are}
@@ -404,3 +406,20 @@ twice-identical n =
     let l = items_for (line_map twice) (line_type_of two_associates) (ancestors (line_map twice) (line_type_of two_associates)) in
     let e : repeats same_item l ≡ true = refl in
     never e (once-tested l ((identical-is-twice twice twice-readable two_associates twice-declared).0 n))
+
+-- ---- the length as it grows
+
+-- a map without types: 7 bits, and the 16 of the number of items
+pub no-items : bits_so_far [] [] ≡ 23
+unfolding run bits_so_far
+no-items = refl
+
+-- behind it an extension line of 20 bits, and then the same line again
+pub two_lines : bits_so_far [] (extension a false false 3 ∷ extension a false false 3 ∷ []) ≡ 63
+unfolding run bits_so_far
+two_lines = refl
+
+-- an item at the limits has as many bits as one can have
+pub longest_item : length (item_bits (synthesized (0 ∷ 0 ∷ []) 0 false (replicate most_parents (0 ∷ 0 ∷ 0 ∷ [])) (replicate most_marks (derive_mark 0)))) ≡ most_item_bits
+unfolding run
+longest_item = refl

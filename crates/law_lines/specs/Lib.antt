@@ -16,3 +16,4 @@ pub mod Counts
 pub mod Fields
 pub mod Reading
 pub mod Size
+pub mod SoFar

@@ -12,7 +12,7 @@ use Rattle.definitions.specs.Items.{items_of}
 use Rattle.definitions.specs.Packing.{counted_bits, word_if_flag_bits, name_bits, parent_bits, mark_bits, item_bits, order_bits, schedule_bits}
 use Rattle.definitions.specs.Answer.{schedule_of}
 use Rattle.law_orders.specs.Comparisons.{types-perm}
-use Rattle.law_lines.specs.Within.{ItemWithin}
+use Rattle.law_lines.specs.Within.{ItemWithin, most_item_bits}
 use Rattle.lists.specs.Members.{each-short}
 use Rattle.bits.specs.NumberLaws.{length-to_bits}
 use Rattle.law_lines.specs.Statements.{line_map, ScheduleAtMost}
@@ -43,7 +43,7 @@ unfolding mark_bits
 mark-short makelist_mark = omega arith
 mark-short (derive_mark t) = omega (arith, length-to_bits 8 t)
 
-item-short : (W : ℕ) (x : Item) → ItemWithin W x → length (item_bits x) ≤ 4515
+pub item-short : (W : ℕ) (x : Item) → ItemWithin W x → length (item_bits x) ≤ most_item_bits
 unfolding item_bits
 item-short W (synthesized n r v ps ms) h =
     let a = name-short n in
@@ -77,7 +77,7 @@ order-short m =
     let h = placed-short m k in
     omega (arith, length-map (passes m k).placed (λ (T : TypeInfo). T.name))
 
-order-bits-short : (ns : List Name) → length (order_bits ns) ≤ 7 + length ns * 17
+pub order-bits-short : (ns : List Name) → length (order_bits ns) ≤ 7 + length ns * 17
 unfolding order_bits
 order-bits-short ns = counted-short 7 17 name_bits ns (λ n i. name-short n)
 

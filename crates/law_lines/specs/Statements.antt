@@ -1,6 +1,6 @@
 -- What is proved about the lines of a map. Each statement is a type of its own; its proof stands in the file that is named
 -- beside it.
-use Rattle.std.specs.Prelude.{Bool, true, false, ◌||◌, not, List, ◌∷◌, ◌++◌, map, ◌⊎◌, ◌↔◌, ◌≡◌, ℕ, ◌+◌, ◌*◌, ◌≤◌, length}
+use Rattle.std.specs.Prelude.{Bool, true, false, ◌||◌, not, List, [], ◌∷◌, ◌++◌, map, ◌⊎◌, ◌↔◌, ◌≡◌, ℕ, ◌+◌, ◌*◌, ◌≤◌, length}
 use Rattle.lists.specs.Lists.{In, any, null, each, repeats, set_of}
 use Rattle.lists.specs.Sorting.{Distinct}
 use Rattle.definitions.specs.Records.{Name, Resource, TypeInfo, Sheet, Item}
@@ -11,13 +11,16 @@ use Rattle.definitions.specs.Checks.{bad_words, something_twice}
 use Rattle.definitions.specs.Map.{LineMap, LineType, type_map_of, line_type_of, line_map_of}
 use Rattle.definitions.specs.Making.{declared, is_resource, same_item}
 use Rattle.definitions.specs.Items.{owned, given, parents_of, ancestors, doms_above, words_made, items_for, items_of}
+use Rattle.definitions.specs.Order.{organize_type_map}
 use Rattle.definitions.specs.Ancestry.{Ancestor}
 use Rattle.definitions.specs.Lines.{OwnMaking, Source, Making, LineOf, ClassOf, Refused}
 use Rattle.definitions.specs.ItemOrder.{parents_in, Part, PartOf, NamesBefore, ItemBefore, InOrder, OnlyInOrder}
 use Rattle.definitions.specs.Relisted.{Relisted}
-use Rattle.definitions.specs.Packing.{schedule_bits}
+use Rattle.definitions.specs.Packing.{item_bits, order_bits, item_count_bits, schedule_bits}
+use Rattle.definitions.specs.SoFar.{bits_so_far}
+use Rattle.definitions.specs.LegalSchedule.{most_names, most_items}
 use Rattle.definitions.specs.Answer.{schedule, schedule_of}
-use Rattle.law_lines.specs.Within.{Within, CountsWithin, ItemWithin}
+use Rattle.law_lines.specs.Within.{Within, CountsWithin, ItemWithin, most_schedule_bits}
 
 -- what the lines ask of a sheet: neither 5 nor 6 is its answer. An order is not needed.
 pub record Readable (s : Sheet) : Type 0 where
@@ -211,3 +214,26 @@ ItemsWithin = (s : Sheet) → Readable s → Within s → (x : Item) → In x (i
 -- the bits of a schedule: 64 names of 17 bits, and each item of at most 1 + 17 + 8 + 1 + (5 + 17 × 26) + (9 + 448 × 9) = 4515
 abbrev pub ScheduleAtMost : Type 0
 ScheduleAtMost = (s : Sheet) → Readable s → Within s → length (schedule_bits (schedule_of schedule (type_map_of s))) ≤ 7 + 64 * 17 + 16 + 64 * (12 * 15 + 200 + 200) * 4515
+
+-- ---- the length as it grows (SoFar.antt)
+
+-- before any item stand the order and the number of items
+abbrev pub SoFarBegins : Type 0
+SoFarBegins = (ns : List Name) → bits_so_far ns [] ≡ length (order_bits ns) + item_count_bits
+
+-- an item more adds its bits
+abbrev pub SoFarGrows : Type 0
+SoFarGrows = (ns : List Name) (items : List Item) (x : Item) → bits_so_far ns (items ++ (x ∷ [])) ≡ bits_so_far ns items + length (item_bits x)
+
+-- with all its items it is the length of the schedule
+abbrev pub SoFarIsLength : Type 0
+SoFarIsLength = (ns : List Name) (items : List Item) → bits_so_far ns items ≡ length (schedule_bits (record { order = ns; items = items }))
+
+-- within the limits it is at most this, which goes by their names alone
+abbrev pub SoFarAtMost : Type 0
+SoFarAtMost = (W : ℕ) (ns : List Name) (items : List Item) → length ns ≤ most_names → length items ≤ most_items
+    → ((x : Item) → In x items → ItemWithin W x) → bits_so_far ns items ≤ most_schedule_bits
+
+-- and so it is on every map, with all its items
+abbrev pub MapSoFarAtMost : Type 0
+MapSoFarAtMost = (s : Sheet) → Readable s → Within s → bits_so_far (organize_type_map (type_map_of s)) (items_of (line_map s)) ≤ most_schedule_bits

@@ -7,7 +7,8 @@ use Rattle.definitions.specs.Records.{Name, Resource, Annotation, Mark, makelist
 use Rattle.definitions.specs.Checks.{resources_of}
 use Rattle.definitions.specs.Map.{type_map_of, line_type_of, line_map_of}
 use Rattle.definitions.specs.Items.{ancestors, own_classes, doms_above, parents_above, words_made, items_for}
-use Rattle.definitions.specs.LegalSchedule.{most_parents, most_marks}
+use Rattle.definitions.specs.LegalSchedule.{most_names, most_items, most_parents, most_parent_words, most_marks}
+use Rattle.definitions.specs.Packing.{item_count_bits}
 
 -- a word has a byte, and none that is the dot or below it (FORMAT 1.1, 1.4)
 pub record WordWithin (w : List ℕ) : Type 0 where
@@ -89,3 +90,11 @@ ItemWithin W (synthesized n r v ps ms) = record {
   mark : (k : Mark) → In k ms → MarkWithin k;
 }
 ItemWithin W (extension n v t r) = record { type : NameWithin W n; word : r < W }
+
+-- The most bits of an item: the form, a name, the word, the flag, the parents and the marks, each list behind its count (FORMAT 6.2).
+abbrev pub most_item_bits : ℕ
+most_item_bits = 1 + 17 + 8 + 1 + (5 + most_parents * (2 + 8 * most_parent_words)) + (9 + most_marks * 9)
+
+-- The most bits of a schedule: of the order, of the number of items, of the items (FORMAT 6.1).
+abbrev pub most_schedule_bits : ℕ
+most_schedule_bits = 7 + most_names * 17 + item_count_bits + most_items * most_item_bits

@@ -10,3 +10,4 @@ pub mod Appending
 pub mod Permutations
 pub mod Places
 pub mod Tabulating
+pub mod Sums
