@@ -48,14 +48,14 @@ __attribute__((noinline)) void *memset(void *to, int byte, size_t size)
     return to;
 }
 
-static uint8_t sheet[65536], listing[1 << 18], diagnosis[GIDZELMA_DIAGNOSIS_LEN];
+static uint8_t sheet[65536], listing[1 << 18], diagnosis[GIDZELMA_DIAGNOSIS_LEN(GIDZELMA_ROWS_MAX)];
 static uint32_t parts[GIDZELMA_PARTS_LEN];
 
 int main(void)
 {
     size_t size = fread(sheet, 1, sizeof sheet, stdin);
     on = 1;
-    uint32_t number = CALL(sheet, size, listing, sizeof listing, diagnosis, sizeof diagnosis,
+    uint32_t number = CALL(sheet, size, GIDZELMA_ROWS_MAX, listing, sizeof listing, diagnosis, sizeof diagnosis,
                            parts, GIDZELMA_PARTS_LEN);
     on = 0;
     printf("%u\n", number);

@@ -41,8 +41,8 @@ static void *run(void *unused)
 #ifdef CONVERSION
     number = CALL(w, given, given_len, output, sizeof output, parts, GIDZELMA_PARTS_LEN);
 #else
-    static uint8_t diagnosis[GIDZELMA_DIAGNOSIS_LEN];
-    number = CALL(given, given_len, output, sizeof output, diagnosis, sizeof diagnosis,
+    static uint8_t diagnosis[GIDZELMA_DIAGNOSIS_LEN(GIDZELMA_ROWS_MAX)];
+    number = CALL(given, given_len, GIDZELMA_ROWS_MAX, output, sizeof output, diagnosis, sizeof diagnosis,
                   parts, GIDZELMA_PARTS_LEN);
 #endif
 #endif

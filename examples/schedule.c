@@ -51,13 +51,15 @@ static void print_rows(const struct gidzelma_row *rows, const uint32_t parts[GID
         fprintf(stderr, "more\n");
 }
 
-/* The schedule of a sheet: a first call asks for its size, a second one has it written. */
+/* The schedule of a sheet: a first call asks for its size, a second one has it written. Of a diagnosis as
+ * many rows are asked for as the programs list. */
 static int schedule(const uint8_t *sheet, size_t length)
 {
-    struct gidzelma_row rows[GIDZELMA_ROWS_MAX];
+    enum { ROWS = GIDZELMA_ROWS_SHOWN };
+    struct gidzelma_row rows[ROWS];
     uint32_t parts[GIDZELMA_PARTS_LEN];
     uint8_t none[1], *listing = NULL;
-    uint32_t number = gidzelma_schedule(sheet, length, none, 0, (uint8_t *)rows, sizeof rows,
+    uint32_t number = gidzelma_schedule(sheet, length, ROWS, none, 0, (uint8_t *)rows, sizeof rows,
                                         parts, GIDZELMA_PARTS_LEN);
     if (number == GIDZELMA_LISTING_TOO_SHORT) {
         size_t size = parts[0];
@@ -66,7 +68,7 @@ static int schedule(const uint8_t *sheet, size_t length)
             fprintf(stderr, "no memory\n");
             return TROUBLE;
         }
-        number = gidzelma_schedule(sheet, length, listing, size, (uint8_t *)rows, sizeof rows,
+        number = gidzelma_schedule(sheet, length, ROWS, listing, size, (uint8_t *)rows, sizeof rows,
                                    parts, GIDZELMA_PARTS_LEN);
     }
     int status = number == GIDZELMA_ACCEPTED ? ACCEPTED : REFUSED;

@@ -18,7 +18,7 @@ FAR = (1 << 16, 1 << 32, (1 << 32) + 4, 1 << 63, (1 << 64) - 1)
 
 def schedule_of(sheet):
     """W and the packed schedule of a sheet, or None."""
-    answer = model.schedule(sheet, bytes(sheets.LONGEST), bytes(6 * model.ROWS))
+    answer = model.schedule(sheet, bytes(sheets.LONGEST), bytes(6 * model.MOST_ROWS))
     return None if answer.number else (len(model.sheet_words(sheet)), answer.listing[:answer.size])
 
 

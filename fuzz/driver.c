@@ -4,10 +4,10 @@
  *   driver          slices end at, then start at, a page that may not be touched
  *   driver malloc   slices are blocks of exactly their size, for valgrind
  *
- * CALL is the call; it takes a sheet, or, with CONVERSION, W and a schedule or records, or, with TARIFF, a
+ * CALL is the call; it takes a sheet and a row limit, or, with CONVERSION, W and a schedule or records, or, with TARIFF, a
  * tariff, W and a schedule.
  *
- * Standard input is a list of questions, in numbers of the machine's order: W in eight bytes; in four
+ * Standard input is a list of questions, in numbers of the machine's order: W or the limit in eight bytes; in four
  * bytes each the lengths of what is given (one slice, or tariff and schedule), of the lent slices (listing
  * and diagnosis, or one, or none) and of parts, and a seed; then what is given. For a sum there are two
  * parts, which have its eight bytes. The lent bytes are filled by `fill`. For each question standard
@@ -40,7 +40,7 @@ static const size_t most[SLICES] = {1 << 17, 1 << 19, 1 << 14, 1 << 10};
 
 enum { MARGIN = 256, PERIOD = 251 };
 
-/* How many words the sheet has that a schedule is of. */
+/* How many words the sheet has that a schedule is of; or the row limit. */
 static uint64_t w;
 
 /* A region with a page before and behind it that may not be touched. */
@@ -124,7 +124,7 @@ static uint32_t call(struct lent l[SLICES])
 #ifdef CONVERSION
     return CALL((size_t)w, l[0].at, l[0].size, l[1].at, l[1].size, last, parts_len);
 #else
-    return CALL(l[0].at, l[0].size, l[1].at, l[1].size, l[2].at, l[2].size, last, parts_len);
+    return CALL(l[0].at, l[0].size, (uint32_t)w, l[1].at, l[1].size, l[2].at, l[2].size, last, parts_len);
 #endif
 #endif
 }

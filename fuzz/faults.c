@@ -76,13 +76,19 @@ uint32_t CALL(size_t w, const uint8_t *given, size_t given_len, uint8_t *output,
     return number;
 }
 #else
-uint32_t faultless(const uint8_t *sheet, size_t sheet_len, uint8_t *listing, size_t listing_len,
+uint32_t faultless(const uint8_t *sheet, size_t sheet_len, uint32_t rows, uint8_t *listing, size_t listing_len,
                    uint8_t *diagnosis, size_t diagnosis_len, uint32_t *parts, size_t parts_len);
 
-uint32_t CALL(const uint8_t *sheet, size_t sheet_len, uint8_t *listing, size_t listing_len,
+uint32_t CALL(const uint8_t *sheet, size_t sheet_len, uint32_t rows, uint8_t *listing, size_t listing_len,
               uint8_t *diagnosis, size_t diagnosis_len, uint32_t *parts, size_t parts_len)
 {
-    uint32_t number = faultless(sheet, sheet_len, listing, listing_len,
+#if FAULT == 9 /* a 2 that comes before 17 */
+    if (parts_len >= 3 && sheet_len <= GIDZELMA_SHEET_MAX && diagnosis_len < GIDZELMA_DIAGNOSIS_LEN(rows)) {
+        parts[0] = parts[1] = parts[2] = 0;
+        return 2;
+    }
+#endif
+    uint32_t number = faultless(sheet, sheet_len, rows, listing, listing_len,
                                 diagnosis, diagnosis_len, parts, parts_len);
 #if FAULT == 1 /* writes behind the listing */
     if (number == 0 && parts[0] == listing_len)
@@ -94,7 +100,7 @@ uint32_t CALL(const uint8_t *sheet, size_t sheet_len, uint8_t *listing, size_t l
     if (number == 8 && ((const volatile uint8_t *)sheet)[sheet_len] == 255)
         number = 8;
 #elif FAULT == 4 /* touches the byte behind the rows */
-    if (number == 8 && parts[1] < 256)
+    if (number == 8 && 6 * parts[1] < diagnosis_len)
         diagnosis[6 * parts[1]] ^= 1;
 #elif FAULT == 5 /* invents a row count */
     if (number == 10)
@@ -108,6 +114,9 @@ uint32_t CALL(const uint8_t *sheet, size_t sheet_len, uint8_t *listing, size_t l
 #elif FAULT == 8 /* a refusal 10 that is not due */
     if (number == 0 && listing_len == parts[0])
         number = 10;
+#elif FAULT == 10 /* sets the flag where the rows are as many as the limit */
+    if (number == 8 && parts[1] == rows)
+        parts[2] = 1;
 #endif
     return number;
 }

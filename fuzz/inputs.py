@@ -7,7 +7,7 @@ PERIOD = 251
 LONGEST = 1 << 22  # bytes that are lent at most
 FILL = bytes(range(PERIOD)) * (LONGEST // PERIOD + 3)
 
-# W where the call takes it, the slices given, the lengths of those lent, of parts, and a seed.
+# The number that the call takes besides, W or a row limit; the slices given, the lengths of those lent, of parts, and a seed.
 Input = collections.namedtuple("Input", "w given lent parts seed")
 
 

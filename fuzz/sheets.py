@@ -11,8 +11,10 @@ from maps import changed, drawn, flavours, large, loads
 CALLS = ("order", "schedule")
 OPTIONS = ()  # of the driver: a sheet is given, listing and diagnosis are lent besides the parts
 LONGEST = 1 << 18  # above the longest schedule that was found, 239,675 bytes
-COLUMNS = {"sheets": None, "accepted": (0,), "refused 10": (10,), "refused 8": (8,), "refused 9": (9,),
+COLUMNS = {"sheets": None, "accepted": (0,), "refused 10": (10,), "refused 8": (8,), "refused 9": (9,), "refused 17": (17,),
            "other refusals": range(1, 8), "parts too few": (TOO_FEW_PARTS,)}
+LIMITS = (1, 2, 63, 64, 65, 255, 256)  # row limits that are allowed
+NO_LIMITS = (0, 257, 300, 65536, 65600, 1 << 31, 0x2aaaaaab, (1 << 32) - 1)  # and such as are not; six times one is 2 modulo 2^32
 
 
 def listed(_call):
@@ -20,6 +22,10 @@ def listed(_call):
     small ones also cut to every length."""
     for given in [*(make() for make in large.MAPS.values()), loads.star(64), loads.largest(64)]:
         yield "large", sheetlib.encode(given)
+    for rows in LIMITS:
+        for count in (rows - 1, rows, rows + 1):
+            yield "rows of 8", sheetlib.encode(large.rows_of_eight(count))
+            yield "rows of 9", sheetlib.encode(large.rows_of_nine(count))
     for case in [*case_texts.DOCUMENT.values(), *case_texts.CORNERS.values()]:
         sheet = case_texts.sheet_in(case)
         yield "listed", sheet
@@ -61,20 +67,32 @@ def random_one(rng, _call):
     return kind, sheet
 
 
-def lengths_lent(rng, size):
-    """Listings, diagnosis slices and parts to lend for a schedule of `size` bytes."""
+def limit_for(rng, rows):
+    """A row limit, mostly one that is allowed and often near the number of rows that there are."""
+    near = rows + rng.randrange(-1, 2)
+    if rng.random() < 0.5 and 1 <= near <= model.MOST_ROWS:
+        return near
+    return rng.choice((*LIMITS, rng.randrange(1, model.MOST_ROWS + 1)))
+
+
+def lengths_lent(rng, size, rows):
+    """A row limit, listings, diagnosis slices and parts to lend for a schedule of `size` bytes, or for so many rows."""
     listings = {0, size - 1, size, size + 1, size + rng.randrange(2, 300), rng.randrange(size + 1)}
     if size < 200 and rng.random() < 0.02:
         listings |= set(range(size + 9))
     for listing in sorted(at for at in listings if at >= 0):
-        yield listing, 1536, 3
-    yield size, rng.choice((0, 1, 1535, 1535, 1537, 2000, rng.randrange(4000))), 3
-    yield rng.choice((0, size)), rng.choice((0, 1536)), rng.choice((0, 1, 2, 2, 4, 9))
+        limit = limit_for(rng, rows)
+        yield limit, listing, 6 * limit + rng.choice((0, 0, 1, 6, rng.randrange(2000))), 3
+    limit = limit_for(rng, rows)
+    for room in (6 * limit - 1, 6 * limit, 6 * limit + 1, rng.choice((0, 1, 6 * limit - 6, rng.randrange(4000)))):
+        yield limit, size, room, 3
+    yield rng.choice(NO_LIMITS), rng.choice((0, size)), rng.choice((0, 1, 2, 6, 1535, 1536, 1542, rng.randrange(4000))), 3
+    yield rng.choice((limit, 0)), rng.choice((0, size)), rng.choice((0, 6 * limit)), rng.choice((0, 1, 2, 2, 4, 9))
 
 
 def expected(full, asked):
-    """Number, listing, diagnosis and parts after the call, from the model's answer to a listing
-    that is long enough and a diagnosis slice that is."""
+    """Number, listing, diagnosis and parts after the call, from the model's answer under the largest row limit to a
+    listing that is long enough and a diagnosis slice that is: under a smaller one the first of its rows are written."""
     listing, diagnosis = (filled(size, asked.seed) for size in asked.lent)
     parts = filled(4 * asked.parts, asked.seed)
     number, size, rows, flag, packed = 0, 0, 0, 0, b""
@@ -82,14 +100,17 @@ def expected(full, asked):
         return TOO_FEW_PARTS, listing, diagnosis, parts
     if len(asked.given[0]) > model.SHEET_LIMIT:
         number = 1
-    elif len(diagnosis) < 6 * model.ROWS:
+    elif not 1 <= asked.w <= model.MOST_ROWS:
+        number = 17
+    elif len(diagnosis) < 6 * asked.w:
         number = 2
     elif full.number == 0:
         size = full.size
         number = 10 if len(listing) < size else 0
         packed = b"" if number else full.listing[:size]
     else:
-        number, rows, flag = full.number, full.rowcount, full.flag
+        number, rows = full.number, min(asked.w, full.rowcount)
+        flag = int(full.flag or rows < full.rowcount)
     listing = packed + listing[len(packed):]
     diagnosis = full.diagnosis[:6 * rows] + diagnosis[6 * rows:]
     return number, listing, diagnosis, struct.pack("=3I", size, rows, flag) + parts[12:]
@@ -97,8 +118,8 @@ def expected(full, asked):
 
 def asked_of(rng, call, sheet):
     """All that is asked about a sheet, with what must come out."""
-    full = getattr(model, call)(sheet, bytes(LONGEST), bytes(6 * model.ROWS))
+    full = getattr(model, call)(sheet, bytes(LONGEST), bytes(6 * model.MOST_ROWS))
     size = full.size if full.number == 0 else rng.choice((0, 3, 64, 700))
-    for listing, diagnosis, parts in lengths_lent(rng, size):
-        asked = Input(0, (sheet,), (listing, diagnosis), parts, rng.randrange(251))
+    for limit, listing, diagnosis, parts in lengths_lent(rng, size, full.rowcount):
+        asked = Input(limit, (sheet,), (listing, diagnosis), parts, rng.randrange(251))
         yield asked, expected(full, asked)

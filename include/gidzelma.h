@@ -2,7 +2,7 @@
  * Access schedules of dosing controllers: the proved calls, for C and C++.
  *
  * gidzelma_schedule and gidzelma_order turn a sheet (a bit-packed type map) into a bit-packed listing,
- * or answer with one of ten refusals. gidzelma_read_schedule turns a packed schedule into records of
+ * or answer with one of eleven refusals. gidzelma_read_schedule turns a packed schedule into records of
  * two bytes a field, gidzelma_write_schedule records into a packed schedule; they have two refusals of
  * their own. gidzelma_tariff sums what a tariff charges for the items of a packed schedule, and has three
  * more. docs/FORMAT.md has the bits and says when each refusal is given; docs/LINKING.md says how to
@@ -25,12 +25,12 @@ extern "C" {
 #define GIDZELMA_VERSION "0.2.0"
 
 /* What a call returns: 0, a refusal, or 255, which is none of them. Those of a call that takes a sheet
- * are 1 to 10, those of a call between a schedule and its records 11 and 12, those of gidzelma_tariff
- * 14 to 16, and 11 and 12 of its schedule. Later versions may add numbers. */
+ * are 1 to 10 and 17, those of a call between a schedule and its records 11 and 12, those of
+ * gidzelma_tariff 14 to 16, and 11 and 12 of its schedule. Later versions may add numbers. */
 enum gidzelma_number {
     GIDZELMA_ACCEPTED = 0,
     GIDZELMA_SHEET_TOO_LONG = 1,        /* over GIDZELMA_SHEET_MAX bytes */
-    GIDZELMA_DIAGNOSIS_TOO_SHORT = 2,   /* under GIDZELMA_DIAGNOSIS_LEN bytes */
+    GIDZELMA_DIAGNOSIS_TOO_SHORT = 2,   /* under GIDZELMA_DIAGNOSIS_LEN(rows) bytes */
     GIDZELMA_FIELD_PAST_END = 3,        /* a field reaches past the end of the sheet */
     GIDZELMA_VALUE_NOT_ALLOWED = 4,     /* a field has a value that is not allowed */
     GIDZELMA_BAD_WORDS = 5,             /* the words don't ascend, or lack `resource` or `self` */
@@ -48,6 +48,8 @@ enum gidzelma_number {
     GIDZELMA_TARIFF_NOT_ALLOWED = 15,   /* a sort, a number of parents or a rate is not allowed, or the
                                            last row is broken */
     GIDZELMA_TARIFF_TWICE = 16,         /* two rows have one sort and one number of parents */
+    GIDZELMA_ROW_LIMIT_NOT_ALLOWED = 17, /* of a call that takes a sheet: rows is 0 or over
+                                           GIDZELMA_ROWS_MAX; tested behind 1 and before 2 */
     GIDZELMA_PARTS_TOO_FEW = 255        /* parts_len is under GIDZELMA_PARTS_LEN */
 };
 
@@ -64,8 +66,10 @@ enum gidzelma_kind {
 /* Lengths. */
 #define GIDZELMA_SHEET_MAX 40960        /* bytes of the longest sheet that is read */
 #define GIDZELMA_ROW_LEN 6              /* bytes of a diagnosis row */
-#define GIDZELMA_ROWS_MAX 256           /* rows that are written at most */
-#define GIDZELMA_DIAGNOSIS_LEN 1536     /* bytes that a diagnosis slice needs: 256 rows of 6 */
+#define GIDZELMA_ROWS_MAX 256           /* the largest row limit; the least is 1 */
+#define GIDZELMA_ROWS_SHOWN 64          /* the row limit of the programs, as many as a screen shows */
+#define GIDZELMA_DIAGNOSIS_LEN(rows) (GIDZELMA_ROW_LEN * (rows)) /* bytes that a diagnosis slice needs
+                                           under a row limit that is allowed */
 #define GIDZELMA_PARTS_LEN 3            /* numbers that parts needs */
 
 /* Bytes that always suffice for the listing: of gidzelma_order, and, by a proved bound, of
@@ -111,8 +115,8 @@ enum gidzelma_kind {
  */
 #define GIDZELMA_STACK_LEN 4194304
 
-/* A row of the diagnosis. All its fields are bytes, so that an array of GIDZELMA_ROWS_MAX rows may
- * be lent as the diagnosis slice: (uint8_t *)rows, sizeof rows. */
+/* A row of the diagnosis. All its fields are bytes, so that an array of as many rows as the limit may be
+ * lent as the diagnosis slice: (uint8_t *)array, sizeof array. */
 struct gidzelma_row {
     uint8_t kind;       /* enum gidzelma_kind */
     uint8_t subject[2]; /* the name of a type */
@@ -123,7 +127,8 @@ struct gidzelma_row {
 /*
  * gidzelma_schedule gives the access schedule of a sheet: the listing gets the count of its types in
  * 7 bits, their names in order, the count of items in 16 bits, and the items, packed. gidzelma_order
- * gives the order of the types alone: their count and their names.
+ * gives the order of the types alone: their count and their names. `rows` is the row limit: how many rows
+ * of a diagnosis are written at most, 1 to GIDZELMA_ROWS_MAX.
  *
  * The items stand in one order: by the name of their type, then by word, then the type's own resources
  * by their parents, the inherited one, the extension line (docs/FORMAT.md, 5.3). Where two sheets that
@@ -139,22 +144,26 @@ struct gidzelma_row {
  *    number   parts[0], [1], [2]        listing                        diagnosis
  *    0        size written, 0, 0        `size` bytes, then as before   as before
  *    1 to 7   0, 0, 0                   as before                      as before
- *    8, 9     0, rows written, flag     as before                      6 * rows bytes, then as before
+ *    17       0, 0, 0                   as before                      as before
+ *    8, 9     0, rows written, flag     as before                      6 bytes a row, then as before
  *    10       size needed, 0, 0         as before                      as before
  *    255      as before                 as before                      as before
  *
- * What stands in `parts` behind the first three stays. The flag is 1 if there are more rows than the
- * GIDZELMA_ROWS_MAX that are written at most, and 0 if not.
+ * What stands in `parts` behind the first three stays. The flag is 1 if there are more rows than the limit
+ * allows, and 0 if not. Two limits that are allowed give the same number and size, where the diagnosis
+ * slice suffices for both, and the rows under the smaller one are the first of those under the larger.
  *
  * A listing of any length may be lent first: if the answer is GIDZELMA_LISTING_TOO_SHORT, one of
  * parts[0] bytes gets the whole. A listing of no bytes asks for the size alone.
  */
 uint32_t gidzelma_schedule(const uint8_t *sheet, size_t sheet_len,
+                           uint32_t rows,
                            uint8_t *listing, size_t listing_len,
                            uint8_t *diagnosis, size_t diagnosis_len,
                            uint32_t *parts, size_t parts_len);
 
 uint32_t gidzelma_order(const uint8_t *sheet, size_t sheet_len,
+                        uint32_t rows,
                         uint8_t *listing, size_t listing_len,
                         uint8_t *diagnosis, size_t diagnosis_len,
                         uint32_t *parts, size_t parts_len);

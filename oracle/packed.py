@@ -49,8 +49,8 @@ def answer_of(lines, sheet, call):
         words = model.sheet_words(sheet) if len(lines) > 1 else []
         rows = b"".join(model.row_bytes(row_of(line, words)) for line in lines[1:] if line != "more")
         return model.Answer(number, 0, len(rows) // 6, int(lines[-1] == "more"), lent * 4,
-                            rows + lent * (6 * model.ROWS - len(rows)))
+                            rows + lent * (6 * model.MOST_ROWS - len(rows)))
     words = model.sheet_words(sheet)
     names = [name_of(line[2:], words) for line in lines if line[0] == "T"]
     packed = model.pack(names, items_of(lines, sheet, words) if call == "schedule" else None)
-    return model.Answer(0, len(packed), 0, 0, packed + lent * 2, lent * (6 * model.ROWS))
+    return model.Answer(0, len(packed), 0, 0, packed + lent * 2, lent * (6 * model.MOST_ROWS))

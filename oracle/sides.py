@@ -12,6 +12,8 @@ import sys
 
 from pairs import annotation_from, annotation_of, annotation_text, pair_bytes, words_in
 
+ROWS = 256  # the row limit of a comparison, which is the oracle's
+
 MODES = {  # what the oracle is asked
     "order": ["--order"],
     "rust": [],
@@ -76,7 +78,7 @@ class PythonSubject:
     def one(self, sheet, with_items):
         """The lines for one sheet; a failed assertion is one too."""
         try:
-            got = self.model.answer(sheet, bytes(65536), bytes(1536), 256, with_items)
+            got = self.model.answer(sheet, bytes(65536), bytes(6 * ROWS), ROWS, with_items)
             return self.model.printed(sheet, got, with_items)
         except AssertionError as error:
             return [f"assertion: {error}"]
@@ -98,7 +100,7 @@ class PythonSubject:
 
 
 class Programs:
-    """Two programs, started once for each sheet."""
+    """Two programs, started once for each sheet, with the row limit."""
 
     pairs = None
 
@@ -108,7 +110,7 @@ class Programs:
     def ask(self, mode, sheets):
         """Their answers."""
         program = self.order if mode == "order" else self.schedule
-        return [subprocess.run([program], input=sheet, stdout=subprocess.PIPE,
+        return [subprocess.run([program, str(ROWS)], input=sheet, stdout=subprocess.PIPE,
                                check=False).stdout.decode().splitlines() for sheet in sheets]
 
 
@@ -128,7 +130,7 @@ class Batch:
 
 
 class Proved:
-    """The programs `batch` and `pairs`, which answer many sheets and many pairs."""
+    """The programs `batch` and `pairs`, which answer many sheets, under this limit, and many pairs."""
 
     def __init__(self, paths):
         self.batch, self.pair = paths.split(",")

@@ -28,6 +28,7 @@ before each answer.
                   words of the sheet: size 16 W 4
   --packed FILE   write the packed {call} to FILE and print nothing; - is standard
                   output; where FILE is a folder, pool.sheet gives FILE/pool.{call}
+  --rows N        list up to N rows after 8 and 9: 1 to {most}, {rows} if it is left out
   -h, --help      print this
   --version       print version, commit and toolchain
   --              what follows is no option
@@ -36,11 +37,12 @@ before each answer.
 A refusal is printed as
   refused NUMBER                        1 to 10, see below
   D KIND SUBJECT OTHER WORD             rows after 8 and 9; - for what is absent
-  more                                  if there are more than 256 rows
+  more                                  if there are more rows than --rows lists
 
 Status: 0 accepted, 1 refused, 2 trouble (said on standard error); the worst of all files.
 --size and --packed lend a listing of the size that is needed, the printed answer one
-of 65,536 bytes; so refusal 10 is of the printed answer only.
+of 65,536 bytes; so refusal 10 is of the printed answer only. For the rows no fewer bytes
+are lent than their limit needs, so that 2 and 17 are answers of the exported calls alone.
 
 The program is proved and built where it is missing or older than its sources; that
 needs rt, the toolchain. --size and --packed need a C compiler, which links the library.
@@ -66,7 +68,7 @@ def usage(call):
     """The text of --help."""
     numbers = ["Refusals:"] + [f"  {number:2}  {said}" for number, (said, _) in refusals.OF_SHEETS.items()]
     numbers += ["Kinds of rows:"] + [f"  {kind:2}  {name}" for kind, (name, _) in refusals.KINDS.items()]
-    return USAGE.format(call=call, what=WHAT[call], lines=LINES[call],
+    return USAGE.format(call=call, what=WHAT[call], lines=LINES[call], most=refusals.MOST_ROWS, rows=refusals.SHOWN_ROWS,
                         numbers="\n".join(numbers) + "\n")
 
 
@@ -80,7 +82,7 @@ class Asked:
         self.json, self.size, self.explain, self.packed = args.json, args.size, args.explain, args.packed
         self.several = len(self.files) > 1
         self.check()
-        self.answers = proved.Answers(call, self.several, say)
+        self.answers = proved.Answers(call, proved.limit_of(args), self.several, say)
 
     def check(self):
         """What makes no sense is refused before anything is done."""
@@ -205,6 +207,7 @@ def options(call):
     for name in ("--explain", "--json", "--size"):
         out.add_argument(name, action="store_true")
     out.add_argument("--packed", action=Once)
+    out.add_argument("--rows", type=int, action=proved.RowLimit)
     return out
 
 

@@ -1,7 +1,8 @@
 """The sheets of the cases, as readable texts: see `cases`.
 
 A case has `what` it shows; its `text`, or its `bytes`; `calls`, both if left
-out; and the lengths of the lent slices where they matter.
+out; the lengths of the lent slices where they matter; and its row limit `rows`,
+256 if left out.
 """
 
 from sheetlib import Writer, sheet_of
@@ -23,6 +24,11 @@ def rows(last):
     """1 + 8 + 64 + (64 + 64 + 6 * 8) rows, and those of `v`."""
     return ("domain q : zz\ndomain p :" + " q" * 8 + "\ndomain t :" + " p" * 8
             + "\ndomain u : t t" + " p" * 6 + "\ndomain v :" + " q" * last + "\n")
+
+
+def fewer_rows(last):
+    """1 + 8 + 48 rows, and those of `v`."""
+    return "domain q : zz\ndomain p :" + " q" * 8 + "\ndomain t :" + " p" * 6 + "\ndomain v :" + " q" * last + "\n"
 
 
 DOCUMENT = {
@@ -75,6 +81,7 @@ def raw(what, data, **more):
 
 
 ORDER, SCHEDULE = {"calls": ["order"]}, {"calls": ["schedule"]}
+AFTER_5_UNKNOWN = "domain d\nresource f\ndomain a\n  associate d zz"
 
 REFUSALS = {
     "refusal1": raw("1: 40,961 zero bytes", bytes(40961), listing=4, diagnosis=1536),
@@ -103,6 +110,22 @@ LENT = {
     "first6": case("6 before 8", "domain a : a\ndomain a : a", **ORDER),
     "first8": case("8 before 9 and 10", "domain a : a\n  associate b", listing=0, diagnosis=1536, **SCHEDULE),
     "first9": case("9 before 10", "domain a\n  associate b", listing=0, diagnosis=1536, **SCHEDULE),
+}
+
+LIMITED = {
+    "refusal17": case("17: a limit of 0 rows", GOOD, rows=0, listing=64, diagnosis=1536),
+    "limit257": case("17: a limit of 257 rows", GOOD, rows=257, listing=64, diagnosis=1542),
+    "first1Limit": raw("1 before 17", bytes(40961), rows=0, listing=4, diagnosis=1536),
+    "first17": case("17 before 2", GOOD, rows=0, listing=64, diagnosis=0),
+    "largestLimit": case("17 before 2: six times the largest limit that C can give", GOOD, rows=4294967295, listing=64,
+                         diagnosis=0),
+    "limit64Short": case("2: 64 rows need 384 bytes", GOOD, rows=64, listing=64, diagnosis=383),
+    "limit64": case("384 bytes suffice for 64 rows", GOOD, rows=64, listing=16, diagnosis=384, **SCHEDULE),
+    "limit1": case("one row of two", "domain a : b\ndomain b : a", rows=1, listing=4, diagnosis=8),
+    "rows63": case("63 rows under a limit of 64", fewer_rows(6), rows=64, listing=4, diagnosis=390, **ORDER),
+    "rows64": case("64 rows under a limit of 64: the flag is not set", fewer_rows(7), rows=64, listing=4, diagnosis=390),
+    "rows65": case("65 rows under a limit of 64: the flag is set", fewer_rows(8), rows=64, listing=4, diagnosis=390),
+    "limit1Nine": case("one row of 9 of two", AFTER_5_UNKNOWN, rows=1, listing=4, diagnosis=8, **SCHEDULE),
 }
 
 READING = {
@@ -237,7 +260,7 @@ ROWS9 = {
                          "domain q\n  nest f\n  associate g\ndomain a : p q\n  associate p.f", **SCHEDULE),
     "unknownEnds": case("unknown classes end the annotation, words ascending", "domain a\n  associate zz yy", **SCHEDULE),
     "after5": case("after a 5 the next word ends the annotation, though it adds no row", "domain d\nresource f\ndomain a\n  associate d f zz", **SCHEDULE),
-    "after5Unknown": case("after a 5 the next word adds its unknown classes", "domain d\nresource f\ndomain a\n  associate d zz", **SCHEDULE),
+    "after5Unknown": case("after a 5 the next word adds its unknown classes", AFTER_5_UNKNOWN, **SCHEDULE),
     "after6Unknown": case("after a 6 too", "resource d\nresource a.d\ndomain a\n  associate d zz", **SCHEDULE),
     "not6Where5": case("5 goes before 6", "domain f\nresource a.f\ndomain a\n  associate f", **SCHEDULE),
     "firstNoResource": case("5 names the first class that does not fit", "domain f\ndomain x.f\ndomain a\n  nest x.f\ndomain b\n  nest f\ndomain c : a b", **SCHEDULE),
@@ -252,4 +275,4 @@ ROWS9 = {
     "declaredName": case("a type of the name T.r is declared", "resource f\nresource a.f\ndomain a\n  associate f", **SCHEDULE),
 }
 
-CORNERS = {**REFUSALS, **LENT, **READING, **TWICE, **ORDERS, **SYNTHESIS, **ROWS9}
+CORNERS = {**REFUSALS, **LENT, **LIMITED, **READING, **TWICE, **ORDERS, **SYNTHESIS, **ROWS9}

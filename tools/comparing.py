@@ -40,6 +40,8 @@ bin/show prints: both in the words of one sheet, each in the words of its own, o
   -q, --quiet     print nothing: the status tells
   --width N       fold lines, so that a row has up to N columns, at least {least}; on a
                   terminal its width is taken, elsewhere lines are as long as they are
+  --rows N        of a sheet that is refused with 8 or 9, list up to N rows of the diagnosis:
+                  1 to {most}, {rows} if it is left out
   --json          print the rows as a JSON object on a line
   -h, --help      print this
   --version       print version, commit and toolchain
@@ -75,8 +77,8 @@ Side = namedtuple("Side", "name data text")  # a schedule: its file, the bytes, 
 def usage():
     """The text of --help."""
     numbers = ["Refusals:"] + [f"  {number:2}  {said}" for number, (said, _)
-                               in {**refusals.OF_SHEETS, **refusals.OF_SCHEDULES}.items()]
-    return USAGE.format(least=LEAST, numbers="\n".join(numbers) + "\n")
+                               in sorted({**refusals.OF_SHEETS, **refusals.OF_SCHEDULES}.items())]
+    return USAGE.format(least=LEAST, most=refusals.MOST_ROWS, rows=refusals.SHOWN_ROWS, numbers="\n".join(numbers) + "\n")
 
 
 # -------------------------------------------------------- what is asked
@@ -90,18 +92,22 @@ def options(name):
     out.add_argument("-q", "--quiet", action="store_true")
     out.add_argument("-w", type=int, dest="words", action=showing.Width)
     out.add_argument("--width", type=int, action=Once)
+    out.add_argument("--rows", type=int, action=proved.RowLimit)
     return out
 
 
 def check(args):
     """What makes no sense is refused before anything is done."""
-    for option, given in (("--json", args.json), ("--differences", args.differences), ("--width", args.width is not None)):
+    for option, given in (("--json", args.json), ("--differences", args.differences), ("--width", args.width is not None),
+                          ("--rows", args.rows is not None)):
         if args.quiet and given:
             raise Trouble(f"{option} does nothing with --quiet, which prints nothing")
     if args.json and args.width is not None:
         raise Trouble("--width does nothing with --json, which has no columns")
     if args.width is not None and args.width < LEAST:
         raise Trouble(f"--width {args.width}: at least {LEAST} columns are needed")
+    if args.rows is not None and args.packed:
+        raise Trouble("--rows does nothing with --packed: a packed schedule has no rows of a diagnosis")
     if args.words is not None and not args.packed:
         raise Trouble("-w is for packed schedules, with --packed")
 
@@ -124,10 +130,10 @@ def pairs_of(args):
 
 # ------------------------------------------------------- the two schedules
 
-def of_sheets(names, say):
-    """The schedules of two sheets. Both are read before anything is built."""
+def of_sheets(names, rows, say):
+    """The schedules of two sheets, under a row limit. Both are read before anything is built."""
     sheets = [read_all(name, proved.LONGEST) for name in names]
-    answers, out = proved.Answers("schedule", False, say), []
+    answers, out = proved.Answers("schedule", rows, False, say), []
     for name, sheet in zip(names, sheets):
         with about(name):
             out.append(Side(name, sheet, answers.text(sheet)))
@@ -182,7 +188,7 @@ def put_object(head, status, sides, rows):
 
 def compare(args, pairs, head, say):
     """Shows both; the status."""
-    sides = of_packed(pairs, args.words, say) if args.packed else of_sheets(args.files, say)
+    sides = of_packed(pairs, args.words, say) if args.packed else of_sheets(args.files, proved.limit_of(args), say)
     refused = any(printed.refused(side.text) for side in sides)
     status = REFUSED if refused or sides[0].text != sides[1].text else ACCEPTED
     if not args.quiet:

@@ -18,6 +18,7 @@ import explain_dot
 import explain_page
 import map_files
 import proved
+import refusals
 import sheetlib
 from building import write_error
 from map_lines import MapView
@@ -88,7 +89,7 @@ class Explained:
             if line.startswith("refused "):
                 why = Why(line, because=[why_refused(int(line[8:]), self.view), *self.hard_errors()])
             elif line == "more":
-                why = Why(line, because=["more rows than the 256 written"])
+                why = Why(line, because=[f"more rows than the {len(lines) - 2} written"])
             else:
                 why = reasons.why(line) if reasons else None
             if why is None:
@@ -111,6 +112,9 @@ def options(name):
     out = Parser(name, description=__doc__)
     out.add_argument("files", nargs="*", metavar="MAP", help="a text, a policy (*.cas) or a sheet; `-` for standard input")
     out.add_argument("--cascade", action="store_true", help="the text is in Cascade's syntax, whatever its name")
+    out.add_argument("--rows", metavar="N", type=int, action=proved.RowLimit,
+                     help=f"of a map that is refused with 8 or 9, show up to N rows: 1 to {refusals.MOST_ROWS}, "
+                          f"{refusals.SHOWN_ROWS} if it is left out")
     form = out.add_mutually_exclusive_group()
     form.add_argument("--dot", action="store_true", help="print the types by rounds as a graph for Graphviz")
     form.add_argument("--html", metavar="FILE", action=Once,
@@ -152,8 +156,10 @@ def main(program, arguments, say):
         raise Trouble("--dot, --html and --lines take one map")
     if args.lines == "-" and args.files == ["-"]:
         raise Trouble(f"{STDIN} is given twice")
+    if args.lines is not None and args.rows is not None:
+        raise Trouble("--rows does nothing with --lines, which has the rows")
     args.head = HEAD + "\n"
-    answers = proved.Answers("schedule", len(args.files) > 1, say)
+    answers = proved.Answers("schedule", proved.limit_of(args), len(args.files) > 1, say)
     return each(args.files, lambda name: explain(name, args, answers.text, say), say)
 
 

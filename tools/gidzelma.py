@@ -3,7 +3,7 @@
     import gidzelma
     library = gidzelma.load()               # or gidzelma.load("lib/libgidzelma.so")
     try:
-        packed = library.schedule(sheet)    # bytes to bytes; or library.order(sheet)
+        packed = library.schedule(sheet)    # bytes to bytes; or library.order(sheet); rows=N for up to N rows
         records = library.read_schedule(w, packed)      # w: the number of words of the sheet
         assert library.write_schedule(w, records) == packed
         total = library.tariff([0, 3, 1250, 2, 0, 100], w, packed)      # hundredths, an int
@@ -23,8 +23,9 @@ from collections import namedtuple
 
 import refusals
 
-DIAGNOSIS_LEN = 1536     # bytes that a diagnosis slice needs
 ROW_LEN = 6              # bytes of a row
+ROWS_MAX = refusals.MOST_ROWS       # rows that are written at most: a row limit is 1 to so many
+ROWS_SHOWN = refusals.SHOWN_ROWS    # the limit where none is given, that of the programs
 ABSENT = 255             # in a row, for a word that is not there
 STACK_LEN = 4 << 20      # bytes of stack that suffice for a call
 LISTING_TOO_SHORT = 10   # the refusal that answers the size that is needed
@@ -53,6 +54,18 @@ class Refused(Exception):
 
     def __str__(self):
         return f"refused {self.number}: {refusals.meaning_of(self.number)}"
+
+
+def diagnosis_len(rows):
+    """The bytes that a diagnosis slice needs under a row limit."""
+    return ROW_LEN * rows
+
+
+def checked(rows):
+    """A row limit that is allowed."""
+    if not 1 <= rows <= ROWS_MAX:
+        raise ValueError(f"a row limit of {rows}: it is 1 to {ROWS_MAX}")
+    return rows
 
 
 def name_of(first, second):
@@ -89,7 +102,7 @@ class Library:
         self.path = path
         library, size = ctypes.CDLL(path), ctypes.c_size_t
         given, slice_ = [ctypes.c_char_p, size], [ctypes.c_void_p, size]
-        kinds = {**dict.fromkeys(CALLS, given + 3 * slice_),
+        kinds = {**dict.fromkeys(CALLS, given + [ctypes.c_uint32] + 3 * slice_),
                  **dict.fromkeys(CONVERSIONS, [size] + given + 2 * slice_),
                  "tariff": slice_ + [size] + given + [ctypes.c_void_p]}
         self.calls = {}
@@ -101,11 +114,14 @@ class Library:
             call.restype, call.argtypes = ctypes.c_uint32, kind
             self.calls[name] = call
 
-    def lend(self, call, sheet, listing, diagnosis):
-        """One call, "schedule" or "order", on two bytearrays, which it may write to; its Answer."""
+    def lend(self, call, sheet, listing, diagnosis, rows=ROWS_SHOWN):
+        """One call, "schedule" or "order", on two bytearrays, which it may write to; its Answer. The row limit
+        is handed over as it is, a number of 32 bits: the call answers 17 where it is not allowed."""
+        if not 0 <= rows < 1 << 32:
+            raise OverflowError(f"a row limit of {rows}: no number of 32 bits")
         parts = (ctypes.c_uint32 * 3)()
         sheet = bytes(sheet)
-        number = self.calls[call](sheet, len(sheet), lent(listing), len(listing),
+        number = self.calls[call](sheet, len(sheet), rows, lent(listing), len(listing),
                                   lent(diagnosis), len(diagnosis), parts, len(parts))
         return Answer(number, parts[0], parts[1], parts[2] == 1)
 
@@ -116,24 +132,25 @@ class Library:
         number = self.calls[call](w, given, len(given), lent(output), len(output), parts, len(parts))
         return Answer(number, parts[0], parts[1], parts[2] == 1)
 
-    def packed(self, call, sheet):
-        """The packed bytes that a call writes, in a listing of the size that is needed."""
-        listing, diagnosis = bytearray(LENT), bytearray(DIAGNOSIS_LEN)
-        answer = self.lend(call, sheet, listing, diagnosis)
+    def packed(self, call, sheet, rows=ROWS_SHOWN):
+        """The packed bytes that a call writes, in a listing of the size that is needed. A row limit that is not
+        allowed is a ValueError."""
+        listing, diagnosis = bytearray(LENT), bytearray(diagnosis_len(checked(rows)))
+        answer = self.lend(call, sheet, listing, diagnosis, rows)
         if answer.number == LISTING_TOO_SHORT:
             listing = bytearray(answer.size)
-            answer = self.lend(call, sheet, listing, diagnosis)
+            answer = self.lend(call, sheet, listing, diagnosis, rows)
         if answer.number:
             raise Refused(answer.number, rows_of(diagnosis, answer.rows), answer.more)
         return bytes(listing[:answer.size])
 
-    def schedule(self, sheet):
-        """The packed access schedule of a sheet."""
-        return self.packed("schedule", sheet)
+    def schedule(self, sheet, rows=ROWS_SHOWN):
+        """The packed access schedule of a sheet; one that is refused with 8 or 9 has up to so many rows."""
+        return self.packed("schedule", sheet, rows)
 
-    def order(self, sheet):
-        """The packed order of the types of a sheet."""
-        return self.packed("order", sheet)
+    def order(self, sheet, rows=ROWS_SHOWN):
+        """The packed order of the types of a sheet, likewise."""
+        return self.packed("order", sheet, rows)
 
     def converted(self, call, w, given, size):
         """What a call between a schedule and its records writes, in as many bytes as always suffice."""

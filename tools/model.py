@@ -19,14 +19,14 @@ from collections import namedtuple
 
 from model_conversion import Converted, read_schedule, records_of, write_schedule
 from model_lines import Line, Making, items_of
-from model_order import ROWS, Row, organize_type_map, rounds
+from model_order import MOST_ROWS, SHOWN_ROWS, Row, organize_type_map, rounds
 from model_packing import pack, printed, row_bytes, sheet_words
 from model_reading import Refused, read_sheet, words_of
 from model_synthesis import Inherited, Synthesis, dedup_inherited_annotations, difference, intersection
 from model_tariff import Charged, tariff, total_printed
 
-__all__ = ["LISTING_SIZE", "ROWS", "SHEET_LIMIT", "Answer", "Charged", "Converted", "Inherited", "Line", "Making",
-           "Refused", "Row", "Synthesis", "answer", "dedup_inherited_annotations", "difference", "intersection",
+__all__ = ["LISTING_SIZE", "MOST_ROWS", "SHEET_LIMIT", "SHOWN_ROWS", "Answer", "Charged", "Converted", "Inherited", "Line",
+           "Making", "Refused", "Row", "Synthesis", "answer", "dedup_inherited_annotations", "difference", "intersection",
            "items_of", "order", "organize_type_map", "pack", "printed", "read_schedule", "read_sheet", "records_of",
            "row_bytes", "schedule", "sheet_words", "tariff", "total_printed", "words_of", "write_schedule"]
 
@@ -34,7 +34,7 @@ SHEET_LIMIT, LISTING_SIZE = 40960, 65536
 Answer = namedtuple("Answer", "number size rowcount flag listing diagnosis")
 
 
-def synthesize(types, names, limit=ROWS):
+def synthesize(types, names, limit=MOST_ROWS):
     """The items of an accepted map, or refusal 9; both accounts have to agree."""
     done = Synthesis(types, names)
     items, refused = items_of(types, names)
@@ -47,11 +47,13 @@ def synthesize(types, names, limit=ROWS):
 
 
 def answer(sheet, listing, diagnosis, rows, with_items):
-    """The answer of a call: the first refusal of the ten, or acceptance."""
+    """The answer of a call under a row limit: the first refusal that is due, or acceptance."""
     listing, diagnosis = bytes(listing), bytes(diagnosis)
     try:
         if len(sheet) > SHEET_LIMIT:
             raise Refused(1)
+        if not 1 <= rows <= MOST_ROWS:
+            raise Refused(17)
         if len(diagnosis) < 6 * rows:
             raise Refused(2)
         types = read_sheet(sheet)
@@ -68,12 +70,12 @@ def answer(sheet, listing, diagnosis, rows, with_items):
     return Answer(0, len(packed), 0, 0, packed + listing[len(packed):], diagnosis)
 
 
-def schedule(sheet, listing, diagnosis, rows=ROWS):
-    """The schedule call: (number, size, rowcount, flag, listing, diagnosis)."""
+def schedule(sheet, listing, diagnosis, rows=MOST_ROWS):
+    """The schedule call under a row limit: (number, size, rowcount, flag, listing, diagnosis)."""
     return answer(sheet, listing, diagnosis, rows, True)
 
 
-def order(sheet, listing, diagnosis, rows=ROWS):
+def order(sheet, listing, diagnosis, rows=MOST_ROWS):
     """The order-only call, answering likewise; it makes no test 9 (FORMAT 7.3)."""
     return answer(sheet, listing, diagnosis, rows, False)
 
@@ -87,15 +89,15 @@ def main():
                         help="bytes of the listing (default %(default)s)")
     parser.add_argument("--diagnosis", type=int, metavar="N",
                         help="bytes of the diagnosis slice (default six a row)")
-    parser.add_argument("--rows", type=int, metavar="N", default=ROWS,
-                        help="rows written at most (default %(default)s)")
+    parser.add_argument("--rows", type=int, metavar="N", default=SHOWN_ROWS,
+                        help="the row limit (default %(default)s)")
     args = parser.parse_intermixed_args()
     if args.file:
         with open(args.file, "rb") as source:
             sheet = source.read()
     else:
         sheet = sys.stdin.buffer.read()
-    size = 6 * args.rows if args.diagnosis is None else args.diagnosis
+    size = 6 * min(args.rows, MOST_ROWS) if args.diagnosis is None else args.diagnosis
     with_items = args.call == "schedule"
     result = answer(sheet, bytes(args.listing), bytes(size), args.rows, with_items)
     sys.stdout.write("".join(line + "\n" for line in printed(sheet, result, with_items)))

@@ -5,11 +5,11 @@ from collections import namedtuple
 
 from model_reading import Refused
 
-ROWS = 256
+MOST_ROWS, SHOWN_ROWS = 256, 64  # a row limit, at most; that of the programs where they are told none (FORMAT 8.2)
 Row = namedtuple("Row", "kind subject other word")
 
 
-def organize_type_map(types, limit=ROWS):
+def organize_type_map(types, limit=MOST_ROWS):
     """The names by round, then name; refusal 8 with its rows (kinds 1, 2, 3)."""
     waiting, out = dict(types.types), []
     selves = [Row(1, t.name, p, None)

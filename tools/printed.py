@@ -83,14 +83,14 @@ def why(text, data, is_a_text=TEXT_AS_SHEET):
 
 def explained(text, data, is_a_text=TEXT_AS_SHEET):
     """A line in words for each line of a refusal; one more where the bytes look like a text."""
-    out = []
-    for line in text.decode("ascii").splitlines():
+    out, lines = [], text.decode("ascii").splitlines()
+    for line in lines:
         if line.startswith("refused "):
             words = refusals.meaning_of(int(line.split(" ")[1]))
         elif line.startswith("D "):
             words = row_of(line)["meaning"]
         else:
-            words = refusals.MORE
+            words = refusals.more_than(len(lines) - 2)
         out.append(f"{line}: {words}\n")
     if is_text(data):
         out.append(is_a_text + "\n")

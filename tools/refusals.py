@@ -3,10 +3,13 @@
 The programs print numbers, as document 01 has them; these words are added where a person asks.
 """
 
+# How many rows of a diagnosis a call writes: the limit is 1 to so many, and the programs have one of their own.
+MOST_ROWS, SHOWN_ROWS = 256, 64
+
 # The numbers of the calls that take a sheet, each with what it says and the limits that it goes by.
 OF_SHEETS = {
     1: ("the sheet is too long", "it may have 40,960 bytes"),
-    2: ("the diagnosis slice is too short", "it needs 1,536 bytes, 256 rows of 6"),
+    2: ("the diagnosis slice is too short", "it needs six bytes a row of the limit"),
     3: ("a field passes the end of the sheet", ""),
     4: ("a value that is not allowed",
         "version 1; 2 to 200 words of 1 to 31 letters, digits or `_`; up to 64 types, each with up to "
@@ -20,6 +23,7 @@ OF_SHEETS = {
     8: ("the types have no order", ""),
     9: ("what a type associates cannot be made", ""),
     10: ("the schedule is longer than the listing", "the program lends 65,536 bytes"),
+    17: ("the row limit is not allowed", f"it is 1 to {MOST_ROWS} rows"),
 }
 
 # Those of the calls between a schedule and its records.
@@ -40,7 +44,7 @@ OF_TARIFFS = {
     16: ("two rows of the tariff have one sort and one number of parents", ""),
 }
 
-REFUSALS = {**OF_SHEETS, **OF_SCHEDULES, **OF_TARIFFS}
+REFUSALS = dict(sorted({**OF_SHEETS, **OF_SCHEDULES, **OF_TARIFFS}.items()))
 
 # The kinds of the rows after 8 and 9: the name of the kind, and what a row says.
 KINDS = {
@@ -52,9 +56,6 @@ KINDS = {
     5: ("class that is no resource", "`{subject}.{word}` is of the class `{other}`, which is no resource"),
     6: ("duplicate", "`{subject}.{word}` is there already, declared or made alike"),
 }
-
-MORE = "there are more than 256 rows"
-
 
 UNKNOWN = ("a number that the table of refusals does not have", "")
 
@@ -68,6 +69,11 @@ def meaning_of(number):
     """A refusal in words, with its limits."""
     said, limits = REFUSALS.get(number, UNKNOWN)
     return f"{said} ({limits})" if limits else said
+
+
+def more_than(rows):
+    """What the line behind so many rows says, `more`."""
+    return f"there are more rows than the {rows} listed" + (f"; --rows lists up to {MOST_ROWS}" if rows < MOST_ROWS else "")
 
 
 def meaning_of_row(kind, subject, other, word):

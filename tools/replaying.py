@@ -1,6 +1,6 @@
 """Cases as the programs over crates/replaying read them.
 
-A head of 16 bytes, then a name, a sheet, and the bytes that the call must
+A head of 20 bytes, then a name, a sheet, and the bytes that the call must
 write. Numbers of more bytes stand highest byte first. The head:
 
     call         1    0 the order, 1 the schedule; 2 more: if the sheet is
@@ -13,6 +13,7 @@ write. Numbers of more bytes stand highest byte first. The head:
     sheet        2    its length; 65,535 for the sheet of the case before
     listing      3    the length lent
     size         3
+    row limit    4
 """
 
 import model
@@ -27,12 +28,12 @@ def written(answer):
     return answer.listing[:answer.size] if answer.number == 0 else answer.diagnosis[:6 * answer.rowcount]
 
 
-def case(call, sheet, answer, name="", lengths_too=False, same_sheet=False):
-    """One case; the lengths lent are those of the answer's slices."""
+def case(call, sheet, answer, name="", lengths_too=False, same_sheet=False, limit=model.MOST_ROWS):
+    """One case under a row limit; the lengths lent are those of the answer's slices."""
     head = bytes([("order", "schedule").index(call) + 2 * lengths_too, answer.number, answer.flag, len(name)])
     head += answer.rowcount.to_bytes(2, "big") + len(answer.diagnosis).to_bytes(2, "big")
     head += (SAME_SHEET if same_sheet else len(sheet)).to_bytes(2, "big")
-    head += len(answer.listing).to_bytes(3, "big") + answer.size.to_bytes(3, "big")
+    head += len(answer.listing).to_bytes(3, "big") + answer.size.to_bytes(3, "big") + limit.to_bytes(4, "big")
     return head + name.encode() + (b"" if same_sheet else sheet) + written(answer)
 
 
@@ -47,15 +48,15 @@ def cases_in(data):
 
     while at < len(data):
         call, number, _, name_size = take(4)
-        rows, _, sheet_size, _, size = (int.from_bytes(take(width), "big") for width in (2, 2, 2, 3, 3))
+        rows, _, sheet_size, _, size, _ = (int.from_bytes(take(width), "big") for width in (2, 2, 2, 3, 3, 4))
         name = take(name_size).decode()
         sheet = sheet if sheet_size == SAME_SHEET else take(sheet_size)
         yield ("order", "schedule")[call & 1], number, name, sheet, take(6 * rows if number else size)
 
 
-def answer_of(call, sheet, listing=None, diagnosis=6 * model.ROWS):
-    """The model's answer; a listing of two bytes more than the size where no length is given."""
+def answer_of(call, sheet, listing=None, diagnosis=6 * model.MOST_ROWS, limit=model.MOST_ROWS):
+    """The model's answer under a row limit; a listing of two bytes more than the size where no length is given."""
     lent = bytes([LENT]) * diagnosis
     if listing is None:
-        listing = CALLS[call](sheet, bytes(1 << 18), lent).size + 2
-    return CALLS[call](sheet, bytes([LENT]) * listing, lent)
+        listing = CALLS[call](sheet, bytes(1 << 18), lent, limit).size + 2
+    return CALLS[call](sheet, bytes([LENT]) * listing, lent, limit)

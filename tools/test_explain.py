@@ -24,7 +24,7 @@ import explain_page
 import map_lines
 import model
 import sheetlib
-from maps import drawn
+from maps import drawn, large
 from testing import BUILT, EXAMPLES, NOT_BUILT, ROOT, InFolder, command, found_in, printed
 
 
@@ -35,7 +35,7 @@ def printed_bytes(sheet):
 
 class Options:
     """Options of bin/explain, as they are without any."""
-    cascade, dot, html, lines = False, False, None, None
+    cascade, dot, html, lines, rows = False, False, None, None, None
 
     def __init__(self, *files):
         self.files = files
@@ -120,6 +120,21 @@ class Explain(InFolder):
                 "domain q\n  nest f\n  associate g\ndomain a : p q\n  associate p.f\n")
         self.assertIn("two lines `a.f` are the same without what a refused parent passes on", self.told(text)[2])
 
+    def test_row_limit(self):
+        """Each row has a reason, and `more` says how many are written, under any limit."""
+        sheet = sheetlib.encode(large.rows_of_eight(70))
+        for rows in (1, 64, 69, 70, 256):
+            path = self.path("lines", "".join(line + "\n" for line in printed(sheet, rows)))
+            status, out, error = command("bin/explain", "--lines", path, self.path("a.sheet", sheet))
+            lines = [line for line in out.decode().splitlines() if line.startswith(("D ", "more"))]
+            self.assertEqual((status, error, len(lines)), (1, "", min(rows, 70) + (rows < 70)))
+            self.assertTrue(all(line.startswith("D 1 t") and " <- " in line for line in lines[:min(rows, 70)]))
+            self.assertEqual(lines[70:] if rows >= 70 else lines[-1:],
+                             [] if rows >= 70 else [f"more <- more rows than the {rows} written"])
+            if BUILT:
+                self.assertEqual(command("bin/explain", "--rows", str(rows), self.path("a.sheet"))[1], out)
+                self.assertEqual(command("bin/explain", self.path("a.sheet"))[1] == out, rows == model.SHOWN_ROWS)
+
     def test_random_maps(self):
         """Every line and every row has a reason."""
         for seed in range(700):
@@ -175,6 +190,10 @@ class Explain(InFolder):
         for args, error in [([], "which map?"), (["none.txt"], "none.txt: no such file or directory"), ([ROOT], "is a directory"),
                             (["--dot", "--html", "x", "a"], "not allowed with"), (["--bogus"], "unrecognized"),
                             (["--dot", "a", "b"], "take one map"), (["-", "-"], "standard input"),
+                            (["--rows", "0", "a"], "--rows 0: the limit is 1 to 256 rows"),
+                            (["--rows", "257", "a"], "--rows 257: the limit is 1 to 256 rows"),
+                            (["--rows", "x", "a"], "argument --rows: invalid int value: 'x'"),
+                            (["--rows", "1", "--lines", "a", "b"], "--rows does nothing with --lines"),
                             (["--lines", "none", "examples/base.txt"], "none: no such file or directory")]:
             status, out, told_text = command("bin/explain", *args)
             self.assertEqual((status, out), (2, b""), args)

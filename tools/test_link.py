@@ -76,9 +76,9 @@ def sheets():
             **{name: sheetlib.encode(make()) for name, make in large.MAPS.items()}}
 
 
-def model_of(call, sheet, listing=LARGEST):
-    """The model's answer."""
-    return getattr(model, call)(sheet, bytes(listing), bytes(1536))
+def model_of(call, sheet, listing=LARGEST, rows=model.SHOWN_ROWS):
+    """The model's answer under a row limit."""
+    return getattr(model, call)(sheet, bytes(listing), bytes(6 * rows), rows)
 
 
 def constants():
@@ -112,7 +112,8 @@ USES = """
 #include "gidzelma.h"
 %s
 typedef char row_size[sizeof(struct gidzelma_row) == GIDZELMA_ROW_LEN ? 1 : -1];
-typedef char slice_size[sizeof(struct gidzelma_row[GIDZELMA_ROWS_MAX]) == GIDZELMA_DIAGNOSIS_LEN ? 1 : -1];
+typedef char slice_size[sizeof(struct gidzelma_row[GIDZELMA_ROWS_MAX]) == GIDZELMA_DIAGNOSIS_LEN(GIDZELMA_ROWS_MAX) ? 1 : -1];
+typedef char least_slice[GIDZELMA_DIAGNOSIS_LEN(1) + GIDZELMA_DIAGNOSIS_LEN(1 + 1) == 18 ? 1 : -1];
 uint32_t use(enum gidzelma_number number, enum gidzelma_kind kind, const char *version);
 uint32_t use(enum gidzelma_number number, enum gidzelma_kind kind, const char *version)
 {
@@ -122,14 +123,14 @@ uint32_t use(enum gidzelma_number number, enum gidzelma_kind kind, const char *v
     int32_t tariff[GIDZELMA_TARIFF_ROW_LEN] = {GIDZELMA_SORT_VIRTUAL, GIDZELMA_PARENTS_MIN, -GIDZELMA_RATE_MAX};
     int64_t total;
     if (number == GIDZELMA_ACCEPTED && kind == GIDZELMA_KIND_CYCLE && version[0] == GIDZELMA_VERSION[0])
-        return gidzelma_order(sheet, 1, listing, 1, (uint8_t *)rows, sizeof rows, parts, 3);
+        return gidzelma_order(sheet, 1, GIDZELMA_ROWS_SHOWN, listing, 1, (uint8_t *)rows, sizeof rows, parts, 3);
     if (number == GIDZELMA_SCHEDULE_PAST_END)
         return gidzelma_read_schedule(GIDZELMA_WORDS_MAX, listing, 1, records, sizeof records, parts, 3);
     if (number == GIDZELMA_SCHEDULE_NOT_ALLOWED)
         return gidzelma_write_schedule(GIDZELMA_WORDS_MIN, records, sizeof records, listing, 1, parts, 3);
     if (number == GIDZELMA_TARIFF_NOT_ALLOWED)
         return gidzelma_tariff(tariff, GIDZELMA_TARIFF_ROW_LEN, GIDZELMA_WORDS_MIN, listing, 1, &total);
-    return gidzelma_schedule(sheet, 1, listing, 1, (uint8_t *)rows, sizeof rows, parts, 3);
+    return gidzelma_schedule(sheet, 1, GIDZELMA_ROWS_MAX, listing, 1, (uint8_t *)rows, sizeof rows, parts, 3);
 }
 """
 
@@ -162,10 +163,11 @@ class Header(Folder):
         numbers = [value for name, value in values.items()
                    if re.search(rf"^    GIDZELMA_{name} = ", text_of("include", "gidzelma.h"), re.M)]
         self.assertEqual(numbers, [0, *refusals.REFUSALS, 255, *refusals.KINDS])
-        self.assertEqual((values["SHEET_MAX"], values["ROWS_MAX"]), (model.SHEET_LIMIT, model.ROWS))
-        self.assertEqual(values["DIAGNOSIS_LEN"], values["ROW_LEN"] * values["ROWS_MAX"])
+        row = model.row_bytes(model.Row(2, (0,), (1,), None))
+        self.assertEqual((values["SHEET_MAX"], values["ROW_LEN"]), (model.SHEET_LIMIT, len(row)))
+        self.assertEqual((values["ROWS_MAX"], values["ROWS_SHOWN"]), (model.MOST_ROWS, model.SHOWN_ROWS))
         page = text_of("docs", "FORMAT.md")
-        for name in ("SHEET_MAX", "DIAGNOSIS_LEN", "ORDER_MAX", "SCHEDULE_MAX", "SCHEDULE_FOUND"):
+        for name in ("SHEET_MAX", "ROWS_MAX", "ORDER_MAX", "SCHEDULE_MAX", "SCHEDULE_FOUND"):
             self.assertRegex(page, rf"\b{values[name]:,}\b", name)
         self.assertEqual((values["WORDS_MIN"], values["WORDS_MAX"]), model_conversion.WORDS)
         self.assertEqual((values["RECORD_LEN"], values["RECORDS_PER_BYTE"]), (model_conversion.RECORD, 8 * 2))
@@ -173,10 +175,11 @@ class Header(Folder):
         self.assertEqual((-values["RATE_MAX"], values["RATE_MAX"]), model_tariff.RATES)
         self.assertEqual([values[f"SORT_{name}"] for name in ("REAL", "VIRTUAL", "LINE")], list(model_tariff.PARENTS))
         self.assertEqual((values["PARENTS_MIN"], values["PARENTS_MAX"]), model_tariff.PARENTS[model_tariff.REAL])
-        for name in ("DIAGNOSIS_LEN", "ROW_LEN", "ABSENT", "STACK_LEN", "LISTING_TOO_SHORT", "RECORDS_PER_BYTE"):
+        for name in ("ROW_LEN", "ROWS_MAX", "ROWS_SHOWN", "ABSENT", "STACK_LEN", "LISTING_TOO_SHORT", "RECORDS_PER_BYTE"):
             self.assertEqual(getattr(gidzelma, name), values[name], name)
+        self.assertEqual([gidzelma.diagnosis_len(rows) for rows in (1, 64, 256)], [6, 384, 1536])
         rust = text_of("rust", "src", "lib.rs")
-        for name in ("SHEET_MAX", "ROW_LEN", "ROWS_MAX", "ORDER_MAX", "SCHEDULE_MAX", "RECORD_LEN",
+        for name in ("SHEET_MAX", "ROW_LEN", "ROWS_MAX", "ROWS_SHOWN", "ORDER_MAX", "SCHEDULE_MAX", "RECORD_LEN",
                      "RECORDS_PER_BYTE", "TARIFF_ROW_LEN", "TARIFF_MAX"):
             self.assertIn(f"pub const {name}: usize = {values[name]:_};", rust)
         self.assertIn(f"pub const RATE_MAX: i32 = {values['RATE_MAX']:_};", rust)
@@ -330,12 +333,51 @@ class Python(unittest.TestCase):
         loop = sheetlib.sheet_of("domain a : b\ndomain b : a")
         for call in CALLS:
             for given in (sheet, loop, b"", b"\x20"):
-                for listing, diagnosis in [*((at, 1536) for at in range(20)), (9, 0), (9, 1535), (9, 1537)]:
-                    lent = bytearray(b"\xa5" * listing), bytearray(b"\x5a" * diagnosis)
-                    want = getattr(model, call)(given, *map(bytes, lent))
-                    got = self.library.lend(call, given, *lent)
-                    self.assertEqual(got, (want.number, want.size, want.rowcount, want.flag))
-                    self.assertEqual(lent, (want.listing, want.diagnosis))
+                for rows in (64, 1, 256):
+                    needed = 6 * rows
+                    for listing, diagnosis in [*((at, needed) for at in range(20)), (9, 0), (9, needed - 1), (9, needed + 1)]:
+                        self.check_lent(call, given, rows, listing, diagnosis)
+
+    def check_lent(self, call, given, rows, listing, diagnosis):
+        """A call on slices of so many bytes, beside the model."""
+        lent = bytearray(b"\xa5" * listing), bytearray(b"\x5a" * diagnosis)
+        want = getattr(model, call)(given, *map(bytes, lent), rows)
+        got = self.library.lend(call, given, *lent, rows)
+        self.assertEqual(got, (want.number, want.size, want.rowcount, want.flag))
+        self.assertEqual(lent, (want.listing, want.diagnosis))
+        if rows == gidzelma.ROWS_SHOWN:
+            self.assertEqual(self.library.lend(call, given, *lent), got)
+
+    def test_limits(self):
+        """As many rows as the limit, one less, one more, of 8 and of 9, and limits that are not allowed, up to the largest
+        number of C; slices around six bytes a row."""
+        for rows in (1, 2, 63, 64, 65, 255, 256):
+            for beside in (-1, 0, 1):
+                for make in (large.rows_of_eight, large.rows_of_nine):
+                    sheet = sheetlib.encode(make(rows + beside))
+                    for call in CALLS:
+                        for diagnosis in (6 * rows - 1, 6 * rows, 6 * rows + 1, 1600):
+                            self.check_lent(call, sheet, rows, 9, diagnosis)
+        for rows in (0, 257, 65536, 65600, 0x2aaaaaab, (1 << 32) - 1):
+            for given in (sheet, b"", bytes(40961)):
+                for call in CALLS:
+                    for diagnosis in (0, 2, 1535, 1536, 1542):
+                        self.check_lent(call, given, rows, 9, diagnosis)
+
+    def test_checked(self):
+        """A limit that is not allowed is an error of the caller's before the call is made."""
+        loop, many = sheetlib.sheet_of("domain a : b\ndomain b : a"), sheetlib.encode(large.rows_of_eight(70))
+        for rows in (-1, 0, 257, 1 << 32, (1 << 32) + 64):
+            for call in CALLS:
+                with self.assertRaisesRegex(ValueError, f"a row limit of {rows}: it is 1 to 256"):
+                    getattr(self.library, call)(loop, rows)
+        for rows in (-1, 1 << 32, (1 << 32) + 64):
+            with self.assertRaisesRegex(OverflowError, "no number of 32 bits"):
+                self.library.lend("order", loop, bytearray(9), bytearray(1536), rows)
+        for rows, count, more in ((1, 1, True), (64, 64, True), (69, 69, True), (70, 70, False), (256, 70, False)):
+            with self.assertRaises(gidzelma.Refused) as caught:
+                self.library.schedule(many, rows=rows)
+            self.assertEqual((len(caught.exception.rows), caught.exception.more), (count, more))
 
     def test_refused(self):
         with self.assertRaises(gidzelma.Refused) as caught:
@@ -826,7 +868,7 @@ class Tables(Folder):
         self.assertTrue(out.decode().endswith("written: target/fuzz/order.md\n"))
         with open(os.path.join(copy, "target", "fuzz", "order.md"), encoding="utf-8") as source:
             row = source.read().splitlines()[-1]
-        self.assertRegex(row, r"^\| order, canaries and guard pages \| 761 \|.*\| 0 \|$")
+        self.assertRegex(row, r"^\| order, canaries and guard pages \| 815 \|.*\| 0 \|$")
         with open(page, encoding="utf-8") as source:
             self.assertEqual(source.read(), before)
         self.assertEqual(ran([*words, "--write"])[0], 0)

@@ -6,6 +6,7 @@ where the library is not. How the programs build what is missing is tried in a s
 for rt.
 """
 
+import itertools
 import json
 import os
 import pty
@@ -71,6 +72,12 @@ def shell(line, *args, root=ROOT, **more):
     done = subprocess.run(["sh", "-c", names + line, "sh", *args], capture_output=True, check=False,
                           timeout=120, **more)
     return done.returncode, done.stdout, done.stderr.decode()
+
+
+def shown(call, sheet, rows=model.SHOWN_ROWS):
+    """What the program of a call prints under a row limit, by the model."""
+    answer = getattr(model, call)(sheet, bytes(65536), bytes(6 * rows), rows)
+    return "".join(line + "\n" for line in model.printed(sheet, answer, call == "schedule")).encode()
 
 
 def listed_sheets():
@@ -223,22 +230,96 @@ class Answers(Folder):
         self.assertEqual((done.returncode, done.stderr), (0, b""))
 
     def test_cases(self):
-        """Each listed case, through a process for each sheet and through one for all, as the model has it."""
-        for call in CALLS:
-            each = proved.Each(building.program(ROOT, call).path)
+        """Each listed case, through a process for each sheet and through one for all, as the model has it; under the
+        limit of the programs, the least and the largest."""
+        for call, rows in itertools.product(CALLS, (model.SHOWN_ROWS, 1, model.MOST_ROWS)):
+            each = proved.Each(building.program(ROOT, call).path, str(rows))
             batch = building.program(ROOT, "batch")
-            many = proved.Many(batch.path, call) if building.at_hand(ROOT, batch) else each
+            many = proved.Many(batch.path, call, each, rows) if building.at_hand(ROOT, batch) else each
             for sheet in listed_sheets().values():
-                answer = getattr(model, call)(sheet, bytes(65536), bytes(1536))
-                lines = model.printed(sheet, answer, call == "schedule")
-                text = "".join(line + "\n" for line in lines).encode()
+                text = shown(call, sheet, rows)
                 self.assertEqual(each.text(sheet), text)
                 self.assertEqual(many.text(sheet), text)
-                self.assertEqual(printed.refused(text), answer.number != 0)
+                self.assertEqual(printed.refused(text), getattr(model, call)(sheet, bytes(65536), bytes(1536)).number != 0)
             if many is not each:
                 many.process.stdin.close()
                 many.process.stdout.close()
                 self.assertEqual(many.process.wait(), 0)
+
+
+@built
+class RowLimits(Folder):
+    """--rows N: as many rows as the limit, one less, one more, of 8 and of 9."""
+
+    LIMITS = (1, 2, 63, 64, 65, 255, 256)
+
+    def sheets(self, limit):
+        """Sheets with about so many rows, each with its call."""
+        for beside in (-1, 0, 1):
+            for make, calls in ((large.rows_of_eight, CALLS), (large.rows_of_nine, ("schedule",))):
+                sheet = sheetlib.encode(make(limit + beside))
+                yield from ((call, sheet) for call in calls)
+
+    def test_printed(self):
+        for limit in self.LIMITS:
+            for call, sheet in self.sheets(limit):
+                text = shown(call, sheet, limit)
+                status = int(text.startswith(b"refused"))
+                self.assertEqual(run(call, "--rows", str(limit), given=sheet), (status, text, ""), limit)
+                self.assertEqual(run(call, given=sheet)[1], shown(call, sheet), limit)
+
+    def test_several(self):
+        """Through one process for all: the same bytes."""
+        for limit in self.LIMITS:
+            for call in CALLS:
+                sheets = [sheet for own, sheet in self.sheets(limit) if own == call]
+                names = [self.write(f"{at}.sheet", sheet) for at, sheet in enumerate(sheets)]
+                want = b"".join(f"== {name}\n".encode() + shown(call, sheet, limit) for name, sheet in zip(names, sheets))
+                self.assertEqual(run(call, "--rows", str(limit), *names)[1:], (want, ""))
+
+    def test_json(self):
+        for limit in self.LIMITS:
+            for call, sheet in self.sheets(limit):
+                value = json.loads(run(call, "--json", "--rows", str(limit), given=sheet)[1])
+                self.assertEqual("".join(line + "\n" for line in printed_lines(value)).encode(), shown(call, sheet, limit))
+
+    def test_compare(self):
+        """The rows of a sheet that is refused, in the columns and in the object."""
+        many = self.write("many", sheetlib.encode(large.rows_of_nine(70)))
+        good = self.write("good", sheetlib.sheet_of("domain a"))
+        for args, rows, more in ((), 64, True), (("--rows", "69"), 69, True), (("--rows", "70"), 70, False):
+            status, out, _ = run("compare", *args, many, good)
+            self.assertEqual((status, out.count(b"\nD 4 "), b"\nmore" in out), (1, rows, more))
+            value = json.loads(run("compare", "--json", *args, many, good)[1])
+            self.assertEqual((len(value["refusals"][0]["rows"]), value["refusals"][0]["more"]), (rows, more))
+
+    @linked
+    def test_packed(self):
+        """With packed bytes too a refusal is printed under the limit."""
+        sheet = self.write("a.sheet", sheetlib.encode(large.rows_of_nine(70)))
+        for limit in (1, 70):
+            text = shown("schedule", sheetlib.encode(large.rows_of_nine(70)), limit)
+            for args in (["--size"], ["--packed", self.path("out")]):
+                self.assertEqual(run("schedule", *args, "--rows", str(limit), sheet), (1, text, ""))
+
+    def ask(self, call, *arguments, given=b""):
+        """Status, standard output and standard error of the proved program itself."""
+        done = subprocess.run([building.program(ROOT, call).path, *arguments], input=given, capture_output=True, check=False)
+        return done.returncode, done.stdout, done.stderr.decode()
+
+    def test_argument(self):
+        """The proved programs take the limit as their argument, and hand it to the call as it is."""
+        sheet, long = sheetlib.encode(large.rows_of_eight(70)), bytes(40961)
+        for call in CALLS:
+            self.assertEqual(self.ask(call, given=sheet), (0, shown(call, sheet), ""))
+            for rows in (1, 64, 69, 70, 256):
+                self.assertEqual(self.ask(call, str(rows), given=sheet), (0, shown(call, sheet, rows), ""))
+            for rows in ("0", "257", "65600", "4294967295", "4294967360", str((1 << 64) - 1)):
+                self.assertEqual(self.ask(call, rows, given=sheet), (0, b"refused 17\n", ""), rows)
+                self.assertEqual(self.ask(call, rows, given=long), (0, b"refused 1\n", ""), rows)
+            for arguments in ([""], ["x"], ["1.5"], ["-1"], ["0x40"], ["1 "], [str(1 << 64)], ["1", "2"]):
+                said = f"{call}: the argument is no limit of rows\n"
+                self.assertEqual(self.ask(call, *arguments, given=sheet), (2, b"", said), arguments)
 
 
 @built
@@ -311,14 +392,16 @@ class Tables(unittest.TestCase):
     """The table of numbers and kinds."""
 
     def test_complete(self):
-        self.assertEqual(list(refusals.OF_SHEETS), list(range(1, 11)))
-        self.assertEqual(list(refusals.REFUSALS), [*range(1, 13), *range(14, 17)])
+        self.assertEqual(list(refusals.OF_SHEETS), [*range(1, 11), 17])
+        self.assertEqual(list(refusals.REFUSALS), [*range(1, 13), *range(14, 18)])
         self.assertEqual(list(refusals.KINDS), list(range(1, 7)))
 
     def test_limits(self):
-        for number, limit in ((1, model.SHEET_LIMIT), (2, 6 * model.ROWS), (10, model.LISTING_SIZE)):
+        for number, limit in ((1, model.SHEET_LIMIT), (10, model.LISTING_SIZE), (17, model.MOST_ROWS)):
             self.assertIn(f"{limit:,}", refusals.meaning_of(number))
-        self.assertIn(str(model.ROWS), refusals.MORE)
+        self.assertEqual((refusals.MOST_ROWS, refusals.SHOWN_ROWS), (model.MOST_ROWS, model.SHOWN_ROWS))
+        self.assertEqual(refusals.more_than(64), "there are more rows than the 64 listed; --rows lists up to 256")
+        self.assertEqual(refusals.more_than(256), "there are more rows than the 256 listed")
         self.assertTrue(refusals.meaning_of(4).startswith("a value that is not allowed"))
 
     def test_header(self):
@@ -355,8 +438,11 @@ class Words(Folder):
                          (1, b"refused 8\nD 2 b a -\nD 2 a b -\n" + self.LOOP.encode(), ""))
         self.assertEqual(run("schedule", "--explain", BASE), (0, BASE_TEXT, ""))
         many = sheetlib.sheet_of(case_texts.rows(8))
-        lines = run("schedule", "--explain", given=many)[1].decode().splitlines()
-        self.assertEqual((len(lines), lines[-1]), (2 * 258, "more: there are more than 256 rows"))
+        for args, rows in ((), 64), (("--rows", "256"), 256), (("--rows", "1"), 1):
+            lines = run("schedule", "--explain", *args, given=many)[1].decode().splitlines()
+            self.assertEqual((len(lines), lines[-1]), (2 * (rows + 2), f"more: {refusals.more_than(rows)}"))
+        all_of_them = sheetlib.sheet_of(case_texts.rows(7))
+        self.assertNotIn(b"more", run("schedule", "--explain", "--rows", "256", given=all_of_them)[1])
 
     def test_each_number(self):
         """Each refusal that a program can give, in words."""
@@ -575,6 +661,13 @@ class Options(Folder):
                 (["--size", "--packed", "-", "x"],
                  "--size and --packed - would both write to standard output"),
                 (["-", "-"], "standard input is given twice"),
+                (["--rows", "0", "x"], "--rows 0: the limit is 1 to 256 rows"),
+                (["--rows", "257", "x"], "--rows 257: the limit is 1 to 256 rows"),
+                (["--rows=-1", "x"], "--rows -1: the limit is 1 to 256 rows"),
+                (["--rows", str(1 << 70), "x"], f"--rows {1 << 70}: the limit is 1 to 256 rows"),
+                (["--rows", "x", "x"], "argument --rows: invalid int value: 'x'; --help has the options"),
+                (["--rows"], "argument --rows: expected one argument; --help has the options"),
+                (["--rows", "1", "--rows", "2", "x"], "--rows is given twice"),
                 (["--packed", "-", "x", "y"],
                  "--packed - takes one sheet; for several --packed needs a folder"),
                 (["--packed", "a", "x", "y"], "--packed a: is no folder, as several sheets need"),
@@ -591,8 +684,8 @@ class Options(Folder):
                 status, out, error = run(call, *args)
                 self.assertEqual((status, error), (0, ""))
                 self.assertTrue(out.decode().startswith(f"Usage: {call} "))
-            for part in ["--packed FILE", "--size", "--json", "--explain", "--version", "Status: 0 accepted",
-                         "10  the schedule is longer"]:
+            for part in ["--packed FILE", "--size", "--rows N", "1 to 256, 64 if", "--json", "--explain", "--version",
+                         "Status: 0 accepted", "10  the schedule is longer", "17  the row limit"]:
                 self.assertIn(part, out.decode())
             self.assertLess(max(map(len, out.decode().splitlines())), 100)
 
@@ -1005,7 +1098,7 @@ class Compare(Folder):
     def test_cases(self):
         """What is printed for each listed case, beside itself and beside the next: down a column stand its lines, and
         no row has a mark exactly if a schedule stands beside the same."""
-        program = proved.Each(building.program(ROOT, "schedule").path)
+        program = proved.Each(building.program(ROOT, "schedule").path, str(model.SHOWN_ROWS))
         texts = [program.text(sheet).decode() for sheet in listed_sheets().values()]
         for one, other in zip(texts, texts[1:] + texts[:1]):
             for a, b in ((one, one), (one, other)):
@@ -1242,6 +1335,11 @@ class CompareOptions(Folder):
                 (["-q", "--json", "a", "b"], "--json does nothing with --quiet, which prints nothing"),
                 (["-q", "--differences", "a", "b"], "--differences does nothing with --quiet, which prints nothing"),
                 (["-q", "--width", "80", "a", "b"], "--width does nothing with --quiet, which prints nothing"),
+                (["-q", "--rows", "80", "a", "b"], "--rows does nothing with --quiet, which prints nothing"),
+                (["--rows", "0", "a", "b"], "--rows 0: the limit is 1 to 256 rows"),
+                (["--rows", "257", "a", "b"], "--rows 257: the limit is 1 to 256 rows"),
+                (["--rows", "2", "--packed", "a", "b", "c"],
+                 "--rows does nothing with --packed: a packed schedule has no rows of a diagnosis"),
                 (["--brief", "a", "b"], "unrecognized arguments: --brief; --help has the options"),
                 (["gone", BASE], "gone: no such file or directory"), ([BASE, "gone"], "gone: no such file or directory"),
                 ([BASE, "."], ".: is a directory")]:
@@ -1252,8 +1350,8 @@ class CompareOptions(Folder):
             status, out, error = run("compare", *args)
             self.assertEqual((status, error), (0, ""))
             self.assertTrue(out.decode().startswith("Usage: compare "))
-        numbers = [f"{number:2}  {refusals.said_of(number)}" for number in range(1, 13)]
-        for part in ["--packed", "-w W", "--differences", "-q, --quiet", "--width N", "at least 20", "--json",
+        numbers = [f"{number:2}  {refusals.said_of(number)}" for number in (*range(1, 13), 17)]
+        for part in ["--packed", "-w W", "--differences", "-q, --quiet", "--width N", "at least 20", "--rows N", "--json",
                      "Status: 0 the schedules are the same", *numbers]:
             self.assertIn(part, out.decode())
         self.assertLess(max(map(len, out.decode().splitlines())), 100)
@@ -1285,10 +1383,7 @@ class Examples(unittest.TestCase):
         """By the model."""
         self.assertTrue(list(self.stored(".txt")))
         for name, call, text in self.stored(".txt"):
-            sheet = self.sheet(name)
-            answer = getattr(model, call)(sheet, bytes(65536), bytes(1536))
-            lines = model.printed(sheet, answer, call == "schedule")
-            self.assertEqual("".join(line + "\n" for line in lines), text.decode(), name)
+            self.assertEqual(shown(call, self.sheet(name)), text, name)
         for name, call, packed in self.stored(""):
             answer = getattr(model, call)(self.sheet(name), bytes(1 << 18), bytes(1536))
             self.assertEqual((answer.number, answer.listing[:answer.size]), (0, packed), name)

@@ -128,10 +128,10 @@ GOOD = "domain a\n  associate f\nresource f\n"
 
 
 class RefusalTable(unittest.TestCase):
-    """The ten refusals: the examples (FORMAT 7.2), and the order of the tests (FORMAT 7.3)."""
+    """The refusals: the examples (FORMAT 7.2), and the order of the tests (FORMAT 7.3)."""
 
-    def check(self, sheet, want, call, listing=LISTING, diagnosis=DIAGNOSIS, size=0):
-        result = CALLS[call](sheet, listing, diagnosis)
+    def check(self, sheet, want, call, listing=LISTING, diagnosis=DIAGNOSIS, size=0, rows=256):
+        result = CALLS[call](sheet, listing, diagnosis, rows)
         self.assertEqual(result[:2], (want, size))
         self.assertEqual(result.listing, listing)
         if want not in (8, 9):
@@ -167,7 +167,9 @@ class RefusalTable(unittest.TestCase):
 
     def test_order_of_tests(self):
         for call in CALLS:
+            self.assertEqual(number(bytes(40961), call, diagnosis=b"", rows=0), 1)
             self.assertEqual(number(bytes(40961), call, diagnosis=b""), 1)
+            self.assertEqual(number(b"", call, diagnosis=b"", rows=0), 17)
             self.assertEqual(number(b"", call, diagnosis=b""), 2)
             twice = sheet_of("words! self resource a\ndomain a\ndomain a")
             self.assertEqual(number(twice + b"\0", call), 7)
@@ -175,6 +177,18 @@ class RefusalTable(unittest.TestCase):
             self.assertEqual(number("domain a : a\ndomain a : a", call), 6)
             self.assertEqual(number("domain a : a\n  associate b", call, listing=b""), 8)
         self.assertEqual(number("domain a\n  associate b", listing=b""), 9)
+
+    def test_row_limit(self):
+        """17: a limit that is not allowed, whatever the slice; 2: a slice under six bytes a row of the limit."""
+        for call in CALLS:
+            for rows in (0, 257, 65536, 0x2aaaaaab, (1 << 32) - 1, 1 << 32):
+                for diagnosis in (b"", bytes(2), bytes(1536), bytes(1542)):
+                    self.check(sheet_of(GOOD), 17, call, diagnosis=diagnosis, rows=rows)
+            for rows in (1, 2, 63, 64, 65, 255, 256):
+                for less in (1, 6, 6 * rows):
+                    self.check(b"", 2, call, diagnosis=bytes(6 * rows - less), rows=rows)
+                for more in (0, 1):
+                    self.check(b"", 3, call, diagnosis=bytes(6 * rows + more), rows=rows)
 
     def test_fill(self):
         empty = bytearray(sheet_of(""))  # 131 bits: five of fill
@@ -304,16 +318,22 @@ class Diagnosis8(unittest.TestCase):
         self.assertEqual(run("domain a\ndomain b : a\ndomain c", "order"), ["T a", "T c", "T b"])
 
     def test_row_limit(self):
-        def text(count):
-            return "".join(f"domain t{at:02} :{' self' * min(8, count - 8 * at)}\n"
-                           for at in range((count + 7) // 8))
-        for count, rows, flag in [(255, 255, 0), (256, 256, 0), (257, 256, 1)]:
-            result = model.order(sheet_of(text(count)), LISTING, DIAGNOSIS)
-            self.assertEqual(result[:4], (8, 0, rows, flag))
-            self.assertEqual(result.diagnosis[6 * rows:], DIAGNOSIS[6 * rows:])
-            self.assertEqual(result.listing, LISTING)
-        self.assertEqual(run(text(257))[-1], "more")
-        self.assertEqual(model.order(sheet_of(text(257)), LISTING, bytes(384), 64)[:4], (8, 0, 64, 1))
+        """Of 8, and of 9: as many rows as the limit, one less, one more. The bytes behind them stay, and what is
+        written is the beginning of what is written under a larger limit."""
+        for limit, beside in itertools.product((1, 2, 63, 64, 65, 255, 256), (-1, 0, 1)):
+            count = limit + beside
+            for number_, call, sheet in [(8, "order", large.rows_of_eight(count)), (8, "schedule", large.rows_of_eight(count)),
+                                         (9, "schedule", large.rows_of_nine(count))]:
+                sheet, rows = encode(sheet), min(count, limit)
+                result = CALLS[call](sheet, LISTING, DIAGNOSIS, limit)
+                if count:
+                    self.assertEqual(result[:4], (number_, 0, rows, int(beside > 0)))
+                    self.assertEqual(result.listing, LISTING)
+                    whole = CALLS[call](sheet, LISTING, DIAGNOSIS)
+                    self.assertEqual(result.diagnosis, whole.diagnosis[:6 * rows] + DIAGNOSIS[6 * rows:])
+                    short = CALLS[call](sheet, LISTING, DIAGNOSIS[:6 * limit], limit)
+                    self.assertEqual(short.diagnosis, result.diagnosis[:6 * limit])
+                self.assertEqual(run(sheet, call, rows=limit)[-1:] == ["more"], beside > 0)
 
     def test_exponential(self):
         """Paths that double at each step end at the row past the limit."""
@@ -705,8 +725,12 @@ class Programs(unittest.TestCase):
         self.assertEqual(self.tool("model.py", "order", given=sheet)[1], b"refused 8\nD 2 a a -\n")
         self.assertEqual(self.tool("model.py", "order", "--listing", "0", given=sheet_of(""))[1],
                          b"refused 10\n")
-        self.assertEqual(self.tool("model.py", "order", "--diagnosis", "1535", given=sheet)[1],
+        self.assertEqual(self.tool("model.py", "order", "--diagnosis", "383", given=sheet)[1],
                          b"refused 2\n")
+        ring = sheet_of("domain a : b\ndomain b : a")
+        self.assertEqual(self.tool("model.py", "order", "--rows", "1", given=ring)[1], b"refused 8\nD 2 b a -\nmore\n")
+        for rows in ("0", "257", str((1 << 32) - 1)):
+            self.assertEqual(self.tool("model.py", "order", "--rows", rows, given=ring)[1], b"refused 17\n")
         self.assertEqual(self.tool("model.py", "order", given=sheet_of(""))[1], b"")
 
 
@@ -983,7 +1007,7 @@ TRACE = """
 |---|---|---|
 | 1.1 words | `Reading.word, low` | `D small`, `code: gone, lost` |
 | 1.2 names | `code::read`, `code::Cursor`, `code::Cursor::step`, `Tariff.charged` | `C large`, `T cheap` |
-| 2.1 fields | `laws First, Statements.Second, second-law` | `docs/FORMAT.md`, `code` |
+| 2.1 fields | `law_orders First, Statements.Second, second-law` | `docs/FORMAT.md`, `code` |
 """
 
 TREE = {
@@ -1033,7 +1057,7 @@ class CheckTrace(unittest.TestCase):
                 (5, "code::read", "code::write", "no function write in crates/code/src"),
                 (5, "Cursor::step", "Cursor::read", "no function Cursor::read in crates/code/src"),
                 (5, "code::read", "none::read", "no function read in crates/none/src"),
-                (6, "laws First", "laws Third", "no Third in crates/law_orders/specs"),
+                (6, "law_orders First", "law_orders Third", "no Third in crates/law_orders/specs"),
                 (6, "Statements.Second", "Proofs.Second", "no Second in crates/law_orders/specs/Proofs.antt"),
                 (6, "docs/FORMAT.md", "docs/OTHER.md", "no file docs/OTHER.md"),
                 (6, "`code`", "`Code`", "`Code` is no reference"),
@@ -1070,7 +1094,7 @@ BELIEVED = {
         "abbrev pub unused : ℕ\nunused = 1\n",
     "crates/access/specs/Answers.antt":
         "-- Answers.\nuse Rattle.definitions.specs.Answer as rules\n"
-        "use Rattle.access.specs.declared.Answer.{Answer}\nuse Rattle.laws.specs.Statements.{Once}\n\n"
+        "use Rattle.access.specs.declared.Answer.{Answer}\nuse Rattle.law_orders.specs.Statements.{Once}\n\n"
         "abbrev pub answerOf : Answer → rules.Input\nanswerOf a = a\n\nabbrev pub private : ℕ\nprivate = 1\n\n"
         "pub record Promised (a : Answer) : Type 0 where\n  pub once : Once\n",
     "crates/law_orders/specs/Statements.antt": "abbrev pub Once : Type 0\nOnce = ℕ\n\nabbrev pub Law : Type 0\nLaw = ℕ\n",

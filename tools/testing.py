@@ -42,12 +42,12 @@ def told(text, name="x.txt", severities=("error", "warning"), **options):
 
 def answer(sheet):
     """The number of the schedule call's answer, by the model."""
-    return model.schedule(sheet, bytes(65536), bytes(1536)).number
+    return model.schedule(sheet, bytes(65536), bytes(6 * model.MOST_ROWS)).number
 
 
-def printed(sheet):
-    """What the schedule program prints, by the model."""
-    return model.printed(sheet, model.schedule(sheet, bytes(65536), bytes(1536)), True)
+def printed(sheet, rows=model.SHOWN_ROWS):
+    """What the schedule program prints under a row limit, by the model."""
+    return model.printed(sheet, model.schedule(sheet, bytes(65536), bytes(6 * rows), rows), True)
 
 
 class InFolder(unittest.TestCase):

@@ -5,7 +5,7 @@
 //! With several files a line `== FILE` stands before each answer. The status is 0 if all were accepted,
 //! 1 if one was refused, 2 if one cannot be read.
 
-use gidzelma::{schedule_vec, Malformed, Name, Refused, Row, Schedule, Words};
+use gidzelma::{schedule_vec, Malformed, Name, Refused, Row, RowLimit, Schedule, Words};
 use std::process::ExitCode;
 use std::{env, fs};
 
@@ -48,7 +48,7 @@ fn print_refusal(sheet: &[u8], refused: &Refused) {
 
 /// The status of one sheet.
 fn answer(sheet: &[u8]) -> u8 {
-    match (schedule_vec(sheet), Words::read(sheet)) {
+    match (schedule_vec(sheet, RowLimit::default()), Words::read(sheet)) {
         (Ok(packed), Some(words)) => match print_schedule(&words, &packed) {
             Ok(()) => 0,
             Err(malformed) => {

@@ -1,6 +1,6 @@
 //! The calls themselves: `include/gidzelma.h` behind safe functions.
 
-use crate::{Refusal, Row, Rows, DIAGNOSIS_LEN, RECORDS_PER_BYTE};
+use crate::{Refusal, Row, RowLimit, Rows, RECORDS_PER_BYTE};
 use std::error::Error;
 use std::fmt;
 
@@ -13,7 +13,7 @@ pub enum Answer {
         /// How many bytes were written.
         size: usize,
     },
-    /// Turned back by one of 1 to 7; both slices are as before.
+    /// Turned back by one of 1 to 7, or 17; both slices are as before.
     Refused(Refusal),
     /// Turned back by 8 or 9: the diagnosis slice's first `6 * rows` bytes are its rows. All else is as
     /// before.
@@ -22,7 +22,7 @@ pub enum Answer {
         refusal: Refusal,
         /// How many rows were written.
         rows: usize,
-        /// Whether there are more than these.
+        /// Whether there are more than these, beyond the row limit.
         more: bool,
     },
     /// Turned back by 10: a listing of `size` bytes would do. Both slices are as before.
@@ -61,7 +61,7 @@ impl Answer {
 pub struct Refused {
     /// Why.
     pub refusal: Refusal,
-    /// The rows, after 8 and 9.
+    /// The rows, after 8 and 9, up to the row limit.
     pub rows: Vec<Row>,
     /// Whether there are more rows than these.
     pub more: bool,
@@ -87,13 +87,23 @@ impl From<Refused> for Refusal {
     }
 }
 
-type Call =
-    unsafe extern "C" fn(*const u8, usize, *mut u8, usize, *mut u8, usize, *mut u32, usize) -> u32;
+type Call = unsafe extern "C" fn(
+    *const u8,
+    usize,
+    u32,
+    *mut u8,
+    usize,
+    *mut u8,
+    usize,
+    *mut u32,
+    usize,
+) -> u32;
 
 extern "C" {
     fn gidzelma_schedule(
         sheet: *const u8,
         sheet_len: usize,
+        rows: u32,
         listing: *mut u8,
         listing_len: usize,
         diagnosis: *mut u8,
@@ -104,6 +114,7 @@ extern "C" {
     fn gidzelma_order(
         sheet: *const u8,
         sheet_len: usize,
+        rows: u32,
         listing: *mut u8,
         listing_len: usize,
         diagnosis: *mut u8,
@@ -150,42 +161,43 @@ type Conversion =
 /// types and parents are accepted, the bytes written are equal.
 ///
 /// ```
-/// use gidzelma::{schedule, Answer, DIAGNOSIS_LEN};
+/// use gidzelma::{schedule, Answer, RowLimit};
 /// let sheet = std::fs::read("../examples/base.sheet").unwrap();
-/// let (mut listing, mut diagnosis) = ([0; 1024], [0; DIAGNOSIS_LEN]);
-/// let answer = schedule(&sheet, &mut listing, &mut diagnosis);
+/// let (limit, mut listing) = (RowLimit::default(), [0; 1024]);
+/// let mut diagnosis = [0; RowLimit::MAX.diagnosis_len()]; // suffices under every limit
+/// let answer = schedule(&sheet, limit, &mut listing, &mut diagnosis);
 /// assert_eq!(answer, Answer::Accepted { size: 16 });
-/// assert_eq!(schedule(&sheet, &mut [], &mut diagnosis), Answer::TooShort { size: 16 });
+/// assert_eq!(schedule(&sheet, limit, &mut [], &mut diagnosis), Answer::TooShort { size: 16 });
 /// ```
-pub fn schedule(sheet: &[u8], listing: &mut [u8], diagnosis: &mut [u8]) -> Answer {
-    answer(gidzelma_schedule, sheet, listing, diagnosis)
+pub fn schedule(sheet: &[u8], limit: RowLimit, listing: &mut [u8], diagnosis: &mut [u8]) -> Answer {
+    answer(gidzelma_schedule, sheet, limit, listing, diagnosis)
 }
 
 /// The order-only call: the number of a sheet's types and their names, in order and packed, in a lent
 /// listing.
-pub fn order(sheet: &[u8], listing: &mut [u8], diagnosis: &mut [u8]) -> Answer {
-    answer(gidzelma_order, sheet, listing, diagnosis)
+pub fn order(sheet: &[u8], limit: RowLimit, listing: &mut [u8], diagnosis: &mut [u8]) -> Answer {
+    answer(gidzelma_order, sheet, limit, listing, diagnosis)
 }
 
 /// The packed access schedule of a sheet, or why there is none. The listing grows to the size that is
-/// needed, so that refusal 10 does not come.
+/// needed, so that refusal 10 does not come; of a diagnosis up to `limit` rows are told.
 ///
 /// ```
-/// use gidzelma::{schedule_vec, Refusal};
+/// use gidzelma::{schedule_vec, Refusal, RowLimit};
 /// let sheet = std::fs::read("../examples/base.sheet").unwrap();
-/// assert_eq!(schedule_vec(&sheet).unwrap().len(), 16);
+/// assert_eq!(schedule_vec(&sheet, RowLimit::default()).unwrap().len(), 16);
 ///
-/// let refused = schedule_vec(&sheet[..20]).unwrap_err();
+/// let refused = schedule_vec(&sheet[..20], RowLimit::default()).unwrap_err();
 /// assert_eq!(refused.refusal, Refusal::FieldPastEnd);
 /// assert_eq!(refused.to_string(), "refused 3: a field passes the end of the sheet");
 /// ```
-pub fn schedule_vec(sheet: &[u8]) -> Result<Vec<u8>, Refused> {
-    grown(schedule, sheet, FIRST_LENT)
+pub fn schedule_vec(sheet: &[u8], limit: RowLimit) -> Result<Vec<u8>, Refused> {
+    grown(schedule, sheet, limit, FIRST_LENT)
 }
 
-/// The packed order of a sheet's types, or why there is none.
-pub fn order_vec(sheet: &[u8]) -> Result<Vec<u8>, Refused> {
-    grown(order, sheet, crate::ORDER_MAX)
+/// The packed order of a sheet's types, or why there is none, likewise.
+pub fn order_vec(sheet: &[u8], limit: RowLimit) -> Result<Vec<u8>, Refused> {
+    grown(order, sheet, limit, crate::ORDER_MAX)
 }
 
 /// The bytes that are lent first for a schedule, which suffice for ordinary maps.
@@ -193,15 +205,17 @@ const FIRST_LENT: usize = 4096;
 
 /// A call on a listing that grows, once, to the size that is needed.
 fn grown(
-    call: fn(&[u8], &mut [u8], &mut [u8]) -> Answer,
+    call: fn(&[u8], RowLimit, &mut [u8], &mut [u8]) -> Answer,
     sheet: &[u8],
+    limit: RowLimit,
     first: usize,
 ) -> Result<Vec<u8>, Refused> {
-    let (mut listing, mut diagnosis) = (vec![0; first], [0; DIAGNOSIS_LEN]);
-    let mut answer = call(sheet, &mut listing, &mut diagnosis);
+    let mut listing = vec![0; first];
+    let mut diagnosis = [0; RowLimit::MAX.diagnosis_len()];
+    let mut answer = call(sheet, limit, &mut listing, &mut diagnosis);
     if let Answer::TooShort { size } = answer {
         listing.resize(size, 0);
-        answer = call(sheet, &mut listing, &mut diagnosis);
+        answer = call(sheet, limit, &mut listing, &mut diagnosis);
     }
     let refusal = match answer {
         Answer::Accepted { size } => {
@@ -219,7 +233,13 @@ fn grown(
     })
 }
 
-fn answer(call: Call, sheet: &[u8], listing: &mut [u8], diagnosis: &mut [u8]) -> Answer {
+fn answer(
+    call: Call,
+    sheet: &[u8],
+    limit: RowLimit,
+    listing: &mut [u8],
+    diagnosis: &mut [u8],
+) -> Answer {
     // Three are lent, so 255, the answer to fewer, does not come.
     let mut parts = [0u32; 3];
     // SAFETY: pointers and lengths are those of slices, so they are not null, good for their
@@ -228,6 +248,7 @@ fn answer(call: Call, sheet: &[u8], listing: &mut [u8], diagnosis: &mut [u8]) ->
         call(
             sheet.as_ptr(),
             sheet.len(),
+            limit.number(),
             listing.as_mut_ptr(),
             listing.len(),
             diagnosis.as_mut_ptr(),

@@ -1,6 +1,6 @@
 //! Access schedules of dosing controllers, from Rust: the proved calls behind safe functions.
 //!
-//! A call turns a *sheet* (a bit-packed type map) into a bit-packed listing, or answers with one of ten
+//! A call turns a *sheet* (a bit-packed type map) into a bit-packed listing, or answers with one of eleven
 //! refusals; two further calls turn a packed schedule into records of two bytes a field, and back, and one
 //! sums what a tariff charges for its items. The calls are compiled Rattle; what each answers, and what it
 //! leaves in the slices that it is lent, is proved for every input. What this package adds is not proved: the
@@ -14,14 +14,14 @@
 //! | a schedule tested and read, field by field, and written | [`read_schedule_vec`], [`write_schedule_vec`], and [`read_schedule`], [`write_schedule`] in lent slices |
 //! | what a schedule or its records hold | [`Schedule`], and [`Words`] of the sheet to spell it |
 //! | what a tariff charges for a schedule | [`tariff`], over the numbers of its [`TariffRow`]s |
-//! | why a sheet is turned back | [`Refused`] with its [`Row`]s, or [`Answer::rows`] |
+//! | why a sheet is turned back | [`Refused`] with its [`Row`]s, up to a [`RowLimit`], or [`Answer::rows`] |
 //!
 //! ```
-//! use gidzelma::{schedule_vec, Item, Schedule, Words};
+//! use gidzelma::{schedule_vec, Item, RowLimit, Schedule, Words};
 //!
 //! # fn main() -> Result<(), Box<dyn std::error::Error>> {
 //! let sheet = std::fs::read("../examples/base.sheet")?;
-//! let packed = schedule_vec(&sheet)?;
+//! let packed = schedule_vec(&sheet, RowLimit::default())?;
 //!
 //! let words = Words::read(&sheet).expect("a sheet that is accepted has words");
 //! let schedule = Schedule::read(&packed)?;
@@ -89,7 +89,7 @@
 //! let sheet = std::fs::read("../examples/base.sheet").unwrap();
 //! let thread = std::thread::Builder::new()
 //!     .stack_size(gidzelma::STACK_LEN)
-//!     .spawn(move || gidzelma::schedule_vec(&sheet))
+//!     .spawn(move || gidzelma::schedule_vec(&sheet, gidzelma::RowLimit::default()))
 //!     .unwrap();
 //! assert_eq!(thread.join().unwrap().unwrap().len(), 16);
 //! ```
@@ -110,7 +110,7 @@ pub use calls::{
 pub use listing::{read_order, Extension, Item, Items, Malformed, Mark, Resource, Schedule};
 pub use names::{Name, Words};
 pub use refusal::Refusal;
-pub use rows::{Kind, Row, Rows};
+pub use rows::{Kind, Row, RowLimit, Rows};
 pub use tariff::{Sort, TariffRow};
 
 /// The bytes of the longest sheet that is read; a longer one is refused by 1.
@@ -119,11 +119,11 @@ pub const SHEET_MAX: usize = 40_960;
 /// The bytes of a diagnosis row.
 pub const ROW_LEN: usize = 6;
 
-/// The rows that are written at most.
+/// The largest row limit; the least is 1.
 pub const ROWS_MAX: usize = 256;
 
-/// The bytes that a diagnosis slice needs; a shorter one is refused by 2.
-pub const DIAGNOSIS_LEN: usize = ROWS_MAX * ROW_LEN;
+/// The row limit of the programs, and of `RowLimit::default()`.
+pub const ROWS_SHOWN: usize = 64;
 
 /// The bytes that always suffice for an order.
 pub const ORDER_MAX: usize = 137;

@@ -343,9 +343,9 @@ impl FusedIterator for Items<'_> {}
 /// The names of the types, from what the order-only call writes.
 ///
 /// ```
-/// use gidzelma::{order_vec, read_order, Name};
+/// use gidzelma::{order_vec, read_order, Name, RowLimit};
 /// let sheet = std::fs::read("../examples/base.sheet").unwrap();
-/// let names = read_order(&order_vec(&sheet)?)?;
+/// let names = read_order(&order_vec(&sheet, RowLimit::default())?)?;
 /// assert_eq!(names, [Name::one(0), Name::one(2), Name::one(1)]);
 /// # Ok::<(), Box<dyn std::error::Error>>(())
 /// ```

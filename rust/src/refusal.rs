@@ -3,14 +3,14 @@
 use std::error::Error;
 use std::fmt;
 
-/// Why a sheet is turned back, by 1 to 10, a schedule or its records, by 11 and 12, or a tariff, by 14 to 16.
+/// Why a sheet is turned back, by 1 to 10 and 17, a schedule or its records, by 11 and 12, or a tariff, by 14 to 16.
 /// `docs/FORMAT.md`, 7.2, 12.3 and 13.2, has the condition of each.
 #[derive(Clone, Copy, Debug, PartialEq, Eq, PartialOrd, Ord, Hash)]
 #[non_exhaustive]
 pub enum Refusal {
     /// 1: the sheet has more than [`SHEET_MAX`](crate::SHEET_MAX) bytes.
     SheetTooLong,
-    /// 2: the diagnosis slice has fewer than [`DIAGNOSIS_LEN`](crate::DIAGNOSIS_LEN) bytes.
+    /// 2: the diagnosis slice has fewer bytes than the [`RowLimit`](crate::RowLimit) needs.
     DiagnosisTooShort,
     /// 3: a field passes the end of the sheet.
     FieldPastEnd,
@@ -39,12 +39,14 @@ pub enum Refusal {
     TariffNotAllowed,
     /// 16: two rows of the tariff have one sort and one number of parents.
     TariffTwice,
+    /// 17: the row limit is 0 or over [`ROWS_MAX`](crate::ROWS_MAX), which no [`RowLimit`](crate::RowLimit) is.
+    RowLimitNotAllowed,
     /// A number that this version of the package does not know.
     Other(u32),
 }
 
 impl Refusal {
-    /// The number: 1 to 12, 14 to 16, or that of [`Refusal::Other`].
+    /// The number: 1 to 12, 14 to 17, or that of [`Refusal::Other`].
     ///
     /// ```
     /// use gidzelma::Refusal;
@@ -69,6 +71,7 @@ impl Refusal {
             Refusal::TariffTooLong => 14,
             Refusal::TariffNotAllowed => 15,
             Refusal::TariffTwice => 16,
+            Refusal::RowLimitNotAllowed => 17,
             Refusal::Other(number) => number,
         }
     }
@@ -92,6 +95,7 @@ impl Refusal {
             Refusal::TariffTooLong => "the tariff is too long",
             Refusal::TariffNotAllowed => "a row of the tariff is not allowed, or the last one is broken",
             Refusal::TariffTwice => "two rows of the tariff have one sort and one number of parents",
+            Refusal::RowLimitNotAllowed => "the row limit is not allowed",
             Refusal::Other(_) => "a number that this version does not know",
         }
     }
@@ -115,6 +119,7 @@ impl From<u32> for Refusal {
             14 => Refusal::TariffTooLong,
             15 => Refusal::TariffNotAllowed,
             16 => Refusal::TariffTwice,
+            17 => Refusal::RowLimitNotAllowed,
             _ => Refusal::Other(number),
         }
     }

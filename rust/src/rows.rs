@@ -1,12 +1,62 @@
 //! The rows of a diagnosis, after refusals 8 and 9.
 
-use crate::{Name, ROW_LEN};
+use crate::{Name, ROWS_MAX, ROWS_SHOWN, ROW_LEN};
 use std::fmt;
 use std::iter::{FusedIterator, Take};
 use std::slice::ChunksExact;
 
 /// The byte of what is absent.
 const ABSENT: u8 = 255;
+
+/// How many rows of a diagnosis a call writes at most: 1 to [`ROWS_MAX`]. Where the diagnosis slice suffices, the number
+/// that it answers and the size are the same under every limit, and the rows under a smaller one are the first of those
+/// under a larger one.
+///
+/// ```
+/// use gidzelma::{RowLimit, ROWS_MAX};
+/// let limit = RowLimit::new(100).unwrap();
+/// assert_eq!((limit.rows(), limit.diagnosis_len()), (100, 600));
+/// assert_eq!(RowLimit::new(ROWS_MAX), Some(RowLimit::MAX));
+/// assert!(RowLimit::new(0).is_none() && RowLimit::new(ROWS_MAX + 1).is_none());
+/// ```
+#[derive(Clone, Copy, Debug, PartialEq, Eq, PartialOrd, Ord, Hash)]
+pub struct RowLimit(u32);
+
+impl RowLimit {
+    /// The largest one.
+    pub const MAX: RowLimit = RowLimit(ROWS_MAX as u32);
+
+    /// A limit of so many rows, or `None` where that is not allowed.
+    pub const fn new(rows: usize) -> Option<RowLimit> {
+        if 1 <= rows && rows <= ROWS_MAX {
+            Some(RowLimit(rows as u32))
+        } else {
+            None
+        }
+    }
+
+    /// How many rows.
+    pub const fn rows(self) -> usize {
+        self.0 as usize
+    }
+
+    /// The bytes that a diagnosis slice needs; a shorter one is refused by 2.
+    pub const fn diagnosis_len(self) -> usize {
+        self.rows() * ROW_LEN
+    }
+
+    /// As the exported calls take it.
+    pub(crate) const fn number(self) -> u32 {
+        self.0
+    }
+}
+
+/// That of the programs, [`ROWS_SHOWN`].
+impl Default for RowLimit {
+    fn default() -> RowLimit {
+        RowLimit(ROWS_SHOWN as u32)
+    }
+}
 
 /// What a row says of its subject.
 #[derive(Clone, Copy, Debug, PartialEq, Eq, PartialOrd, Ord, Hash)]

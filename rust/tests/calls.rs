@@ -1,12 +1,17 @@
 //! The calls on 01's worked example and on slices that are too short.
 
 use gidzelma::{
-    order, order_vec, schedule, schedule_vec, Answer, Kind, Name, Refusal, Row, DIAGNOSIS_LEN,
+    order, order_vec, schedule, schedule_vec, Answer, Kind, Name, Refusal, Row, RowLimit, ROWS_MAX,
+    ROWS_SHOWN,
 };
 
 const BASE: &[u8] = include_bytes!("../../examples/base.sheet");
 
-type Call = fn(&[u8], &mut [u8], &mut [u8]) -> Answer;
+type Call = fn(&[u8], RowLimit, &mut [u8], &mut [u8]) -> Answer;
+
+/// The bytes that suffice under every limit, and those of the limit of the programs.
+const LONG: usize = RowLimit::MAX.diagnosis_len();
+const SHOWN: usize = 6 * ROWS_SHOWN;
 
 /// A sheet of fields, each a width and a value.
 fn fields(some: &[(usize, u32)]) -> Vec<u8> {
@@ -48,8 +53,19 @@ fn own_parent() -> Vec<u8> {
 
 /// A call on slices filled with a byte, and what it left in them.
 fn ask(call: Call, sheet: &[u8], listing: usize, diagnosis: usize) -> (Answer, Vec<u8>, Vec<u8>) {
+    ask_under(RowLimit::default(), call, sheet, listing, diagnosis)
+}
+
+/// The same under another row limit.
+fn ask_under(
+    limit: RowLimit,
+    call: Call,
+    sheet: &[u8],
+    listing: usize,
+    diagnosis: usize,
+) -> (Answer, Vec<u8>, Vec<u8>) {
     let (mut listing, mut diagnosis) = (vec![0xA5; listing], vec![0xA5; diagnosis]);
-    let answer = call(sheet, &mut listing, &mut diagnosis);
+    let answer = call(sheet, limit, &mut listing, &mut diagnosis);
     (answer, listing, diagnosis)
 }
 
@@ -60,7 +76,7 @@ fn untouched(bytes: &[u8]) -> bool {
 /// Every listing from empty to past the needed size, and every shorter diagnosis slice by 1.
 fn lengths(call: Call, sheet: &[u8], want: &[u8]) {
     for length in 0..want.len() + 9 {
-        let (answer, listing, diagnosis) = ask(call, sheet, length, DIAGNOSIS_LEN);
+        let (answer, listing, diagnosis) = ask(call, sheet, length, LONG);
         assert!(untouched(&diagnosis));
         if length < want.len() {
             assert_eq!(answer, Answer::TooShort { size: want.len() });
@@ -73,7 +89,7 @@ fn lengths(call: Call, sheet: &[u8], want: &[u8]) {
             assert!(untouched(&listing[want.len()..]));
         }
     }
-    for length in [0, 1, DIAGNOSIS_LEN - 1] {
+    for length in [0, 1, SHOWN - 1] {
         let (answer, listing, diagnosis) = ask(call, sheet, want.len(), length);
         assert_eq!(answer, Answer::Refused(Refusal::DiagnosisTooShort));
         assert!(untouched(&listing) && untouched(&diagnosis));
@@ -85,12 +101,12 @@ fn refusals(call: Call) {
     let mut more = BASE.to_vec();
     more.push(0);
     for (sheet, number) in [(&[][..], 3), (&[0x20], 4), (&more, 7), (&[0; 40_961], 1)] {
-        let (answer, listing, diagnosis) = ask(call, sheet, 100, DIAGNOSIS_LEN);
+        let (answer, listing, diagnosis) = ask(call, sheet, 100, SHOWN);
         assert_eq!(answer, Answer::Refused(Refusal::from(number)));
         assert_eq!(answer.number(), number);
         assert!(untouched(&listing) && untouched(&diagnosis));
     }
-    let (answer, listing, diagnosis) = ask(call, &own_parent(), 100, DIAGNOSIS_LEN + 5);
+    let (answer, listing, diagnosis) = ask(call, &own_parent(), 100, SHOWN + 5);
     assert_eq!(
         answer,
         Answer::Diagnosed {
@@ -110,6 +126,70 @@ fn refusals(call: Call) {
     };
     assert_eq!(answer.rows(&diagnosis).collect::<Vec<_>>(), [row]);
     assert!(untouched(&diagnosis[6..]));
+}
+
+/// Types in a ring, so many, each with as many parents as there are: their rows are more than any limit.
+fn ring(count: u32) -> Vec<u8> {
+    let mut all = vec![(4, 1), (8, count + 2)];
+    let words: Vec<String> = (0..count).map(|at| format!("a{at}")).collect();
+    for word in words.iter().map(String::as_str).chain(["resource", "self"]) {
+        all.push((5, word.len() as u32));
+        all.extend(word.bytes().map(|byte| (8, u32::from(byte))));
+    }
+    all.push((7, count));
+    for at in 0..count {
+        // a domain whose parent, eight times, is the next one
+        all.extend([(8, at), (1, 0), (2, 0), (1, 0), (1, 0), (4, 8)]);
+        all.extend((0..8).flat_map(|_| [(8, (at + 1) % count), (1, 0)]));
+        all.extend([(4, 0), (3, 0)]);
+    }
+    all.push((6, 0));
+    fields(&all)
+}
+
+/// Rows up to the limit, the flag behind them, and no byte behind six a row.
+fn limits(call: Call) {
+    let sheet = ring(5);
+    let (_, _, whole) = ask_under(RowLimit::MAX, call, &sheet, 9, LONG);
+    assert_eq!(whole.len(), 6 * ROWS_MAX);
+    for rows in [1, 2, 63, 64, 65, 255, 256] {
+        let limit = RowLimit::new(rows).unwrap();
+        assert_eq!((limit.rows(), limit.diagnosis_len()), (rows, 6 * rows));
+        for more in [0, 1, 700] {
+            let (answer, listing, diagnosis) =
+                ask_under(limit, call, &sheet, 9, limit.diagnosis_len() + more);
+            let refusal = Refusal::NoOrder;
+            let want = Answer::Diagnosed {
+                refusal,
+                rows,
+                more: true,
+            };
+            assert_eq!(answer, want);
+            assert!(untouched(&listing));
+            assert_eq!(diagnosis[..6 * rows], whole[..6 * rows]);
+            assert!(untouched(&diagnosis[6 * rows..]));
+        }
+        let (answer, _, diagnosis) = ask_under(limit, call, &sheet, 9, limit.diagnosis_len() - 1);
+        assert_eq!(answer, Answer::Refused(Refusal::DiagnosisTooShort));
+        assert!(untouched(&diagnosis));
+    }
+}
+
+#[test]
+fn row_limits() {
+    limits(order);
+    limits(schedule);
+    for rows in [0, 257, 1 << 32, (1 << 32) + 64, usize::MAX] {
+        assert_eq!(RowLimit::new(rows), None);
+    }
+    assert_eq!(RowLimit::default().rows(), ROWS_SHOWN);
+    assert_eq!(RowLimit::MAX.rows(), ROWS_MAX);
+    let refused = schedule_vec(&ring(5), RowLimit::new(7).unwrap()).unwrap_err();
+    assert_eq!((refused.rows.len(), refused.more), (7, true));
+    assert_eq!(
+        refused.to_string(),
+        "refused 8: the types have no order (7 rows, and there are more)"
+    );
 }
 
 /// The words of the example are `base`, `file`, `resource`, `self`; the order `base`, `resource`,
@@ -161,7 +241,7 @@ fn without_file() -> Vec<u8> {
 
 #[test]
 fn unknown_class() {
-    let (answer, listing, diagnosis) = ask(schedule, &without_file(), 100, DIAGNOSIS_LEN);
+    let (answer, listing, diagnosis) = ask(schedule, &without_file(), 100, SHOWN);
     let want = Answer::Diagnosed {
         refusal: Refusal::RefusedInSynthesis,
         rows: 1,
@@ -177,16 +257,17 @@ fn unknown_class() {
 #[test]
 fn owning_calls() {
     for (call, owning) in [
-        (schedule as Call, schedule_vec as fn(&[u8]) -> _),
+        (schedule as Call, schedule_vec as fn(&[u8], RowLimit) -> _),
         (order, order_vec),
     ] {
-        let (answer, listing, _) = ask(call, BASE, 100, DIAGNOSIS_LEN);
+        let limit = RowLimit::default();
+        let (answer, listing, _) = ask(call, BASE, 100, LONG);
         let Answer::Accepted { size } = answer else {
             panic!("{answer:?}")
         };
-        assert_eq!(owning(BASE).unwrap(), listing[..size]);
+        assert_eq!(owning(BASE, limit).unwrap(), listing[..size]);
 
-        let refused = owning(&own_parent()).unwrap_err();
+        let refused = owning(&own_parent(), limit).unwrap_err();
         assert_eq!((refused.refusal, refused.more), (Refusal::NoOrder, false));
         assert_eq!(refused.rows.len(), 1);
         assert_eq!(
@@ -195,11 +276,11 @@ fn owning_calls() {
         );
         assert_eq!(Refusal::from(refused), Refusal::NoOrder);
         assert_eq!(
-            owning(&[0x20]).unwrap_err().refusal,
+            owning(&[0x20], limit).unwrap_err().refusal,
             Refusal::ValueNotAllowed
         );
     }
-    let refused = schedule_vec(&without_file()).unwrap_err();
+    let refused = schedule_vec(&without_file(), RowLimit::default()).unwrap_err();
     let row = Row {
         kind: Kind::UnknownClass,
         subject: Name::one(0),
@@ -207,7 +288,7 @@ fn owning_calls() {
         word: Some(1),
     };
     assert_eq!(refused.rows, [row]);
-    assert!(order_vec(&without_file()).is_ok());
+    assert!(order_vec(&without_file(), RowLimit::default()).is_ok());
 }
 
 /// `count` resources, each of which associates all of them.
@@ -240,9 +321,9 @@ fn crowd(count: u32) -> Vec<u8> {
 /// A schedule that is longer than what the owning call lends first.
 #[test]
 fn grows() {
-    let packed = schedule_vec(&crowd(30)).unwrap();
+    let packed = schedule_vec(&crowd(30), RowLimit::default()).unwrap();
     assert!(packed.len() > 4096);
-    let (answer, listing, _) = ask(schedule, &crowd(30), packed.len(), DIAGNOSIS_LEN);
+    let (answer, listing, _) = ask(schedule, &crowd(30), packed.len(), SHOWN);
     assert_eq!((answer.number(), listing), (0, packed));
 }
 
@@ -253,7 +334,7 @@ fn numbers() {
         let refusal = Refusal::from(number);
         assert_eq!(refusal.number(), number);
         let known = !matches!(refusal, Refusal::Other(_));
-        assert_eq!(known, matches!(number, 1..=12 | 14..=16));
+        assert_eq!(known, matches!(number, 1..=12 | 14..=17));
         assert!(refusal
             .to_string()
             .starts_with(&format!("refused {number}: ")));

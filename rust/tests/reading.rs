@@ -2,7 +2,7 @@
 
 use gidzelma::{
     order_vec, read_order, schedule_vec, Extension, Item, Malformed, Mark, Name, Resource, Row,
-    Rows, Schedule, Words, DIAGNOSIS_LEN, ROWS_MAX,
+    RowLimit, Rows, Schedule, Words, ROWS_MAX,
 };
 
 const BASE: &[u8] = include_bytes!("../../examples/base.sheet");
@@ -14,11 +14,14 @@ fn items(packed: &[u8]) -> Result<Vec<Item>, Malformed> {
 
 #[test]
 fn the_example() {
-    assert_eq!(schedule_vec(BASE).unwrap(), PACKED);
+    assert_eq!(schedule_vec(BASE, RowLimit::default()).unwrap(), PACKED);
     let schedule = Schedule::read(PACKED).unwrap();
     let names = [Name::one(0), Name::one(2), Name::one(1)];
     assert_eq!(schedule.names(), names);
-    assert_eq!(read_order(&order_vec(BASE).unwrap()).unwrap(), names);
+    assert_eq!(
+        read_order(&order_vec(BASE, RowLimit::default()).unwrap()).unwrap(),
+        names
+    );
     let resource = Resource {
         owner: Name::one(0),
         word: 1,
@@ -59,7 +62,7 @@ fn one_order() {
         "1060b305c02e287265736f75726365239b2b63305d020280804021220101005004002010",
         "00a10081001802000000"
     ));
-    let packed = schedule_vec(&sheet).unwrap();
+    let packed = schedule_vec(&sheet, RowLimit::default()).unwrap();
     let words = Words::read(&sheet).unwrap();
     let lines: Vec<String> = items(&packed)
         .unwrap()
@@ -69,7 +72,10 @@ fn one_order() {
     let own = "R t.f 0 p.f,resource -";
     let inherited = "R t.f 0 p.f,resource makelist";
     assert_eq!(lines, [own, inherited, "E t 00 f"]);
-    assert_eq!(schedule_vec(&relisted).unwrap(), packed);
+    assert_eq!(
+        schedule_vec(&relisted, RowLimit::default()).unwrap(),
+        packed
+    );
 }
 
 /// Cut short, with a byte more, or with a bit of the fill.
@@ -201,7 +207,8 @@ fn values_that_are_not_allowed() {
 /// A slice that is longer or shorter than its rows.
 #[test]
 fn rows() {
-    let bytes: Vec<u8> = (0..=255).cycle().take(DIAGNOSIS_LEN + 5).collect();
+    let length = RowLimit::MAX.diagnosis_len() + 5;
+    let bytes: Vec<u8> = (0..=255).cycle().take(length).collect();
     assert_eq!(Rows::of(&bytes, usize::MAX).len(), ROWS_MAX);
     assert_eq!(Rows::of(&bytes[..11], 2).len(), 1);
     assert_eq!(Rows::of(&[], 1).len(), 0);

@@ -21,7 +21,7 @@ import random
 from maps import loads
 from maps.records import associate, record
 from maps.shapes import crowd, eight_before, layer_before, numbered
-from sheet_records import (ANNOTATIONS, ASSOCIATE, DERIVE, EXTENSIONS, LISTED, MARKS, PARENTS, RESOURCE, TYPES,
+from sheet_records import (ANNOTATIONS, ASSOCIATE, DERIVE, DOMAIN, EXTENSIONS, LISTED, MARKS, PARENTS, RESOURCE, TYPES,
                            Annotation, Extension, TypeMap, TypeRecord)
 
 LONG = [f"{at:03}".rjust(31, "w") for at in range(198)]  # with `resource` and `self` 200 words
@@ -90,6 +90,11 @@ def lists():
 def largest_schedule():
     """Another map with the largest schedule found, 239,675 bytes: the marks of a resource differ."""
     return crowd(TYPES, eight_before, range(MARKS), ("d", "w00"))
+
+
+def rows_of_eight(count):
+    """Types of which each lists `self` up to eight times: so many rows of kind 1."""
+    return TypeMap([record(f"t{at:02}", DOMAIN, ["self"] * min(PARENTS, count - PARENTS * at)) for at in range(-(-count // PARENTS))])
 
 
 def rows_of_nine(count):

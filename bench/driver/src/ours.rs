@@ -1,28 +1,53 @@
-//! Our side: the exported calls on the bytes of a sheet. The anchor's calls in C have the same form, so they are run alike.
+//! Our side: the exported calls on the bytes of a sheet. The anchor's calls in C have the same form but for the row limit, which
+//! they do not take.
 
 use crate::{Found, Side, Work};
 use std::hint::black_box;
 use std::time::{Duration, Instant};
 
-type Call =
+/// The row limit under which both sides write: that of the Rust's side.
+const ROWS: u32 = 256;
+
+type Exported = unsafe extern "C" fn(
+    *const u8,
+    usize,
+    u32,
+    *mut u8,
+    usize,
+    *mut u8,
+    usize,
+    *mut u32,
+    usize,
+) -> u32;
+
+type Anchor =
     unsafe extern "C" fn(*const u8, usize, *mut u8, usize, *mut u8, usize, *mut u32, usize) -> u32;
 
-macro_rules! exported {
-    ($($name:ident)*) => {
+/// A call of ours, or of the anchor.
+#[derive(Clone, Copy)]
+enum Call {
+    Exported(Exported),
+    Anchor(Anchor),
+}
+
+macro_rules! linked {
+    ($name:ident $($rows:tt)*) => {
         extern "C" {
-            $(fn $name(
-                sheet: *const u8, sheet_len: usize, listing: *mut u8, listing_len: usize,
+            fn $name(
+                sheet: *const u8, sheet_len: usize, $($rows)* listing: *mut u8, listing_len: usize,
                 diagnosis: *mut u8, diagnosis_len: usize, parts: *mut u32, parts_len: usize,
-            ) -> u32;)*
+            ) -> u32;
         }
     };
 }
 
-exported!(gidzelma_order);
+linked!(gidzelma_order rows: u32,);
 #[cfg(feature = "schedule")]
-exported!(gidzelma_schedule);
+linked!(gidzelma_schedule rows: u32,);
 #[cfg(feature = "anchor")]
-exported!(fast_order fast_schedule);
+linked!(fast_order);
+#[cfg(feature = "anchor")]
+linked!(fast_schedule);
 
 /// Who wrote the call: we, with its proof, or the anchor's author, in C.
 pub enum By {
@@ -41,13 +66,13 @@ pub struct Ours {
 
 fn call_of(by: By, work: Work) -> Call {
     match (by, work) {
-        (By::Proof, Work::Order) => gidzelma_order,
+        (By::Proof, Work::Order) => Call::Exported(gidzelma_order),
         #[cfg(feature = "schedule")]
-        (By::Proof, Work::Schedule) => gidzelma_schedule,
+        (By::Proof, Work::Schedule) => Call::Exported(gidzelma_schedule),
         #[cfg(feature = "anchor")]
-        (By::Hand, Work::Order) => fast_order,
+        (By::Hand, Work::Order) => Call::Anchor(fast_order),
         #[cfg(feature = "anchor")]
-        (By::Hand, Work::Schedule) => fast_schedule,
+        (By::Hand, Work::Schedule) => Call::Anchor(fast_schedule),
         _ => panic!("the library has no such call"),
     }
 }
@@ -60,7 +85,7 @@ impl Ours {
             work,
             sheet: bytes.to_vec(),
             listing: vec![0; 1 << 18],
-            diagnosis: vec![0; 1536],
+            diagnosis: vec![0; 6 * ROWS as usize],
             parts: [0; 3],
         }
     }
@@ -74,18 +99,18 @@ impl Ours {
     fn call(&mut self) -> u32 {
         let (sheet, listing) = (black_box(&self.sheet), &mut self.listing);
         let (diagnosis, parts) = (&mut self.diagnosis, &mut self.parts);
+        let (lent, room) = (listing.as_mut_ptr(), listing.len());
+        let (rows, rows_len) = (diagnosis.as_mut_ptr(), diagnosis.len());
+        let (told, count) = (parts.as_mut_ptr(), parts.len());
+        let (given, size) = (sheet.as_ptr(), sheet.len());
         // SAFETY: pointers and lengths of four slices that do not overlap.
         unsafe {
-            (self.call)(
-                sheet.as_ptr(),
-                sheet.len(),
-                listing.as_mut_ptr(),
-                listing.len(),
-                diagnosis.as_mut_ptr(),
-                diagnosis.len(),
-                parts.as_mut_ptr(),
-                parts.len(),
-            )
+            match self.call {
+                Call::Exported(call) => {
+                    call(given, size, ROWS, lent, room, rows, rows_len, told, count)
+                }
+                Call::Anchor(call) => call(given, size, lent, room, rows, rows_len, told, count),
+            }
         }
     }
 

@@ -34,28 +34,28 @@ listed-so bits l l' d a q = answered a _ l' d _ q.answer due
     due = by (ltb (length l) (size (length bits))) (λ s. rw (q.listing, s)) (λ s. rw (q.listing, s))
 
 -- 8 is due to either call where there is no order
-pub unordered-so : (call : Call) (t : Catalogue) (d : Draft) (entries : List Entry) (n w : ℕ) (m : TypeMap) → Drawn m t d entries n w → (l b b' : List ℕ) (a : Answer) → has_order m ≡ false
-    → Unordered t d entries n w b b' a → Answered a l b' (ended call m l b)
+pub unordered-so : (call : Call) (t : Catalogue) (d : Draft) (entries : List Entry) (n w limit : ℕ) (m : TypeMap) → Drawn m t d entries n w → (l b b' : List ℕ) (a : Answer) → has_order m ≡ false
+    → Unordered t d entries n w limit b b' a → Answered a l b' (ended limit call m l b)
 unfolding ended
-unordered-so call t d entries n w m e l b b' a f q = answered-as a l b' _ _ (q.due m e l) (sym (rw f))
+unordered-so call t d entries n w limit m e l b b' a f q = answered-as a l b' _ _ (q.due m e l) (sym (rw f))
 
 -- the order-only call with an order
-pub ordered-so : (m : TypeMap) (bits : List Bool) (l l' d : List ℕ) (a : Answer) → has_order m ≡ true → bits ≡ order_bits (organize_type_map m)
-    → Listing l l' bits a → Answered a l' d (ended order m l d)
+pub ordered-so : (limit : ℕ) (m : TypeMap) (bits : List Bool) (l l' d : List ℕ) (a : Answer) → has_order m ≡ true → bits ≡ order_bits (organize_type_map m)
+    → Listing l l' bits a → Answered a l' d (ended limit order m l d)
 unfolding ended schedule_of
-ordered-so m bits l l' d a h e q =
+ordered-so limit m bits l l' d a h e q =
     answered-as a l' d _ _ (listed-so bits l l' d a q) (ap (λ (b : List Bool). listed b l d) e ∙ sym (rw h))
 
 -- ---- the schedule call
 
-module _ (s : Sheet) (r : Readable s) (h : has_order (type_map_of s) ≡ true) where
+module _ (limit : ℕ) (s : Sheet) (r : Readable s) (h : has_order (type_map_of s) ≡ true) where
   -- the rows of the synthesis
   abbrev rows : List Row
   rows = (synthesis (type_map_of s)).rows
 
   -- 9: there is a row where a type is refused (FORMAT 8.11)
-  pub rows-so : (l d d' : List ℕ) (count : ℕ) (more : Bool) (a : Answer) → any_refused (line_map s) ≡ true → Written (synthesis (type_map_of s)).rows d d' count more
-      → answer_of a ≡ parts 9 0 count more → Answered a l d' (ended schedule (type_map_of s) l d)
+  pub rows-so : (l d d' : List ℕ) (count : ℕ) (more : Bool) (a : Answer) → any_refused (line_map s) ≡ true → Written limit (synthesis (type_map_of s)).rows d d' count more
+      → answer_of a ≡ parts 9 0 count more → Answered a l d' (ended limit schedule (type_map_of s) l d)
   unfolding ended
   rows-so l d d' count more a e w t =
       let some : null rows ≡ false =
@@ -66,7 +66,7 @@ module _ (s : Sheet) (r : Readable s) (h : has_order (type_map_of s) ≡ true) w
 
   -- 10 and acceptance
   pub scheduled-so : (l l' d : List ℕ) (a : Answer) → any_refused (line_map s) ≡ false → Listing l l' (schedule_bits (schedule_of schedule (type_map_of s))) a
-      → Answered a l' d (ended schedule (type_map_of s) l d)
+      → Answered a l' d (ended limit schedule (type_map_of s) l d)
   unfolding ended
   scheduled-so l l' d a e q =
       answered-as a l' d _ _

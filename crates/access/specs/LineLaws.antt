@@ -15,12 +15,13 @@ use Rattle.law_synthesis.specs.Rows.{items-listed}
 use Rattle.law_reading.specs.Statements.{NoneHolds}
 use Rattle.law_reading.specs.Refusals.{passed, none-front, all_pass}
 use Rattle.law_reading.proofs.Answers.{accepted-exactly, passed-is-held}
+use Rattle.answers.specs.declared.Settings.{Settings}
 use Rattle.answers.specs.Answers.{Answer, answer_of, Answered, schedule_input}
 use Rattle.access.specs.Lines.{Lists, LinesListed}
 
-module _ (s l d : List ℕ) (e : (outcome (schedule_input s l d)).answer.number ≡ 0) where
+module _ (x : Settings) (s l d : List ℕ) (e : (outcome (schedule_input x s l d)).answer.number ≡ 0) where
   abbrev i : Input
-  i = schedule_input s l d
+  i = schedule_input x s l d
 
   none : NoneHolds (refusals i)
   none = (accepted-exactly i).0 e
@@ -55,11 +56,11 @@ module _ (s l d : List ℕ) (e : (outcome (schedule_input s l d)).answer.number 
   }
 
 -- so what a call promises has this too
-pub due-lists : (s l d l' d' : List ℕ) (a : Answer) → Answered a l' d' (outcome (schedule_input s l d)) → LinesListed s l l' (answer_of a).number
-due-lists s l d l' d' a h = record {
+pub due-lists : (x : Settings) (s l d l' d' : List ℕ) (a : Answer) → Answered a l' d' (outcome (schedule_input x s l d)) → LinesListed s l l' (answer_of a).number
+due-lists x s l d l' d' a h = record {
   accepted = λ q.
       let e = h.outcome in
-      let n : (outcome (schedule_input s l d)).answer.number ≡ 0 = sym (ap (λ (o : Outcome). o.answer.number) e) ∙ q in
-      let g : (outcome (schedule_input s l d)).listing ≡ l' = sym (ap (λ (o : Outcome). o.listing) e) in
-      rw g at (accepted-lists s l d n);
+      let n : (outcome (schedule_input x s l d)).answer.number ≡ 0 = sym (ap (λ (o : Outcome). o.answer.number) e) ∙ q in
+      let g : (outcome (schedule_input x s l d)).listing ≡ l' = sym (ap (λ (o : Outcome). o.listing) e) in
+      rw g at (accepted-lists x s l d n);
 }

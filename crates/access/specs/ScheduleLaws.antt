@@ -70,10 +70,10 @@ module _ (bytes : List ℕ) (d : Draft) (entries : List Entry) (t : Catalogue) (
       }
 
 pub rows-due : (bytes : List ℕ) (d : Draft) (entries : List Entry) (t : Catalogue) (n : Decoding) (p : Parents) (notes : List (Option Location)) → Compacts t d entries n.count n.own p
-    → places.Located n.width (bits_of bytes) d entries n.count notes → (b b' : List ℕ) (count : ℕ) (more : Bool) (a : Answer)
-    → Synthesized t (bits_of bytes) notes p b b' count more → answer_of a ≡ parts 9 0 count more → RowsDue bytes d entries t n b b' a
-rows-due bytes d entries t n p notes c k b b' count more a q u = record {
-  due = λ s f r l. rows-so s f.drawn.readable f.order l b b' count more a r (q.written s (synthesizes bytes d entries t n s f p notes c k)) u;
+    → places.Located n.width (bits_of bytes) d entries n.count notes → (limit : ℕ) (b b' : List ℕ) (count : ℕ) (more : Bool) (a : Answer)
+    → Synthesized t (bits_of bytes) notes p limit b b' count more → answer_of a ≡ parts 9 0 count more → RowsDue bytes d entries t n limit b b' a
+rows-due bytes d entries t n p notes c k limit b b' count more a q u = record {
+  due = λ s f r l. rows-so limit s f.drawn.readable f.order l b b' count more a r (q.written s (synthesizes bytes d entries t n s f p notes c k)) u;
 }
 
 -- ---- the catalogue

@@ -4,7 +4,7 @@ use Rattle.definitions.specs.Bits.{bits_of}
 use Rattle.definitions.specs.Records.{Sheet}
 use Rattle.definitions.specs.Map.{type_map_of}
 use Rattle.definitions.specs.Order.{has_order}
-use Rattle.definitions.specs.Answer.{most_row_bytes, order, schedule}
+use Rattle.definitions.specs.Answer.{order, schedule}
 use Rattle.law_lines.specs.Statements.{line_map, any_refused}
 use Rattle.sheet_draft.specs.declared.Draft.{Draft}
 use Rattle.sheet_draft.specs.declared.entry.Entry.{Entry}
@@ -21,20 +21,22 @@ use Rattle.order_rounds.specs.declared.sequence.Order.{Order}
 use Rattle.order_compact.specs.Reading as compact
 use Rattle.sheet_draft.specs.declared.Decoding.{Decoding}
 use Rattle.sheet_decode.specs.Decodes.{Whole}
+use Rattle.law_reading.specs.Statements.{RowsFit}
+use Rattle.answers.specs.declared.Settings.{Settings}
 use Rattle.answers.specs.declared.Refusal.{Refusal}
-use Rattle.answers.specs.Answers.{Answer, Answered}
+use Rattle.answers.specs.Answers.{settings_of, Answer, Answered}
 use Rattle.answers.specs.Telling.{Refuses}
 use Rattle.access.specs.Ending.{ended}
 
--- The bytes are refused by none of 1 to 7, and the tables have their sheet (FORMAT 7.3).
-pub record Taken (s : List ℕ) (room : ℕ) (d : Draft) (entries : List Entry) (t : Catalogue) (r : Decoding) : Type 0 where
+-- The bytes are refused by none of the tests before the order, and the tables have their sheet (FORMAT 7.3).
+pub record Taken (settings : Settings) (s : List ℕ) (room : ℕ) (d : Draft) (entries : List Entry) (t : Catalogue) (r : Decoding) : Type 0 where
   pub short : length s ≤ 40960
-  pub enough : most_row_bytes ≤ room
+  pub fit : RowsFit (settings_of settings) room
   pub whole : Whole s d entries t r
 
 -- Or they are refused by each call that lends a diagnosis slice of so many bytes, and both slices stay (FORMAT 7.3).
-abbrev pub Takes : List ℕ → ℕ → Draft → List Entry → Catalogue → Result Decoding Refusal → Type 0
-Takes s room d entries t r = MatchResult r (λ n. Taken s room d entries t n) (λ e. Refuses s room e)
+abbrev pub Takes : Settings → List ℕ → ℕ → Draft → List Entry → Catalogue → Result Decoding Refusal → Type 0
+Takes settings s room d entries t r = MatchResult r (λ n. Taken settings s room d entries t n) (λ e. Refuses settings s room e)
 
 -- Some bytes hold the sheet of which the tables have the types.
 pub record Decoded (d : Draft) (entries : List Entry) (t : Catalogue) (n : Decoding) : Type 0 where
@@ -56,8 +58,8 @@ Organizes d entries old new n places r =
     MatchOption r ((p : Placing) × Looked d entries old new n places false p) (λ p. Looked d entries old new n places true p)
 
 -- What the order-only call owes to each sheet of which the tables have the types (FORMAT 7.3, 7.4).
-pub record Ordered (d : Draft) (entries : List Entry) (t : Catalogue) (n : Decoding) (listing diagnosis : List ℕ) (r : Answer) (listing' diagnosis' : List ℕ) : Type 0 where
-  pub due : (bytes : List ℕ) (w : Whole bytes d entries t n) → Answered r listing' diagnosis' (ended order (type_map_of w.s) listing diagnosis)
+pub record Ordered (d : Draft) (entries : List Entry) (t : Catalogue) (n : Decoding) (limit : ℕ) (listing diagnosis : List ℕ) (r : Answer) (listing' diagnosis' : List ℕ) : Type 0 where
+  pub due : (bytes : List ℕ) (w : Whole bytes d entries t n) → Answered r listing' diagnosis' (ended limit order (type_map_of w.s) listing diagnosis)
 
 -- The tables have the sheet that the bytes hold: its draft, and the catalogue of its map, which has an order (FORMAT 3.2).
 pub record FilledFor (s : Sheet) (bytes : List ℕ) (d : Draft) (entries : List Entry) (t : Catalogue) (n : Decoding) : Type 0 where
@@ -69,10 +71,10 @@ pub record FilledFor (s : Sheet) (bytes : List ℕ) (d : Draft) (entries : List 
   pub order : has_order (type_map_of s) ≡ true
 
 -- 9 is due to each such sheet of which a type is refused (FORMAT 8.11).
-pub record RowsDue (bytes : List ℕ) (d : Draft) (entries : List Entry) (t : Catalogue) (n : Decoding) (entry exit : List ℕ) (r : Answer) : Type 0 where
+pub record RowsDue (bytes : List ℕ) (d : Draft) (entries : List Entry) (t : Catalogue) (n : Decoding) (limit : ℕ) (entry exit : List ℕ) (r : Answer) : Type 0 where
   pub due : (s : Sheet) → FilledFor s bytes d entries t n → any_refused (line_map s) ≡ true → (listing : List ℕ)
-      → Answered r listing exit (ended schedule (type_map_of s) listing entry)
+      → Answered r listing exit (ended limit schedule (type_map_of s) listing entry)
 
 -- What the schedule call owes to the sheet that the bytes hold (FORMAT 7.3, 7.4).
-pub record Scheduled (bytes : List ℕ) (d : Draft) (entries : List Entry) (t : Catalogue) (n : Decoding) (listing diagnosis : List ℕ) (r : Answer) (listing' diagnosis' : List ℕ) : Type 0 where
-  pub due : (w : Whole bytes d entries t n) → Answered r listing' diagnosis' (ended schedule (type_map_of w.s) listing diagnosis)
+pub record Scheduled (bytes : List ℕ) (d : Draft) (entries : List Entry) (t : Catalogue) (n : Decoding) (limit : ℕ) (listing diagnosis : List ℕ) (r : Answer) (listing' diagnosis' : List ℕ) : Type 0 where
+  pub due : (w : Whole bytes d entries t n) → Answered r listing' diagnosis' (ended limit schedule (type_map_of w.s) listing diagnosis)

@@ -3,7 +3,7 @@ ghost use Rattle.definitions.specs.Answer.{outcome};
 ghost use Rattle.answers.specs.Answers.{Answered, input_of};
 ghost use Rattle.access.specs.Calls.{call_of};
 
-use answers::Answer;
+use answers::{Answer, Settings};
 
 // Which of the two (FORMAT 7.1).
 #[derive(Clone, Copy)]
@@ -14,12 +14,18 @@ pub enum Call {
 
 impl Call {
     // What it answers.
-    pub fn run(self, sheet: &[u8], listing: &mut [u8], diagnosis: &mut [u8]) -> Answer
-        ensures { Answered result listing.new diagnosis.new (outcome (input_of (call_of self) sheet.now listing.old diagnosis.old)) }
+    pub fn run(
+        self,
+        settings: Settings,
+        sheet: &[u8],
+        listing: &mut [u8],
+        diagnosis: &mut [u8],
+    ) -> Answer
+        ensures { Answered result listing.new diagnosis.new (outcome (input_of (call_of self) settings sheet.now listing.old diagnosis.old)) }
     {
         match self {
-            Call::Order => crate::order(sheet, listing, diagnosis),
-            Call::Schedule => crate::schedule(sheet, listing, diagnosis),
+            Call::Order => crate::order(settings, sheet, listing, diagnosis),
+            Call::Schedule => crate::schedule(settings, sheet, listing, diagnosis),
         }
     }
 }

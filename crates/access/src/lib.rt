@@ -1,9 +1,9 @@
 // The public calls.
 #![tactic(auto)]
 
-ghost use Rattle.std.specs.Prelude.{◌≤◌, length};
+ghost use Rattle.std.specs.Prelude.{◌*◌, ◌≤◌, length};
 ghost use Rattle.definitions.specs.Records.{Sheet};
-ghost use Rattle.definitions.specs.Answer.{most_row_bytes, outcome};
+ghost use Rattle.definitions.specs.Answer.{outcome};
 ghost use Rattle.order_compact.specs.Compact.{Drafts};
 ghost use Rattle.sheet_decode.specs.Decodes.{Whole};
 ghost use Rattle.answers.specs.Answers.{answer_of, Answered, order_input, schedule_input};
@@ -13,6 +13,7 @@ ghost use Rattle.access.specs.Tables.{Takes, Decoded, Organizes, Ordered, Filled
 
 mod call;
 
+pub use answers::Settings;
 use answers::{Answer, Refusal};
 pub use call::Call;
 use catalogue::Catalogue;
@@ -25,28 +26,29 @@ use sheet_order::ByName;
 
 // 8: the map has no order; its rows are written (FORMAT 8.3 to 8.5).
 // The slice's room is a clause here and below: a struct that lends it would have each say that it stays the same slice.
-fn no_order(t: &Catalogue, x: ByName, diagnosis: &mut [u8]) -> Answer
+fn no_order(t: &Catalogue, x: ByName, limit: usize, diagnosis: &mut [u8]) -> Answer
     requires drafts { Drafts x.draft.now x.entries.now x.read.count }
-    requires most_row_bytes_in_bounds { most_row_bytes ≤ length diagnosis.old }
-    ensures { Unordered t.now x.entry.draft.now x.entry.entries.now x.entry.read.count x.entry.read.own diagnosis.old diagnosis.new result }
+    requires rows_in_bounds { 6 * limit ≤ length diagnosis.old }
+    ensures { Unordered t.now x.entry.draft.now x.entry.entries.now x.entry.read.count x.entry.read.own limit diagnosis.old diagnosis.new result }
 {
     let mut l = Parents::blank();
     order_compact::fill(&mut l, t, x);
-    let report = order_diagnosis::diagnose(&l, diagnosis, answers::ROWS);
+    let report = order_diagnosis::diagnose(&l, diagnosis, limit);
     Err(Refusal::NoOrder(report))
 }
 
-// Tests 1 to 7, for a diagnosis slice of `room` bytes. What passes stands in the tables (FORMAT 7.3).
+// The tests before the order, for a diagnosis slice of `room` bytes. What passes stands in the tables (FORMAT 7.3).
 fn take(
+    settings: Settings,
     sheet: &[u8],
     room: usize,
     d: &mut Draft,
     entries: &mut [Entry; 64],
     t: &mut Catalogue,
 ) -> Result<Decoding, Refusal>
-    ensures { Takes sheet.now room d.new entries.new t.new result }
+    ensures { Takes settings sheet.now room d.new entries.new t.new result }
 {
-    answers::refused_early(sheet.len(), room)?;
+    answers::refused_early(settings, sheet.len(), room)?;
     sheet_decode::decode(sheet, d, entries, t)
 }
 
@@ -71,45 +73,64 @@ fn organize(t: &mut Catalogue, x: ByName, order: &mut Order) -> Option<Placing>
 }
 
 // Writes the order, if there is one: 8, 10 or acceptance.
-fn end_order(t: &mut Catalogue, x: ByName, listing: &mut [u8], diagnosis: &mut [u8]) -> Answer
+fn end_order(
+    t: &mut Catalogue,
+    x: ByName,
+    limit: usize,
+    listing: &mut [u8],
+    diagnosis: &mut [u8],
+) -> Answer
     requires decoded { Decoded x.draft.now x.entries.now t.old x.read }
-    requires most_row_bytes_in_bounds { most_row_bytes ≤ length diagnosis.old }
-    ensures { Ordered x.entry.draft.now x.entry.entries.now t.old x.entry.read listing.old diagnosis.old result listing.new diagnosis.new }
+    requires rows_in_bounds { 6 * limit ≤ length diagnosis.old }
+    ensures { Ordered x.entry.draft.now x.entry.entries.now t.old x.entry.read limit listing.old diagnosis.old result listing.new diagnosis.new }
 {
     let mut order = Order::new();
     let Some(_) = organize(t, x, &mut order) else {
-        return no_order(t, x, diagnosis);
+        return no_order(t, x, limit, diagnosis);
     };
     order_listing::write_order(listing, t, &order)
 }
 
 // The order-only call.
-pub fn order(sheet: &[u8], listing: &mut [u8], diagnosis: &mut [u8]) -> Answer
-    ensures { Answered result listing.new diagnosis.new (outcome (order_input sheet.now listing.old diagnosis.old)) }
+pub fn order(settings: Settings, sheet: &[u8], listing: &mut [u8], diagnosis: &mut [u8]) -> Answer
+    ensures { Answered result listing.new diagnosis.new (outcome (order_input settings sheet.now listing.old diagnosis.old)) }
 {
     let mut d = Draft::blank();
     let mut entries = [Entry::blank(); 64];
     let mut t = Catalogue::blank();
-    let read = take(sheet, diagnosis.len(), &mut d, &mut entries, &mut t)?;
+    let read = take(
+        settings,
+        sheet,
+        diagnosis.len(),
+        &mut d,
+        &mut entries,
+        &mut t,
+    )?;
     let x = ByName {
         draft: &d,
         entries: &entries,
         read,
     };
-    end_order(&mut t, x, listing, diagnosis)
+    end_order(&mut t, x, settings.rows, listing, diagnosis)
 }
 
 // 9: a type is refused; the rows of the synthesis are written (FORMAT 8.6 to 8.11). The catalogue of the map is filled.
-fn type_refused(sheet: &[u8], t: &Catalogue, x: ByName, diagnosis: &mut [u8]) -> Answer
+fn type_refused(
+    sheet: &[u8],
+    t: &Catalogue,
+    x: ByName,
+    limit: usize,
+    diagnosis: &mut [u8],
+) -> Answer
     requires filled_for { (s : Sheet) × FilledFor s sheet.now x.draft.now x.entries.now t.now x.read }
-    requires most_row_bytes_in_bounds { most_row_bytes ≤ length diagnosis.old }
-    ensures { RowsDue sheet.now x.entry.draft.now x.entry.entries.now t.now x.entry.read diagnosis.old diagnosis.new result }
+    requires rows_in_bounds { 6 * limit ≤ length diagnosis.old }
+    ensures { RowsDue sheet.now x.entry.draft.now x.entry.entries.now t.now x.entry.read limit diagnosis.old diagnosis.new result }
 {
     let mut l = Parents::blank();
     order_compact::fill(&mut l, t, x);
     let mut notes = [None; 64];
     synth_places::fill(&mut notes, sheet, x);
-    let report = synthesis::apply_associate_annotations(sheet, t, &l, &notes, diagnosis);
+    let report = synthesis::apply_associate_annotations(sheet, t, &l, &notes, diagnosis, limit);
     Err(Refusal::TypeRefused(report))
 }
 
@@ -119,40 +140,53 @@ fn end_schedule(
     sheet: &[u8],
     t: &mut Catalogue,
     x: ByName,
+    limit: usize,
     listing: &mut [u8],
     diagnosis: &mut [u8],
 ) -> Answer
     requires whole { Whole sheet.now x.draft.now x.entries.now t.old x.read }
-    requires most_row_bytes_in_bounds { most_row_bytes ≤ length diagnosis.old }
-    ensures { Scheduled sheet.now x.entry.draft.now x.entry.entries.now t.old x.entry.read listing.old diagnosis.old result listing.new diagnosis.new }
+    requires rows_in_bounds { 6 * limit ≤ length diagnosis.old }
+    ensures { Scheduled sheet.now x.entry.draft.now x.entry.entries.now t.old x.entry.read limit listing.old diagnosis.old result listing.new diagnosis.new }
 {
     let mut order = Order::new();
     let Some(o) = organize(t, x, &mut order) else {
-        return no_order(t, x, diagnosis);
+        return no_order(t, x, limit, diagnosis);
     };
     let lost = item_draft::fill(t, sheet, x, &order, o);
     if lost {
-        return type_refused(sheet, t, x, diagnosis);
+        return type_refused(sheet, t, x, limit, diagnosis);
     }
     if item_refusal::is_refused(t, lost) {
-        return type_refused(sheet, t, x, diagnosis);
+        return type_refused(sheet, t, x, limit, diagnosis);
     }
     item_schedule::write_schedule(listing, t, &order)
 }
 
 // The schedule call.
-pub fn schedule(sheet: &[u8], listing: &mut [u8], diagnosis: &mut [u8]) -> Answer
-    ensures answered { Answered result listing.new diagnosis.new (outcome (schedule_input sheet.now listing.old diagnosis.old)) }
+pub fn schedule(
+    settings: Settings,
+    sheet: &[u8],
+    listing: &mut [u8],
+    diagnosis: &mut [u8],
+) -> Answer
+    ensures answered { Answered result listing.new diagnosis.new (outcome (schedule_input settings sheet.now listing.old diagnosis.old)) }
     ensures lines_listed { LinesListed sheet.now listing.old listing.new (answer_of result).number }
 {
     let mut d = Draft::blank();
     let mut entries = [Entry::blank(); 64];
     let mut t = Catalogue::blank();
-    let read = take(sheet, diagnosis.len(), &mut d, &mut entries, &mut t)?;
+    let read = take(
+        settings,
+        sheet,
+        diagnosis.len(),
+        &mut d,
+        &mut entries,
+        &mut t,
+    )?;
     let x = ByName {
         draft: &d,
         entries: &entries,
         read,
     };
-    end_schedule(sheet, &mut t, x, listing, diagnosis)
+    end_schedule(sheet, &mut t, x, settings.rows, listing, diagnosis)
 }

@@ -1,11 +1,16 @@
 -- What the answers mean: the number, the size, the row count and the flag for each case, and the case for each number.
 use Rattle.std.specs.Prelude.{Bool, false, cond, List, ◌≡◌, ℕ, eqb, Result, Ok, Err}
 use Rattle.definitions.specs.Answer as rules
-use Rattle.definitions.specs.Answer.{standard, Call, Input, Outcome}
+use Rattle.definitions.specs.Answer.{Call, Input, Outcome}
 use Rattle.emitting.specs.declared.Report.{Report}
 use Rattle.answers.specs.declared.Parts.{Parts}
+use Rattle.answers.specs.declared.Settings.{Settings}
 use Rattle.answers.specs.declared.Refusal.{Refusal}
-use Rattle.answers.specs.declared.Refusal.TheVariants.{LongSheet, ShortDiagnosis, Past, NotAllowed, Words, Repeats, Fill, NoOrder, TypeRefused, ShortListing}
+use Rattle.answers.specs.declared.Refusal.TheVariants.{LongSheet, ShortDiagnosis, Past, NotAllowed, Words, Repeats, Fill, NoOrder, TypeRefused, ShortListing, RowLimit}
+
+-- the settings, as the definitions have them
+abbrev pub settings_of : Settings → rules.Settings
+settings_of s = record { rows = s.rows }
 
 -- what a call answers
 abbrev pub Answer : Type 0
@@ -39,6 +44,7 @@ refusal_of Fill = alone 7
 refusal_of (NoOrder r) = reported 8 r
 refusal_of (TypeRefused r) = reported 9 r
 refusal_of (ShortListing size) = parts 10 size 0 false
+refusal_of RowLimit = alone 17
 
 -- acceptance has the number 0
 abbrev pub answer_of : Answer → rules.Answer
@@ -61,7 +67,8 @@ refusal_with a =
     (cond (eqb a.number 7) Fill
     (cond (eqb a.number 8) (NoOrder (record { rows = a.rows; more = a.more }))
     (cond (eqb a.number 9) (TypeRefused (record { rows = a.rows; more = a.more }))
-    (ShortListing a.size)))))))))
+    (cond (eqb a.number 10) (ShortListing a.size)
+    RowLimit)))))))))
 
 -- Each number has one case.
 abbrev pub case_of : rules.Answer → Answer
@@ -75,14 +82,20 @@ outcome_of a listing diagnosis = record { answer = answer_of a; listing = listin
 pub record Answered (r : Answer) (listing diagnosis : List ℕ) (o : Outcome) : Type 0 where
   pub outcome : outcome_of r listing diagnosis ≡ o
 
--- the input of a call: the sheet, and both slices at entry
-abbrev pub input_of : Call → List ℕ → List ℕ → List ℕ → Input
-input_of call sheet listing diagnosis = record { settings = standard; call = call; sheet = sheet; listing = listing; diagnosis = diagnosis }
+-- the input of a call: its settings, the sheet, and both slices at entry
+abbrev pub input_of : Call → Settings → List ℕ → List ℕ → List ℕ → Input
+input_of call settings sheet listing diagnosis = record {
+  settings = settings_of settings;
+  call = call;
+  sheet = sheet;
+  listing = listing;
+  diagnosis = diagnosis;
+}
 
 -- of the order-only call
-abbrev pub order_input : List ℕ → List ℕ → List ℕ → Input
+abbrev pub order_input : Settings → List ℕ → List ℕ → List ℕ → Input
 order_input = input_of rules.order
 
 -- and of the schedule call
-abbrev pub schedule_input : List ℕ → List ℕ → List ℕ → Input
+abbrev pub schedule_input : Settings → List ℕ → List ℕ → List ℕ → Input
 schedule_input = input_of rules.schedule

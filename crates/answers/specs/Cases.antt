@@ -15,5 +15,8 @@ type-refused = refl
 too_short : case_of (parts 10 3 0 false) ≡ Err (Refusal.ShortListing 3)
 too_short = refl
 
+row-limit : case_of (parts 17 0 0 false) ≡ Err Refusal.RowLimit
+row-limit = refl
+
 bad-fill : case_of (parts 7 0 0 false) ≡ Err Refusal.Fill
 bad-fill = refl

@@ -1,5 +1,5 @@
 -- Laws of the answers and of the early tests.
-use Rattle.std.specs.Prelude.{Bool, false, ◌≡◌, ℕ, ◌≤◌, ◌<◌, min, ltb, length, Ok, Err}
+use Rattle.std.specs.Prelude.{Bool, true, false, ◌≡◌, ℕ, ◌*◌, ◌≤◌, ◌<◌, min, ltb, length, Ok, Err}
 use mathlib.Core.List.{List, [], ◌∷◌}
 use Rattle.std.proofs.Math.Path.{refl, sym}
 use Rattle.std.proofs.Common.{ap, ◌∙◌, subst, arith, lt-ltb, le-ltb}
@@ -7,11 +7,14 @@ use Rattle.lists.specs.Tests.{by}
 use Rattle.definitions.specs.Records.{Row}
 use Rattle.definitions.specs.Legal.{Every}
 use Rattle.definitions.specs.Answer as rules
-use Rattle.definitions.specs.Answer.{most_row_bytes, Input, Outcome, bare, short, refusals, reject, accept, first_refusal, outcome}
-use Rattle.law_orders.specs.Alike.{first_holds, first-passed}
+use Rattle.definitions.specs.Answer.{Input, Outcome, bad_limit, bare, short, refusals, reject, accept, first_refusal, outcome}
+use Rattle.law_orders.specs.Alike.{first_holds, first-passed, bare-alone}
+use Rattle.law_reading.specs.Statements.{RowsFit}
+use Rattle.law_reading.proofs.Answers.{limit-exactly}
+use Rattle.answers.specs.declared.Settings.{Settings}
 use Rattle.answers.specs.declared.Refusal.{Refusal}
-use Rattle.answers.specs.declared.Refusal.TheVariants.{LongSheet, ShortDiagnosis, Past, NotAllowed, Words, Repeats, Fill, NoOrder, TypeRefused, ShortListing}
-use Rattle.answers.specs.Answers.{Answer, alone, refusal_of, answer_of, case_of, Answered, input_of}
+use Rattle.answers.specs.declared.Refusal.TheVariants.{LongSheet, ShortDiagnosis, Past, NotAllowed, Words, Repeats, Fill, NoOrder, TypeRefused, ShortListing, RowLimit}
+use Rattle.answers.specs.Answers.{Answer, settings_of, alone, refusal_of, number_of, answer_of, case_of, Answered, input_of}
 use Rattle.answers.specs.Telling.{Refuses, Early}
 use Rattle.answers.specs.Statements.{EachIsItsCase, OneAnswer, EachHasItsCase}
 
@@ -28,6 +31,7 @@ refusal-is Fill = refl
 refusal-is (NoOrder r) = refl
 refusal-is (TypeRefused r) = refl
 refusal-is (ShortListing size) = refl
+refusal-is RowLimit = refl
 
 pub each-is-its-case : EachIsItsCase
 each-is-its-case (Ok size) = refl
@@ -85,18 +89,21 @@ module _ (i : Input) where
   all-kept = (
     bare-kept 1 _ refl,
     (
-      bare-kept 2 _ refl,
+      bare-kept 17 _ refl,
       (
-        bare-kept 3 _ refl,
+        bare-kept 2 _ refl,
         (
-          bare-kept 4 _ refl,
+          bare-kept 3 _ refl,
           (
-            bare-kept 7 _ refl,
+            bare-kept 4 _ refl,
             (
-              bare-kept 5 _ refl,
+              bare-kept 7 _ refl,
               (
-                bare-kept 6 _ refl,
-                (eight-kept _ _, (nine-kept _ _, (short-kept _ _, tt))),
+                bare-kept 5 _ refl,
+                (
+                  bare-kept 6 _ refl,
+                  (eight-kept _ _, (nine-kept _ _, (short-kept _ _, tt))),
+                ),
               ),
             ),
           ),
@@ -122,29 +129,50 @@ each-has-its-case i = record {
   outcome = ap (λ (a : rules.Answer). record { answer = a; listing = (outcome i).listing; diagnosis = (outcome i).diagnosis }) (kept i);
 }
 
--- ---- tests 1 and 2
+-- ---- tests 1, 17 and 2
 
-module _ (room : ℕ) (s : List ℕ) where
-  one : 40960 < length s → Refuses s room LongSheet
-  unfolding outcome refusals reject
-  one h = record {
-    due = λ call l d k. record { outcome = sym (first_holds (input_of call s l d) (bare 1 _) _ (lt-ltb 40960 (length s) h)) };
+module _ (settings : Settings) (room : ℕ) (s : List ℕ) where
+  abbrev asked : rules.Call → List ℕ → List ℕ → Input
+  asked call l d = input_of call settings s l d
+
+  -- what is answered by its number alone
+  told : (r : Refusal) (call : rules.Call) (l d : List ℕ) (test : Unit {0} → Bool) → refusal_of r ≡ alone (number_of r)
+      → outcome (asked call l d) ≡ reject (asked call l d) (bare (number_of r) test) → Answered (Err r) l d (outcome (asked call l d))
+  told r call l d test n e =
+      answered (Err r) (alone (number_of r)) l d (outcome (asked call l d)) n (sym (e ∙ bare-alone (asked call l d) (number_of r) test))
+
+  one : 40960 < length s → Refuses settings s room LongSheet
+  unfolding outcome refusals
+  one h = record { due = λ call l d k. told LongSheet call l d _ refl (first_holds (asked call l d) _ _ (lt-ltb 40960 (length s) h)) }
+
+  seventeen : length s ≤ 40960 → bad_limit (settings_of settings) ≡ true → Refuses settings s room RowLimit
+  unfolding outcome refusals
+  seventeen h b = record {
+    due = λ call l d k.
+        told RowLimit call l d _ refl
+        (first-passed (asked call l d) _ _ (le-ltb 40960 (length s) h)
+        ∙ first_holds (asked call l d) _ _ b);
   }
 
-  two : length s ≤ 40960 → room < most_row_bytes → Refuses s room ShortDiagnosis
-  unfolding outcome refusals reject
-  two h g = record {
-    due = λ call l d k. record {
-      outcome =
-          sym
-          (first-passed (input_of call s l d) (bare 1 _) _ (le-ltb 40960 (length s) h)
-          ∙ first_holds (input_of call s l d) (bare 2 _) _ (lt-ltb (length d) most_row_bytes (omega (arith, k, g))));
-    };
+  two : length s ≤ 40960 → bad_limit (settings_of settings) ≡ false → room < 6 * settings.rows → Refuses settings s room ShortDiagnosis
+  unfolding outcome refusals
+  two h b g = record {
+    due = λ call l d k.
+        told ShortDiagnosis call l d _ refl
+        (first-passed (asked call l d) _ _ (le-ltb 40960 (length s) h)
+        ∙ first-passed (asked call l d) _ _ b
+        ∙ first_holds (asked call l d) _ _ (lt-ltb (length d) (6 * settings.rows) (omega (arith, k, g))));
   }
 
-module _ (size room : ℕ) where
-  pub too_long : 40960 < size → Early size room (Err LongSheet)
-  too_long h s e = one room s (omega (arith, e, h))
+module _ (settings : Settings) (size room : ℕ) where
+  pub too_long : 40960 < size → Early settings size room (Err LongSheet)
+  too_long h s e = one settings room s (omega (arith, e, h))
 
-  pub no_room : size ≤ 40960 → room < most_row_bytes → Early size room (Err ShortDiagnosis)
-  no_room h g s e = two room s (omega (arith, e, h)) g
+  pub wrong_limit : size ≤ 40960 → bad_limit (settings_of settings) ≡ true → Early settings size room (Err RowLimit)
+  wrong_limit h b s e = seventeen settings room s (omega (arith, e, h)) b
+
+  pub no_room : size ≤ 40960 → bad_limit (settings_of settings) ≡ false → room < 6 * settings.rows → Early settings size room (Err ShortDiagnosis)
+  no_room h b g s e = two settings room s (omega (arith, e, h)) b g
+
+  pub all-fit : size ≤ 40960 → bad_limit (settings_of settings) ≡ false → 6 * settings.rows ≤ room → (size ≤ 40960) × RowsFit (settings_of settings) room
+  all-fit h b g = (h, let x = (limit-exactly (settings_of settings)).0 b in record { some = x.0; few = x.1; room = g })

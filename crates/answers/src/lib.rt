@@ -1,10 +1,10 @@
-// What a call answers, and what of it needs no map: tests 1 and 2.
+// What a call is set to, what it answers, and what of that needs no map: tests 1, 17 and 2.
 #![tactic(auto)]
 
 ghost use Rattle.std.specs.Prelude.{◌≡◌};
-ghost use Rattle.definitions.specs.Answer.{sheet_fault};
+ghost use Rattle.definitions.specs.Answer.{shown, bad_limit, sheet_fault};
 ghost use Rattle.fields.specs.Fields.{fault_of};
-ghost use Rattle.answers.specs.Answers.{alone, number_of, refusal_of, answer_of, parts_of};
+ghost use Rattle.answers.specs.Answers.{settings_of, alone, number_of, refusal_of, answer_of, parts_of};
 ghost use Rattle.answers.specs.Telling.{Early};
 
 use emitting::Report;
@@ -13,13 +13,35 @@ use fields::Fault;
 // The most bytes of a sheet.
 pub const SHEET: usize = 40960;
 
-// The most rows of a diagnosis that are written, and the bytes that hold them.
-pub const ROWS: usize = 256;
+// The highest limit of rows, and the bytes that hold as many (FORMAT 8.2).
+pub const MOST_ROWS: usize = 256;
 
-pub const DIAGNOSIS: usize = emitting::ROW * ROWS;
+pub const DIAGNOSIS: usize = emitting::ROW * MOST_ROWS;
 
-// Why a call refuses, in the order of the numbers, 1 to 10: 8 and 9 come with a report of their rows, 10 with the size that the
-// listing lacks (FORMAT 7.2, 7.4).
+// What a call is set to: how many rows of a diagnosis are written at most (FORMAT 8.2).
+#[derive(Clone, Copy)]
+pub struct Settings {
+    pub rows: usize,
+}
+
+impl Settings {
+    // As the programs are set where they are told no limit (FORMAT 9.5).
+    pub fn shown() -> Settings
+        ensures { settings_of result ≡ shown }
+    {
+        Settings { rows: 64 }
+    }
+
+    // Whether the limit is none of 1 to 256: test 17.
+    fn is_bad_limit(self) -> bool
+        ensures { result ≡ bad_limit (settings_of self) }
+    {
+        self.rows == 0 || MOST_ROWS < self.rows
+    }
+}
+
+// Why a call refuses, in the order of the numbers, 1 to 10 and 17: 8 and 9 come with a report of their rows, 10 with the size
+// that the listing lacks (FORMAT 7.2, 7.4).
 #[derive(Clone, Copy)]
 pub enum Refusal {
     LongSheet,
@@ -32,6 +54,7 @@ pub enum Refusal {
     NoOrder(Report),
     TypeRefused(Report),
     ShortListing(usize),
+    RowLimit,
 }
 
 // What a call answers: the size written, or why it refuses.
@@ -63,6 +86,7 @@ impl Refusal {
             Refusal::NoOrder(_) => 8,
             Refusal::TypeRefused(_) => 9,
             Refusal::ShortListing(_) => 10,
+            Refusal::RowLimit => 17,
         }
     }
 
@@ -112,14 +136,18 @@ impl From<Fault> for Refusal {
     }
 }
 
-// Tests 1 and 2, for a sheet of `size` bytes and a diagnosis slice of `room`: the first that refuses.
-pub fn refused_early(size: usize, room: usize) -> Result<(), Refusal>
-    ensures { Early size room result }
+// Tests 1, 17 and 2, for a sheet of `size` bytes and a diagnosis slice of `room`: the first that refuses. Six times a limit that
+// is allowed is no large number.
+pub fn refused_early(settings: Settings, size: usize, room: usize) -> Result<(), Refusal>
+    ensures { Early settings size room result }
 {
     if SHEET < size {
         return Err(Refusal::LongSheet);
     }
-    if room < DIAGNOSIS {
+    if settings.is_bad_limit() {
+        return Err(Refusal::RowLimit);
+    }
+    if room < emitting::ROW * settings.rows {
         return Err(Refusal::ShortDiagnosis);
     }
     Ok(())

@@ -1,8 +1,8 @@
-// Prints what the programs print, for many sheets. Each stands on standard input behind a head of four bytes, the call (0:
-// the order) and its length; each answer ends with a line that holds a dot.
+// Prints what the programs print, for many sheets, with as many rows as may be. Each stands on standard input behind a head of
+// four bytes, the call (0: the order) and its length; each answer ends with a line that holds a dot.
 #![tactic(auto)]
 
-use access::Call;
+use access::{Call, Settings};
 use printing::Printer;
 use std::alloc::Global;
 use std::io::{BufReader, BufWriter, Read, Write};
@@ -25,7 +25,10 @@ struct Request {
 
 impl Request {
     fn answer<W: Write + Drop>(&self, printer: &mut Printer<W>) -> io::Result<()> {
-        printer.print_answer(self.call, self.sheet.as_slice())?;
+        let settings = Settings {
+            rows: answers::MOST_ROWS,
+        };
+        printer.print_answer(self.call, settings, self.sheet.as_slice())?;
         writeln!(printer.out, ".")?;
         printer.out.flush()
     }

@@ -4,7 +4,7 @@
 use Rattle.std.specs.Prelude.{true, false, List, [], ◌∷◌, refl, ℕ, replicate}
 use Rattle.definitions.specs.Answer.{schedule, order}
 use Rattle.definitions.specs.Cases.{Case, ComesOut, AllComeOut, ◌also◌, run, hex, times}
-use Rattle.definitions.specs.Cases.{accepts, refuses, diagnoses, needs}
+use Rattle.definitions.specs.Cases.{accepts, refuses, diagnoses, needs, under}
 
 -- 1: 40,961 zero bytes
 abbrev refusal1 : List ℕ
@@ -361,6 +361,237 @@ first9-schedule = diagnoses first9 schedule 0 1536 9 1 false (hex 6 0x0400ff01ff
 first9-schedule-comes-out : ComesOut first9-schedule
 unfolding run
 first9-schedule-comes-out = refl
+
+-- 17: a limit of 0 rows
+--     domain a
+--       associate f
+--     resource f
+abbrev refusal17 : List ℕ
+refusal17 = hex 28 0x1040b085990e4cae6deeae4c6ca473656c6604000012202002400000
+
+abbrev refusal17-schedule : Case
+refusal17-schedule = under 0 (refuses refusal17 schedule 64 1536 17)
+
+refusal17-schedule-comes-out : ComesOut refusal17-schedule
+unfolding run
+refusal17-schedule-comes-out = refl
+
+abbrev refusal17-order : Case
+refusal17-order = under 0 (refuses refusal17 order 64 1536 17)
+
+refusal17-order-comes-out : ComesOut refusal17-order
+unfolding run
+refusal17-order-comes-out = refl
+
+-- 17: a limit of 257 rows
+--     domain a
+--       associate f
+--     resource f
+abbrev limit257 : List ℕ
+limit257 = hex 28 0x1040b085990e4cae6deeae4c6ca473656c6604000012202002400000
+
+abbrev limit257-schedule : Case
+limit257-schedule = under 257 (refuses limit257 schedule 64 1542 17)
+
+limit257-schedule-comes-out : ComesOut limit257-schedule
+unfolding run
+limit257-schedule-comes-out = refl
+
+abbrev limit257-order : Case
+limit257-order = under 257 (refuses limit257 order 64 1542 17)
+
+limit257-order-comes-out : ComesOut limit257-order
+unfolding run
+limit257-order-comes-out = refl
+
+-- 1 before 17
+abbrev first1_limit : List ℕ
+first1_limit = replicate 40961 0
+
+abbrev first1_limit-schedule : Case
+first1_limit-schedule = under 0 (refuses first1_limit schedule 4 1536 1)
+
+first1_limit-schedule-comes-out : ComesOut first1_limit-schedule
+unfolding run
+first1_limit-schedule-comes-out = refl
+
+abbrev first1_limit-order : Case
+first1_limit-order = under 0 (refuses first1_limit order 4 1536 1)
+
+first1_limit-order-comes-out : ComesOut first1_limit-order
+unfolding run
+first1_limit-order-comes-out = refl
+
+-- 17 before 2
+--     domain a
+--       associate f
+--     resource f
+abbrev first17 : List ℕ
+first17 = hex 28 0x1040b085990e4cae6deeae4c6ca473656c6604000012202002400000
+
+abbrev first17-schedule : Case
+first17-schedule = under 0 (refuses first17 schedule 64 0 17)
+
+first17-schedule-comes-out : ComesOut first17-schedule
+unfolding run
+first17-schedule-comes-out = refl
+
+abbrev first17-order : Case
+first17-order = under 0 (refuses first17 order 64 0 17)
+
+first17-order-comes-out : ComesOut first17-order
+unfolding run
+first17-order-comes-out = refl
+
+-- 17 before 2: six times the largest limit that C can give
+--     domain a
+--       associate f
+--     resource f
+abbrev largest_limit : List ℕ
+largest_limit = hex 28 0x1040b085990e4cae6deeae4c6ca473656c6604000012202002400000
+
+abbrev largest_limit-schedule : Case
+largest_limit-schedule = under 4294967295 (refuses largest_limit schedule 64 0 17)
+
+largest_limit-schedule-comes-out : ComesOut largest_limit-schedule
+unfolding run
+largest_limit-schedule-comes-out = refl
+
+abbrev largest_limit-order : Case
+largest_limit-order = under 4294967295 (refuses largest_limit order 64 0 17)
+
+largest_limit-order-comes-out : ComesOut largest_limit-order
+unfolding run
+largest_limit-order-comes-out = refl
+
+-- 2: 64 rows need 384 bytes
+--     domain a
+--       associate f
+--     resource f
+abbrev limit64_short : List ℕ
+limit64_short = hex 28 0x1040b085990e4cae6deeae4c6ca473656c6604000012202002400000
+
+abbrev limit64_short-schedule : Case
+limit64_short-schedule = under 64 (refuses limit64_short schedule 64 383 2)
+
+limit64_short-schedule-comes-out : ComesOut limit64_short-schedule
+unfolding run
+limit64_short-schedule-comes-out = refl
+
+abbrev limit64_short-order : Case
+limit64_short-order = under 64 (refuses limit64_short order 64 383 2)
+
+limit64_short-order-comes-out : ComesOut limit64_short-order
+unfolding run
+limit64_short-order-comes-out = refl
+
+-- 384 bytes suffice for 64 rows
+--     domain a
+--       associate f
+--     resource f
+abbrev limit64 : List ℕ
+limit64 = hex 28 0x1040b085990e4cae6deeae4c6ca473656c6604000012202002400000
+
+abbrev limit64-schedule : Case
+limit64-schedule = under 64 (accepts limit64 schedule 16 384 15 0x040001000100002120281002000040)
+
+limit64-schedule-comes-out : ComesOut limit64-schedule
+unfolding run
+limit64-schedule-comes-out = refl
+
+-- one row of two
+--     domain a : b
+--     domain b : a
+abbrev limit1 : List ℕ
+limit1 = hex 28 0x1040b085890e4cae6deeae4c6ca473656c6604000101000100800000
+
+abbrev limit1-schedule : Case
+limit1-schedule = under 1 (diagnoses limit1 schedule 4 8 8 1 true (hex 6 0x0201ff00ffff))
+
+limit1-schedule-comes-out : ComesOut limit1-schedule
+unfolding run
+limit1-schedule-comes-out = refl
+
+abbrev limit1-order : Case
+limit1-order = under 1 (diagnoses limit1 order 4 8 8 1 true (hex 6 0x0201ff00ffff))
+
+limit1-order-comes-out : ComesOut limit1-order
+unfolding run
+limit1-order-comes-out = refl
+
+-- 63 rows under a limit of 64
+--     domain q : zz
+--     domain p : q q q q q q q q
+--     domain t : p p p p p p
+--     domain v : q q q q q q
+abbrev rows63 : List ℕ
+rows63 = hex 62 0x1070b805c50e4cae6deeae4c6ca473656c660ba05d84f4f41004020c00000801008040201008040200080600000000000000002818040201008040200000
+
+abbrev rows63-order : Case
+rows63-order = under 64 (diagnoses rows63 order 4 390 8 63 false (times 63 (hex 6 0x0301ff06ffff)))
+
+rows63-order-comes-out : ComesOut rows63-order
+unfolding run
+rows63-order-comes-out = refl
+
+-- 64 rows under a limit of 64: the flag is not set
+--     domain q : zz
+--     domain p : q q q q q q q q
+--     domain t : p p p p p p
+--     domain v : q q q q q q q
+abbrev rows64 : List ℕ
+rows64 = hex 63 0x1070b805c50e4cae6deeae4c6ca473656c660ba05d84f4f41004020c0000080100804020100804020008060000000000000000281c04020100804020100000
+
+abbrev rows64-schedule : Case
+rows64-schedule = under 64 (diagnoses rows64 schedule 4 390 8 64 false (times 64 (hex 6 0x0301ff06ffff)))
+
+rows64-schedule-comes-out : ComesOut rows64-schedule
+unfolding run
+rows64-schedule-comes-out = refl
+
+abbrev rows64-order : Case
+rows64-order = under 64 (diagnoses rows64 order 4 390 8 64 false (times 64 (hex 6 0x0301ff06ffff)))
+
+rows64-order-comes-out : ComesOut rows64-order
+unfolding run
+rows64-order-comes-out = refl
+
+-- 65 rows under a limit of 64: the flag is set
+--     domain q : zz
+--     domain p : q q q q q q q q
+--     domain t : p p p p p p
+--     domain v : q q q q q q q q
+abbrev rows65 : List ℕ
+rows65 = hex 64 0x1070b805c50e4cae6deeae4c6ca473656c660ba05d84f4f41004020c000008010080402010080402000806000000000000000028200402010080402010080000
+
+abbrev rows65-schedule : Case
+rows65-schedule = under 64 (diagnoses rows65 schedule 4 390 8 64 true (times 64 (hex 6 0x0301ff06ffff)))
+
+rows65-schedule-comes-out : ComesOut rows65-schedule
+unfolding run
+rows65-schedule-comes-out = refl
+
+abbrev rows65-order : Case
+rows65-order = under 64 (diagnoses rows65 order 4 390 8 64 true (times 64 (hex 6 0x0301ff06ffff)))
+
+rows65-order-comes-out : ComesOut rows65-order
+unfolding run
+rows65-order-comes-out = refl
+
+-- one row of 9 of two
+--     domain d
+--     resource f
+--     domain a
+--       associate d zz
+abbrev limit1_nine : List ℕ
+limit1_nine = hex 36 0x1060b085902cc87265736f75726365239b2b63309e9e8180800001100000000490081400
+
+abbrev limit1_nine-schedule : Case
+limit1_nine-schedule = under 1 (diagnoses limit1_nine schedule 4 8 9 1 true (hex 6 0x0500ff01ff01))
+
+limit1_nine-schedule-comes-out : ComesOut limit1_nine-schedule
+unfolding run
+limit1_nine-schedule-comes-out = refl
 
 -- length 31, then `!`, then the end: each byte is a field of its own
 --   => refused 4
@@ -2000,26 +2231,29 @@ cases =
     refusal7-schedule ∷ refusal7-order ∷ refusal8-schedule ∷ refusal8-order ∷ refusal9-schedule ∷ refusal9-order ∷
     refusal10-schedule ∷ refusal10-order ∷ fits-schedule ∷ one_short-schedule ∷ order_fits-order ∷ order_one_short-order ∷
     longest_sheet-order ∷ first1-order ∷ first2-order ∷ first7-order ∷ first5-order ∷ first6-order ∷ first8-schedule ∷
-    first9-schedule ∷ word_byte-order ∷ word_byte_missing-order ∷ word_bytes-order ∷ word_byte47-order ∷ word_byte58-order ∷
-    word_byte64-order ∷ word_byte91-order ∷ word_byte94-order ∷ word_byte96-order ∷ word_byte123-order ∷ empty_word-order ∷
-    long_word-order ∷ words1-order ∷ words200-order ∷ words201-order ∷ types64_missing-order ∷ extensions32-order ∷
-    extensions33-order ∷ word_number-order ∷ variant3-order ∷ kind7-order ∷ annotations13-order ∷ annotations12-order ∷
-    marks7-order ∷ nest_in_two_words-order ∷ associate_in_two_words-order ∷ no_resources-schedule ∷ no_resources-order ∷
-    no_extension_parent-order ∷ every_kind-order ∷ no_self-order ∷ no_resource-order ∷ word_twice-order ∷ prefix_first-order ∷
-    fill-order ∷ more_bytes-order ∷ two_words_twice-order ∷ key_twice-order ∷ keys_differ-order ∷ word_twice_in_associate-order ∷
-    word_twice_in_nest-order ∷ equal_sets-order ∷ empty_sets-order ∷ unequal_sets-order ∷ inherit_twice-order ∷ inherits_differ-order
-    ∷ derive_twice-order ∷ alias_twice-order ∷ makelist_twice-order ∷ no_derive_twice-order ∷ tags_differ-order ∷ against_names-order
-    ∷ next_round-order ∷ one_word_first-order ∷ longest_chain-order ∷ self_twice-order ∷ self_waiting-order ∷ self_declared-order ∷
-    self_replaced-order ∷ self_in_two_words-order ∷ first_bad_parent-order ∷ repeated_parent-order ∷ through_path-order ∷
-    placed_parent-order ∷ rows256-schedule ∷ rows256-order ∷ rows257-schedule ∷ rows257-order ∷ two_doms-schedule ∷
-    far_doms-schedule ∷ united_doms-schedule ∷ own_doms-schedule ∷ direct_parents-schedule ∷ own_sorted-schedule ∷
-    own_before_inherited-schedule ∷ words_and_doms-schedule ∷ twelve_own-schedule ∷ items_by_name-schedule ∷ virtual-schedule ∷
-    repeated_marks-schedule ∷ other_kinds-schedule ∷ extensions-schedule ∷ three_words-schedule ∷ own_class-schedule ∷
-    nest_alone-schedule ∷ nest_unknown-schedule ∷ nest_and_own-schedule ∷ failed_parent-schedule ∷ listed_again-schedule ∷
-    fails_through-schedule ∷ row_unrefused-schedule ∷ unknown_ends-schedule ∷ after5-schedule ∷ after5_unknown-schedule ∷
-    after6_unknown-schedule ∷ not6_where5-schedule ∷ first_no_resource-schedule ∷ other_variant-schedule ∷ word_lists-schedule ∷
-    dedup_order-schedule ∷ dedup_turned-schedule ∷ identical_own-schedule ∷ identical_above-schedule ∷ marks_differ-schedule ∷
-    declared_name-schedule ∷ []
+    first9-schedule ∷ refusal17-schedule ∷ refusal17-order ∷ limit257-schedule ∷ limit257-order ∷ first1_limit-schedule ∷
+    first1_limit-order ∷ first17-schedule ∷ first17-order ∷ largest_limit-schedule ∷ largest_limit-order ∷ limit64_short-schedule
+    ∷ limit64_short-order ∷ limit64-schedule ∷ limit1-schedule ∷ limit1-order ∷ rows63-order ∷ rows64-schedule ∷ rows64-order ∷
+    rows65-schedule ∷ rows65-order ∷ limit1_nine-schedule ∷ word_byte-order ∷ word_byte_missing-order ∷ word_bytes-order ∷
+    word_byte47-order ∷ word_byte58-order ∷ word_byte64-order ∷ word_byte91-order ∷ word_byte94-order ∷ word_byte96-order ∷
+    word_byte123-order ∷ empty_word-order ∷ long_word-order ∷ words1-order ∷ words200-order ∷ words201-order ∷
+    types64_missing-order ∷ extensions32-order ∷ extensions33-order ∷ word_number-order ∷ variant3-order ∷ kind7-order ∷
+    annotations13-order ∷ annotations12-order ∷ marks7-order ∷ nest_in_two_words-order ∷ associate_in_two_words-order ∷
+    no_resources-schedule ∷ no_resources-order ∷ no_extension_parent-order ∷ every_kind-order ∷ no_self-order ∷ no_resource-order ∷
+    word_twice-order ∷ prefix_first-order ∷ fill-order ∷ more_bytes-order ∷ two_words_twice-order ∷ key_twice-order ∷
+    keys_differ-order ∷ word_twice_in_associate-order ∷ word_twice_in_nest-order ∷ equal_sets-order ∷ empty_sets-order ∷
+    unequal_sets-order ∷ inherit_twice-order ∷ inherits_differ-order ∷ derive_twice-order ∷ alias_twice-order ∷ makelist_twice-order
+    ∷ no_derive_twice-order ∷ tags_differ-order ∷ against_names-order ∷ next_round-order ∷ one_word_first-order ∷ longest_chain-order
+    ∷ self_twice-order ∷ self_waiting-order ∷ self_declared-order ∷ self_replaced-order ∷ self_in_two_words-order ∷
+    first_bad_parent-order ∷ repeated_parent-order ∷ through_path-order ∷ placed_parent-order ∷ rows256-schedule ∷ rows256-order ∷
+    rows257-schedule ∷ rows257-order ∷ two_doms-schedule ∷ far_doms-schedule ∷ united_doms-schedule ∷ own_doms-schedule ∷
+    direct_parents-schedule ∷ own_sorted-schedule ∷ own_before_inherited-schedule ∷ words_and_doms-schedule ∷ twelve_own-schedule ∷
+    items_by_name-schedule ∷ virtual-schedule ∷ repeated_marks-schedule ∷ other_kinds-schedule ∷ extensions-schedule ∷
+    three_words-schedule ∷ own_class-schedule ∷ nest_alone-schedule ∷ nest_unknown-schedule ∷ nest_and_own-schedule ∷
+    failed_parent-schedule ∷ listed_again-schedule ∷ fails_through-schedule ∷ row_unrefused-schedule ∷ unknown_ends-schedule ∷
+    after5-schedule ∷ after5_unknown-schedule ∷ after6_unknown-schedule ∷ not6_where5-schedule ∷ first_no_resource-schedule ∷
+    other_variant-schedule ∷ word_lists-schedule ∷ dedup_order-schedule ∷ dedup_turned-schedule ∷ identical_own-schedule ∷
+    identical_above-schedule ∷ marks_differ-schedule ∷ declared_name-schedule ∷ []
 
 pub hold : AllComeOut cases
 hold =
@@ -2032,6 +2266,12 @@ hold =
     one_short-schedule-comes-out also order_fits-order-comes-out also order_one_short-order-comes-out also
     longest_sheet-order-comes-out also first1-order-comes-out also first2-order-comes-out also first7-order-comes-out also
     first5-order-comes-out also first6-order-comes-out also first8-schedule-comes-out also first9-schedule-comes-out also
+    refusal17-schedule-comes-out also refusal17-order-comes-out also limit257-schedule-comes-out also limit257-order-comes-out
+    also first1_limit-schedule-comes-out also first1_limit-order-comes-out also first17-schedule-comes-out also
+    first17-order-comes-out also largest_limit-schedule-comes-out also largest_limit-order-comes-out also
+    limit64_short-schedule-comes-out also limit64_short-order-comes-out also limit64-schedule-comes-out also
+    limit1-schedule-comes-out also limit1-order-comes-out also rows63-order-comes-out also rows64-schedule-comes-out also
+    rows64-order-comes-out also rows65-schedule-comes-out also rows65-order-comes-out also limit1_nine-schedule-comes-out also
     word_byte-order-comes-out also word_byte_missing-order-comes-out also word_bytes-order-comes-out also
     word_byte47-order-comes-out also word_byte58-order-comes-out also word_byte64-order-comes-out also word_byte91-order-comes-out
     also word_byte94-order-comes-out also word_byte96-order-comes-out also word_byte123-order-comes-out also

@@ -1,5 +1,5 @@
--- The ten refusals, and acceptance: what each call answers, and both lent slices at exit, for every input (FORMAT 7).
-use Rattle.std.specs.Prelude.{Bool, true, false, not, List, [], ◌∷◌, ◌++◌, ℕ, ◌*◌, min, ltb, length, take, drop}
+-- The eleven refusals, and acceptance: what each call answers, and both lent slices at exit, for every input (FORMAT 7).
+use Rattle.std.specs.Prelude.{Bool, true, false, ◌||◌, not, List, [], ◌∷◌, ◌++◌, ℕ, ◌*◌, min, eqb, ltb, length, take, drop}
 use Rattle.lists.specs.Lists.{null, each}
 use Rattle.definitions.specs.Bits.{bits_of, size, pack}
 use Rattle.definitions.specs.Parse.{Fault, past, not_allowed, Parsed, done, refused}
@@ -13,21 +13,25 @@ use Rattle.definitions.specs.Synthesis.{synthesis}
 use Rattle.definitions.specs.Items.{items_of}
 use Rattle.definitions.specs.Packing.{order_bits, schedule_bits, row_bytes}
 
--- What the calls are set to: how many rows of a diagnosis are written (FORMAT 8.2).
+-- What a call is set to: how many rows of a diagnosis are written at most (FORMAT 8.2).
 pub record Settings : Type 0 where
   pub rows : ℕ
 
--- The most rows of a diagnosis that are written (FORMAT 8.2).
+-- The highest limit of rows (FORMAT 8.2).
 abbrev pub most_rows : ℕ
 most_rows = 256
-
--- The bytes of so many rows, six each (FORMAT 8.1).
-abbrev pub most_row_bytes : ℕ
-most_row_bytes = 6 * most_rows
 
 -- As many rows as may be (FORMAT 8.2).
 abbrev pub standard : Settings
 standard = record { rows = most_rows }
+
+-- As many rows as the programs print, where they are told no limit (FORMAT 9.5).
+abbrev pub shown : Settings
+shown = record { rows = 64 }
+
+-- Whether the limit of rows is none of 1 to 256 (FORMAT 8.2).
+abbrev pub bad_limit : Settings → Bool
+bad_limit s = eqb s.rows 0 || ltb most_rows s.rows
 
 -- The two calls (FORMAT 7.1).
 pub data Call : Type 0 where
@@ -130,10 +134,11 @@ abbrev pub synthesis_rows : Call → TypeMap → List Row
 synthesis_rows schedule m = (synthesis m).rows
 synthesis_rows order m = []
 
--- 1 and 2: the sheet is too long, the diagnosis slice too short (FORMAT 7.2).
+-- 1, 17 and 2: the sheet is too long, the limit not allowed, the diagnosis slice too short for it (FORMAT 7.2).
 abbrev pub early_refusals : Input → List Refusal
 early_refusals i =
     bare 1 (λ u. ltb 40960 (length i.sheet))
+    ∷ bare 17 (λ u. bad_limit i.settings)
     ∷ bare 2 (λ u. ltb (length i.diagnosis) (6 * i.settings.rows))
     ∷ []
 
@@ -167,11 +172,11 @@ read_in i = sheet (bits_of i.sheet)
 unfoldable pub type_map_in : Input → TypeMap
 type_map_in i = type_map_of (sheet_of (read_in i))
 
--- The tests before the order is asked for: 1, 2, 3, 4, 7, 5, 6 (FORMAT 7.3).
+-- The tests before the order is asked for: 1, 17, 2, 3, 4, 7, 5, 6 (FORMAT 7.3).
 abbrev pub sheet_refusals : Input → List Refusal
 sheet_refusals i = early_refusals i ++ reading_refusals (read_in i) ++ content_refusals (sheet_of (read_in i))
 
--- The ten tests in their order (FORMAT 7.3).
+-- The eleven tests in their order (FORMAT 7.3).
 unfoldable pub refusals : Input → List Refusal
 refusals i = sheet_refusals i ++ late_refusals i (type_map_in i)
 

@@ -21,7 +21,7 @@ use Rattle.definitions.specs.Synthesis.{interpret_type, hear_all, listed_parents
 use Rattle.definitions.specs.Items.{owned, given, parents_of, reached, ancestors, own_resource, own_classes, doms_above}
 use Rattle.definitions.specs.Items.{parents_above, inherited_resource, words_made, items_at, items_for, items_of}
 use Rattle.definitions.specs.Packing.{name_bits, parent_bits, mark_bits, item_bits, order_bits, schedule_bits, row_bytes}
-use Rattle.definitions.specs.Answer.{Call, Input, Answer, Outcome, standard, refusals, reject, type_map_in, accept}
+use Rattle.definitions.specs.Answer.{Settings, Call, Input, Answer, Outcome, standard, refusals, reject, type_map_in, accept}
 use Rattle.definitions.specs.Answer.{first_refusal, outcome, schedule_of}
 
 -- n bytes, written as one number in hexadecimal.
@@ -41,6 +41,7 @@ lent n = replicate n 170
 -- What goes in, the whole answer, and the bytes written at the start of the listing and of the diagnosis slice, the rest of
 -- which must stay.
 pub record Case : Type 0 where
+  pub settings : Settings
   pub sheet : List ℕ
   pub call : Call
   pub listing : ℕ
@@ -56,7 +57,7 @@ written bytes n = bytes ++ drop (length bytes) (lent n)
 -- The input of a case.
 abbrev pub input_of : Case → Input
 input_of c = record {
-  settings = standard;
+  settings = c.settings;
   call = c.call;
   sheet = c.sheet;
   listing = lent c.listing;
@@ -105,6 +106,7 @@ abbrev pub ◌also◌ : {A B : Type 0} → A → B → A × B
 -- Acceptance, with the bytes of the listing.
 abbrev pub accepts : List ℕ → Call → ℕ → ℕ → ℕ → ℕ → Case
 accepts s c l d size bytes = record {
+  settings = standard;
   sheet = s;
   call = c;
   listing = l;
@@ -117,6 +119,7 @@ accepts s c l d size bytes = record {
 -- A refusal that leaves both slices.
 abbrev pub refuses : List ℕ → Call → ℕ → ℕ → ℕ → Case
 refuses s c l d number = record {
+  settings = standard;
   sheet = s;
   call = c;
   listing = l;
@@ -129,6 +132,7 @@ refuses s c l d number = record {
 -- 8 or 9, with the count of rows, the flag and the rows' bytes.
 abbrev pub diagnoses : List ℕ → Call → ℕ → ℕ → ℕ → ℕ → Bool → List ℕ → Case
 diagnoses s c l d number rows more bytes = record {
+  settings = standard;
   sheet = s;
   call = c;
   listing = l;
@@ -141,6 +145,7 @@ diagnoses s c l d number rows more bytes = record {
 -- 10, with the needed size.
 abbrev pub needs : List ℕ → Call → ℕ → ℕ → ℕ → Case
 needs s c l d size = record {
+  settings = standard;
   sheet = s;
   call = c;
   listing = l;
@@ -148,4 +153,17 @@ needs s c l d size = record {
   answer = record { number = 10; size = size; rows = 0; more = false };
   listed = [];
   diagnosed = [];
+}
+
+-- A case under a limit of so many rows; those above have the highest.
+abbrev pub under : ℕ → Case → Case
+under n c = record {
+  settings = record { rows = n };
+  sheet = c.sheet;
+  call = c.call;
+  listing = c.listing;
+  diagnosis = c.diagnosis;
+  answer = c.answer;
+  listed = c.listed;
+  diagnosed = c.diagnosed;
 }

@@ -51,11 +51,12 @@ pub record ReadTo (bytes : List ℕ) (s : Sheet) : Type 0 where
 abbrev pub left_out : List ℕ
 left_out = 1 ∷ 3 ∷ 4 ∷ 5 ∷ 6 ∷ 7 ∷ []
 
--- The number answered is none of these. It may be 2, which says nothing of the sheet.
+-- The number answered is none of these. It may be 17 or 2, which say nothing of the sheet.
 abbrev pub Compared : Input → Type 0
 Compared i = In (outcome i).answer.number left_out → ⊥
 
--- Two inputs of one call: bytes that are read to relisted sheets and answered by no number left out; slices of equal lengths.
+-- Two inputs of one call under one limit: bytes that are read to relisted sheets and answered by no number left out; slices of
+-- equal lengths.
 pub record RelistedInputs (i j : Input) : Type 0 where
   pub settings : i.settings ≡ j.settings
   pub call : i.call ≡ j.call

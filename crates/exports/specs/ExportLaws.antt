@@ -5,7 +5,7 @@ use Rattle.std.proofs.Common.{sym, ap, ap₂, ◌∙◌, subst, arith, lt-ltb, l
 use Rattle.std.proofs.lemmas.List.Edits.{sets-eq}
 use Rattle.lists.specs.Tests.{by, never}
 use Rattle.definitions.specs.Relisted.{Alike}
-use Rattle.definitions.specs.Answer.{standard, Input, Answer, Outcome, overwrite, outcome}
+use Rattle.definitions.specs.Answer.{Input, Answer, Outcome, overwrite, outcome}
 use Rattle.answers.specs.Answers as held
 use Rattle.fields.specs.declared.Fault.{Fault}
 use Rattle.tariff_table.specs.declared.Broken.{Broken}
@@ -20,11 +20,11 @@ use Rattle.exports.specs.Exports.{flag, too_few_parts, told, exported, Exported}
 use Rattle.exports.specs.Parts.{Small}
 use Rattle.exports.specs.Statements.{ExportedAlike, ExportsAlike}
 
-pub small : (i : Input) → i.settings ≡ standard → Small (outcome i).answer
-small i e = record {
+pub small : (i : Input) → Small (outcome i).answer
+small i = record {
   number = omega (arith, sizes.numbers i);
   size = omega (arith, sizes.sizes i);
-  rows = omega (arith, sizes.rows i, ap (λ s. s.rows) e);
+  rows = omega (arith, sizes.rows i);
 }
 
 pub from-bool : (b : Bool) → from_bool b ≡ flag b
@@ -68,9 +68,9 @@ module _ (i : Input) (parts : List ℕ) where
 pub none_listed : (s l l' : List ℕ) → LinesListed s l l' too_few_parts
 none_listed s l l' = record { accepted = λ e. absurd (omega (arith, e)) }
 
-module _ (i : Input) (e : i.settings ≡ standard) (a : held.Answer) (l d : List ℕ) (h : Answered a l d (outcome i)) where
+module _ (i : Input) (a : held.Answer) (l d : List ℕ) (h : Answered a l d (outcome i)) where
   pub small-answer : Small (answer_of a)
-  small-answer = subst Small (sym (ap (λ (x : Outcome). x.answer) h.outcome)) (small i e)
+  small-answer = subst Small (sym (ap (λ (x : Outcome). x.answer) h.outcome)) (small i)
 
   pub told-all : (p : Parts) → parts_of p ≡ answer_of a → (number : ℕ) (parts new : List ℕ) → 3 ≤ length parts → number ≡ p.number
       → new ≡ overwrite (p.size ∷ p.rows ∷ flag p.more ∷ []) parts

@@ -11,7 +11,7 @@ ghost use Rattle.exports.specs.Exports.{flag, exported};
 ghost use Rattle.exports.specs.Conversions.{exported_conversion};
 ghost use Rattle.exports.specs.Parts.{Small, converted};
 
-use answers::Parts;
+use answers::{Parts, Settings};
 use fields::Fault;
 
 // What is answered where fewer than three numbers are lent for the parts.
@@ -45,20 +45,25 @@ fn tell(p: Parts, parts: &mut [u32]) -> u32
     p.number as u32
 }
 
-// The order-only call. Where fewer than three numbers are lent, the answer is no refusal's number, and nothing is touched.
+// The order-only call, under a limit of so many rows. Where fewer than three numbers are lent, the answer is no refusal's number,
+// and nothing is touched.
 #[unsafe(no_mangle)]
 pub extern "C" fn gidzelma_order(
     sheet: &[u8],
+    rows: u32,
     listing: &mut [u8],
     diagnosis: &mut [u8],
     parts: &mut [u32],
 ) -> u32
-    ensures { record { number = result; parts = parts.new; listing = listing.new; diagnosis = diagnosis.new } ≡ exported (order_input sheet.now listing.old diagnosis.old) parts.old }
+    ensures { record { number = result; parts = parts.new; listing = listing.new; diagnosis = diagnosis.new } ≡ exported (order_input (record { rows = rows }) sheet.now listing.old diagnosis.old) parts.old }
 {
     if parts.len() < 3 {
         return TOO_FEW_PARTS;
     }
-    let answer = access::order(sheet, listing, diagnosis);
+    let settings = Settings {
+        rows: rows as usize,
+    };
+    let answer = access::order(settings, sheet, listing, diagnosis);
     tell(Parts::from(answer), parts)
 }
 
@@ -67,17 +72,21 @@ pub extern "C" fn gidzelma_order(
 #[unsafe(no_mangle)]
 pub extern "C" fn gidzelma_schedule(
     sheet: &[u8],
+    rows: u32,
     listing: &mut [u8],
     diagnosis: &mut [u8],
     parts: &mut [u32],
 ) -> u32
-    ensures diagnosis_after { record { number = result; parts = parts.new; listing = listing.new; diagnosis = diagnosis.new } ≡ exported (schedule_input sheet.now listing.old diagnosis.old) parts.old }
+    ensures diagnosis_after { record { number = result; parts = parts.new; listing = listing.new; diagnosis = diagnosis.new } ≡ exported (schedule_input (record { rows = rows }) sheet.now listing.old diagnosis.old) parts.old }
     ensures lines_listed { LinesListed sheet.now listing.old listing.new result }
 {
     if parts.len() < 3 { // no room for size, rows and flag
         return TOO_FEW_PARTS; // and nothing is touched
     }
-    let answer = access::schedule(sheet, listing, diagnosis);
+    let settings = Settings {
+        rows: rows as usize,
+    };
+    let answer = access::schedule(settings, sheet, listing, diagnosis);
     tell(Parts::from(answer), parts)
 }
 

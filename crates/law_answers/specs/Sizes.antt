@@ -1,6 +1,6 @@
 -- Every part of an answer fits 32 bits, whatever the input: so a caller in C or Rust can be given three numbers of 32 bits.
-use Rattle.std.specs.Prelude.{List, [], ◌∷◌, ◌++◌, ◌≡◌, refl, ℕ, ◌+◌, ◌*◌, ◌≤◌, length}
-use Rattle.std.proofs.Common.{arith, length-append}
+use Rattle.std.specs.Prelude.{Bool, List, [], ◌∷◌, ◌++◌, ◌≡◌, refl, ℕ, ◌+◌, ◌*◌, ◌≤◌, length}
+use Rattle.std.proofs.Common.{sym, ◌∙◌, subst, arith, length-append}
 use Rattle.lists.specs.Tests.{by}
 use Rattle.definitions.specs.Bits.{bits_of, size, pack}
 use Rattle.definitions.specs.Records.{Sheet}
@@ -8,14 +8,15 @@ use Rattle.definitions.specs.Map.{TypeMap, type_map_of}
 use Rattle.definitions.specs.Order.{organize_type_map}
 use Rattle.definitions.specs.Legal.{Every}
 use Rattle.definitions.specs.Packing.{order_bits, schedule_bits, counted_bits, item_bits}
-use Rattle.definitions.specs.Answer.{Call, schedule, order, Input, sheet_of, items_written, schedule_of, bits_written, Refusal, late_refusals, read_in, type_map_in, sheet_refusals, refusals, reject, accept, first_refusal, outcome}
+use Rattle.definitions.specs.Answer.{most_rows, Call, schedule, order, Input, Outcome, sheet_of, items_written, schedule_of, bits_written, Refusal, bare, late_refusals, read_in, type_map_in, sheet_refusals, refusals, reject, accept, first_refusal, outcome}
 use Rattle.bits.specs.NumberLaws.{length-pack_to}
 use Rattle.law_lines.specs.Statements.{Readable}
 use Rattle.law_lines.specs.Within.{Within}
 use Rattle.law_lines.specs.Reading.{read-is-within}
 use Rattle.law_lines.specs.Size.{schedule-at-most}
-use Rattle.law_reading.specs.Statements.{NoneHolds}
-use Rattle.law_reading.proofs.Answers.{passed-is-held}
+use Rattle.law_orders.specs.Alike.{first_holds, first-passed}
+use Rattle.law_reading.specs.Statements.{NoneHolds, test1, test17}
+use Rattle.law_reading.proofs.Answers.{limit-exactly, passed-is-held}
 
 -- the largest size that is proved: 7 + 64 × 17 + 16 bits and 37,120 items of 4,515 bits
 abbrev pub most : ℕ
@@ -72,7 +73,7 @@ accept-small i n =
 pub sizes : (i : Input) → (outcome i).answer.size ≤ most
 unfolding outcome refusals
 sizes i =
-    front i (sheet_refusals i) (late_refusals i (type_map_in i)) (refl, (refl, (refl, (refl, (refl, (refl, (refl, tt)))))))
+    front i (sheet_refusals i) (late_refusals i (type_map_in i)) (refl, (refl, (refl, (refl, (refl, (refl, (refl, (refl, tt))))))))
     (λ n. each-small i (late_refusals i (type_map_in i)) (omega arith, (omega arith, (small i n, tt))) (accept-small i n))
 
 -- ---- rows
@@ -82,19 +83,31 @@ unfolding first_refusal reject accept
 few-rows i [] = omega arith
 few-rows i (r ∷ l) = by (r.holds tt) (λ e. rw (e, first_refusal) (omega arith)) (λ e. rw (e, first_refusal) (few-rows i l))
 
-pub rows : (i : Input) → (outcome i).answer.rows ≤ i.settings.rows
-unfolding outcome
-rows i = few-rows i (refusals i)
+-- a refusal without rows names none
+no-rows : (i : Input) (n : ℕ) (test : Unit {0} → Bool) → (reject i (bare n test)).answer.rows ≤ most_rows
+unfolding reject
+no-rows i n test = omega arith
+
+-- no limit over 256 comes so far that there are rows
+pub rows : (i : Input) → (outcome i).answer.rows ≤ most_rows
+unfolding outcome refusals
+rows i =
+    by (test17 i)
+    (λ l.
+    by (test1 i)
+    (λ e. subst (λ (o : Outcome). o.answer.rows ≤ most_rows) (sym (first_holds i _ _ e)) (no-rows i 1 _))
+    (λ e. subst (λ (o : Outcome). o.answer.rows ≤ most_rows) (sym (first-passed i _ _ e ∙ first_holds i _ _ l)) (no-rows i 17 _)))
+    (λ l. omega (arith, few-rows i (refusals i), ((limit-exactly i.settings).0 l).1))
 
 -- ---- numbers
 
-few-numbers : (i : Input) (l : List Refusal) → Every (λ (r : Refusal). r.number ≤ 10) l → (first_refusal i l).answer.number ≤ 10
+few-numbers : (i : Input) (l : List Refusal) → Every (λ (r : Refusal). r.number ≤ 17) l → (first_refusal i l).answer.number ≤ 17
 unfolding first_refusal reject accept
 few-numbers i [] e = omega arith
 few-numbers i (r ∷ l) e = by (r.holds tt) (λ t. rw (t, first_refusal) e.0) (λ t. rw (t, first_refusal) (few-numbers i l e.1))
 
-pub numbers : (i : Input) → (outcome i).answer.number ≤ 10
+pub numbers : (i : Input) → (outcome i).answer.number ≤ 17
 unfolding outcome refusals
 numbers i =
     few-numbers i (refusals i)
-    (omega arith, (omega arith, (omega arith, (omega arith, (omega arith, (omega arith, (omega arith, (omega arith, (omega arith, (omega arith, tt))))))))))
+    (omega arith, (omega arith, (omega arith, (omega arith, (omega arith, (omega arith, (omega arith, (omega arith, (omega arith, (omega arith, (omega arith, tt)))))))))))

@@ -1,10 +1,10 @@
 -- Relisted inputs: the refusals of the two are alike one by one, so the answers are.
-use Rattle.std.specs.Prelude.{true, false, not, ◌≡◌, refl, ℕ, ◌*◌, eqb, ltb, drop}
+use Rattle.std.specs.Prelude.{Bool, min, true, false, not, ◌≡◌, refl, ℕ, ◌*◌, eqb, ltb, drop}
 use mathlib.Core.List.{List, [], ◌∷◌, ◌++◌}
 use Rattle.std.proofs.Math.Path.{sym, ap, ap₂}
-use Rattle.std.proofs.Common.{◌∙◌, subst₂, le-ltb}
+use Rattle.std.proofs.Common.{◌∙◌, subst₂, arith, le-ltb}
 use Rattle.std.proofs.Math.ListN.{length, take}
-use Rattle.std.proofs.Math.Seq.{take-append_seam}
+use Rattle.std.proofs.Math.Seq.{take-nil, take-append_seam}
 use Rattle.std.proofs.lemmas.Bool.{eqb-false, not-false}
 use Rattle.lists.specs.Lists.{null}
 use Rattle.lists.specs.Tests.{by}
@@ -16,7 +16,7 @@ use Rattle.definitions.specs.Checks.{bad_fill, bad_words, something_twice}
 use Rattle.definitions.specs.Map.{TypeMap, type_map_of, line_map_of}
 use Rattle.definitions.specs.Order.{has_order, organize_type_map}
 use Rattle.definitions.specs.Items.{items_of}
-use Rattle.definitions.specs.Answer.{Settings, Call, schedule, order, Input, Outcome, overwrite, refused_by, rest_of, sheet_of, items_written, schedule_of, bits_written, Refusal, synthesis_rows, early_refusals, reading_refusals, content_refusals, late_refusals, refusals, reject, read_in, type_map_in, accept, first_refusal, outcome}
+use Rattle.definitions.specs.Answer.{Settings, bad_limit, Call, schedule, order, Input, Outcome, overwrite, refused_by, rest_of, sheet_of, items_written, schedule_of, bits_written, Refusal, bare, synthesis_rows, early_refusals, reading_refusals, content_refusals, late_refusals, refusals, reject, read_in, type_map_in, accept, first_refusal, outcome}
 use Rattle.definitions.specs.Relisted.{Holds, RelistedInputs, Alike}
 use Rattle.law_orders.specs.Comparisons.{names-once}
 use Rattle.law_orders.specs.Relisting.{relisted-map, relisted-order}
@@ -41,6 +41,19 @@ first_holds i r l e = rw (e, first_refusal)
 pub first-passed : (i : Input) (r : Refusal) (l : List Refusal) → r.holds tt ≡ false → first_refusal i (r ∷ l) ≡ first_refusal i l
 unfolding first_refusal
 first-passed i r l e = rw (e, first_refusal)
+
+-- a refusal without rows names none, and leaves both slices
+pub rowless : (i : Input) (r : Refusal) → r.rows tt ≡ []
+    → reject i r ≡ record { answer = record { number = r.number; size = r.size tt; rows = 0; more = false }; listing = i.listing; diagnosis = i.diagnosis }
+unfolding reject
+rowless i r e =
+    let few : min i.settings.rows 0 ≡ 0 = omega arith in
+    rw (e, few, le-ltb i.settings.rows 0 (omega arith), take-nil i.settings.rows)
+
+-- one without rows and size names nothing but its number
+pub bare-alone : (i : Input) (n : ℕ) (test : Unit {0} → Bool)
+    → reject i (bare n test) ≡ record { answer = record { number = n; size = 0; rows = 0; more = false }; listing = i.listing; diagnosis = i.diagnosis }
+bare-alone i n test = rowless i (bare n test) refl
 
 -- two outcomes have one number and one size, and where the number is 0 the bytes written are equal
 record Same (x y : Outcome) : Type 0 where
@@ -129,8 +142,9 @@ module _ (i j : Input) (h : RelistedInputs i j) (left : Holds i.sheet h.s) (righ
     early : Match (early_refusals i) (early_refusals j)
     early =
         next refl refl (not-long left ∙ sym (not-long right)) refl
+        (λ e. next refl refl (ap bad_limit h.settings) refl
         (λ e. next refl refl (ap₂ (λ n (c : Settings). ltb n (6 * c.rows)) h.diagnosis h.settings) refl
-        (λ e. none))
+        (λ e. none)))
 
     reading : Match (reading_refusals (read_in i)) (reading_refusals (read_in j))
     reading =

@@ -8,3 +8,4 @@ pub mod Relisting
 pub mod Alike
 pub mod Examples
 pub mod Visit
+pub mod RowBytes

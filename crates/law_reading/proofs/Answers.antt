@@ -1,7 +1,8 @@
 -- Each refusal is answered exactly on its condition.
-use Rattle.std.specs.Prelude.{true, false, ◌++◌, ◌≡◌, refl, ◌*◌, ◌≤◌, length}
+use Rattle.std.specs.Prelude.{true, false, ◌++◌, ◌≡◌, refl, ◌*◌, ◌≤◌, eqb, ltb, length}
 use Rattle.std.proofs.Common.{sym, ap, ◌∙◌, subst, arith, le-ltb, ltb-false, ne_eqb, length-take}
-use Rattle.lists.specs.Tests.{never}
+use Rattle.std.proofs.lemmas.Bool.{eqb-false}
+use Rattle.lists.specs.Tests.{never, or-false-left, or-false-right, or-false-both}
 use Rattle.definitions.specs.Records.{Sheet}
 use Rattle.definitions.specs.Bits.{bits_of}
 use Rattle.definitions.specs.Parse.{past, not_allowed, Parsed, done, refused}
@@ -9,13 +10,13 @@ use Rattle.definitions.specs.Reading.{sheet}
 use Rattle.definitions.specs.Checks.{bad_fill}
 use Rattle.definitions.specs.Encoding.{encode}
 use Rattle.definitions.specs.Relisted.{Holds}
-use Rattle.definitions.specs.Answer.{Input, refused_by, rest_of, sheet_of, early_refusals, reading_refusals, content_refusals, late_refusals, read_in, type_map_in, sheet_refusals, refusals, outcome}
+use Rattle.definitions.specs.Answer.{most_rows, Input, refused_by, rest_of, sheet_of, early_refusals, reading_refusals, content_refusals, late_refusals, read_in, type_map_in, sheet_refusals, refusals, outcome}
 use Rattle.law_orders.specs.Alike.{not-long, not-refused, not-filled, good-words, nothing-twice}
-use Rattle.law_reading.specs.Statements.{EachOnItsCondition, AcceptedExactly, FirstSevenExactly, PastSeven, HeldPasses, PassedIsHeld, LegalPassesSeven, OnlyLegalPassesSeven, CutShort, MoreBytes}
+use Rattle.law_reading.specs.Statements.{EachOnItsCondition, AcceptedExactly, test17, test2, SheetTestsExactly, LimitExactly, AllFit, PastSheetTests, HeldPasses, PassedIsHeld, LegalPassesSheetTests, OnlyLegalPassesSheetTests, CutShort, MoreBytes}
 use Rattle.law_reading.specs.Refusals.{Numbered, answered, none-answered, passed, none-append, all_pass}
 use Rattle.law_reading.proofs.RoundTrip.{cut-short-read, more-read, nothing-legal-is-refused, nothing-illegal-is-read}
 
--- the ten numbers differ
+-- the eleven numbers differ
 numbered : (i : Input) → Numbered (refusals i)
 unfolding refusals
 numbered i = record { positive = refl; apart = refl }
@@ -34,23 +35,48 @@ one-fault (done a rest) e = refl
 one-fault (refused past) e = never refl (sym e)
 one-fault (refused not_allowed) e = refl
 
-pub first-seven-exactly : FirstSevenExactly
+pub sheet-tests-exactly : SheetTestsExactly
 unfolding refusals
-first-seven-exactly i =
+sheet-tests-exactly i =
     let e1 = each-on-its-condition i 1 (omega arith) in
     let e4 = each-on-its-condition i 4 (omega arith) in
     record {
       one = (λ h. (e1.0 h).1, λ h. e1.1 (tt, h));
+      seventeen = each-on-its-condition i 17 (omega arith);
       two = each-on-its-condition i 2 (omega arith);
       three = each-on-its-condition i 3 (omega arith);
       four = (
-        λ h. let t = e4.0 h in ((t.0.0, (t.0.1.0, tt)), t.1),
-        λ h. e4.1 ((h.0.0, (h.0.1.0, (one-fault (read_in i) h.1, tt))), h.1),
+        λ h. let t = e4.0 h in ((t.0.0, (t.0.1.0, (t.0.1.1.0, tt))), t.1),
+        λ h. e4.1 ((h.0.0, (h.0.1.0, (h.0.1.1.0, (one-fault (read_in i) h.1, tt)))), h.1),
       );
       seven = each-on-its-condition i 7 (omega arith);
       five = each-on-its-condition i 5 (omega arith);
       six = each-on-its-condition i 6 (omega arith);
     }
+
+-- ---- 17 and 2
+
+pub limit-exactly : LimitExactly
+limit-exactly s =
+    let n = s.rows in (
+      λ e.
+          let z = eqb-false n 0 (or-false-left (eqb n 0) (ltb most_rows n) e) in
+          let f = ltb-false most_rows n (or-false-right (eqb n 0) (ltb most_rows n) e) in
+          (omega (arith, z), f),
+      λ h. or-false-both (ne_eqb n 0 (λ e. omega (arith, h.0, e))) (le-ltb most_rows n h.1),
+    )
+
+module _ (i : Input) where
+  pub limit-passes : AllFit i → test17 i ≡ false
+  limit-passes f = (limit-exactly i.settings).1 (f.some, f.few)
+
+  pub room-passes : AllFit i → test2 i ≡ false
+  room-passes f = le-ltb (length i.diagnosis) (6 * i.settings.rows) f.room
+
+  pub rows-fit : test17 i ≡ false → test2 i ≡ false → AllFit i
+  rows-fit l e =
+      let x = (limit-exactly i.settings).0 l in
+      record { some = x.0; few = x.1; room = ltb-false (length i.diagnosis) (6 * i.settings.rows) e }
 
 -- ---- the tests before the order
 
@@ -61,7 +87,7 @@ held-passes i s h =
     let reading = reading_refusals (read_in i) in
     none-append (early ++ reading) (content_refusals (sheet_of (read_in i)))
     (none-append early reading
-    (not-long t, (le-ltb (length i.diagnosis) (6 * i.settings.rows) h.lent, tt))
+    (not-long t, (limit-passes i h.fit, (room-passes i h.fit, tt)))
     (not-refused t past, (not-refused t not_allowed, (not-filled t, tt))))
     (good-words t, (nothing-twice t, tt))
 
@@ -84,23 +110,23 @@ passed-is-held i h =
         words = passed 5 l h;
         once = passed 6 l h;
       };
-      lent = ltb-false (length i.diagnosis) (6 * i.settings.rows) (passed 2 l h);
+      fit = rows-fit i (passed 17 l h) (passed 2 l h);
     }
 
 -- ---- legal maps
 
-pub legal-passes-seven : LegalPassesSeven
+pub legal-passes-sheet-tests : LegalPassesSheetTests
 unfolding outcome refusals
-legal-passes-seven i s h e d =
-    let t : PastSeven i s = record { held = subst (λ l. Holds l s) (sym e) (nothing-legal-is-refused s h).0; lent = d } in
+legal-passes-sheet-tests i s h e d =
+    let t : PastSheetTests i s = record { held = subst (λ l. Holds l s) (sym e) (nothing-legal-is-refused s h).0; fit = d } in
     all_pass i (sheet_refusals i) (late_refusals i (type_map_in i)) (held-passes i s t)
 
-pub only-legal-passes-seven : OnlyLegalPassesSeven
-only-legal-passes-seven i b h =
+pub only-legal-passes-sheet-tests : OnlyLegalPassesSheetTests
+only-legal-passes-sheet-tests i b h =
     let t = passed-is-held i h in
     let r = t.held in
     let x = nothing-illegal-is-read i.sheet (sheet_of (read_in i)) r.rest b r.read r.fill r.words r.once in
-    (sheet_of (read_in i), x.0, x.1, t.lent)
+    (sheet_of (read_in i), x.0, x.1, t.fit)
 
 -- ---- sheets that are cut short, or go on
 
@@ -108,8 +134,8 @@ pub cut-short-is-3 : CutShort
 cut-short-is-3 i s k h l e d =
     let r : read_in i ≡ refused past = ap (λ l. sheet (bits_of l)) e ∙ cut-short-read s k h l in
     let n : length i.sheet ≤ 40960 = omega (arith, ap length e, length-take k (encode s), (nothing-legal-is-refused s h).0.short) in
-    (first-seven-exactly i).three.1 (
-      (le-ltb 40960 (length i.sheet) n, (le-ltb (length i.diagnosis) (6 * i.settings.rows) d, tt)),
+    (sheet-tests-exactly i).three.1 (
+      (le-ltb 40960 (length i.sheet) n, (limit-passes i d, (room-passes i d, tt))),
       ap (refused_by past) r,
     )
 
@@ -117,7 +143,7 @@ pub more-bytes-is-7 : MoreBytes
 more-bytes-is-7 i s b more h e n d =
     let t = more-read s b more h in
     let r : read_in i ≡ done s t.0 = ap (λ l. sheet (bits_of l)) e ∙ t.1 in
-    (first-seven-exactly i).seven.1 (
-      (le-ltb 40960 (length i.sheet) n, (le-ltb (length i.diagnosis) (6 * i.settings.rows) d, (ap (refused_by past) r, (ap (refused_by not_allowed) r, tt)))),
+    (sheet-tests-exactly i).seven.1 (
+      (le-ltb 40960 (length i.sheet) n, (limit-passes i d, (room-passes i d, (ap (refused_by past) r, (ap (refused_by not_allowed) r, tt))))),
       ap (λ p. bad_fill (rest_of p)) r ∙ t.2,
     )

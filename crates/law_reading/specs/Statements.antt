@@ -9,7 +9,7 @@ use Rattle.definitions.specs.Checks.{bad_fill, bad_words, something_twice}
 use Rattle.definitions.specs.Legal.{Every, WithinLimits, GoodWords, NothingTwice, Legal}
 use Rattle.definitions.specs.Encoding.{sheet_bits, encode}
 use Rattle.definitions.specs.Relisted.{Holds}
-use Rattle.definitions.specs.Answer.{Input, refused_by, rest_of, sheet_of, Refusal, bare, late_refusals, read_in, type_map_in, sheet_refusals, refusals, first_refusal, outcome}
+use Rattle.definitions.specs.Answer.{Settings, most_rows, bad_limit, Input, refused_by, rest_of, sheet_of, Refusal, bare, late_refusals, read_in, type_map_in, sheet_refusals, refusals, first_refusal, outcome}
 
 -- each is a byte
 abbrev pub Bytes : List ℕ → Type 0
@@ -79,13 +79,16 @@ abbrev pub EachOnItsCondition : Type 0
 EachOnItsCondition =
     (i : Input) (n : ℕ) → 0 < n → ((outcome i).answer.number ≡ n) ↔ (NoneHolds (before n (refusals i)) × ((refusal_of n (refusals i)).holds tt ≡ true))
 
--- Acceptance exactly if none of the ten holds.
+-- Acceptance exactly if none of the eleven holds.
 abbrev pub AcceptedExactly : Type 0
 AcceptedExactly = (i : Input) → ((outcome i).answer.number ≡ 0) ↔ NoneHolds (refusals i)
 
 -- the tests, by their numbers
 abbrev pub test1 : Input → Bool
 test1 i = ltb 40960 (length i.sheet)
+
+abbrev pub test17 : Input → Bool
+test17 i = bad_limit i.settings
 
 abbrev pub test2 : Input → Bool
 test2 i = ltb (length i.diagnosis) (6 * i.settings.rows)
@@ -111,45 +114,63 @@ Passes l = Every (λ b. b ≡ false) l
 -- Each number exactly if its test holds and none before it does, in the order of the tests (FORMAT 7.3).
 pub record ExactlyIf (i : Input) : Type 0 where
   pub one : ((outcome i).answer.number ≡ 1) ↔ (test1 i ≡ true)
-  pub two : ((outcome i).answer.number ≡ 2) ↔ (Passes (test1 i ∷ []) × (test2 i ≡ true))
-  pub three : ((outcome i).answer.number ≡ 3) ↔ (Passes (test1 i ∷ test2 i ∷ []) × (test3 i ≡ true))
-  pub four : ((outcome i).answer.number ≡ 4) ↔ (Passes (test1 i ∷ test2 i ∷ []) × (test4 i ≡ true))
-  pub seven : ((outcome i).answer.number ≡ 7) ↔ (Passes (test1 i ∷ test2 i ∷ test3 i ∷ test4 i ∷ []) × (test7 i ≡ true))
-  pub five : ((outcome i).answer.number ≡ 5) ↔ (Passes (test1 i ∷ test2 i ∷ test3 i ∷ test4 i ∷ test7 i ∷ []) × (test5 i ≡ true))
-  pub six : ((outcome i).answer.number ≡ 6) ↔ (Passes (test1 i ∷ test2 i ∷ test3 i ∷ test4 i ∷ test7 i ∷ test5 i ∷ []) × (test6 i ≡ true))
+  pub seventeen : ((outcome i).answer.number ≡ 17) ↔ (Passes (test1 i ∷ []) × (test17 i ≡ true))
+  pub two : ((outcome i).answer.number ≡ 2) ↔ (Passes (test1 i ∷ test17 i ∷ []) × (test2 i ≡ true))
+  pub three : ((outcome i).answer.number ≡ 3) ↔ (Passes (test1 i ∷ test17 i ∷ test2 i ∷ []) × (test3 i ≡ true))
+  pub four : ((outcome i).answer.number ≡ 4) ↔ (Passes (test1 i ∷ test17 i ∷ test2 i ∷ []) × (test4 i ≡ true))
+  pub seven : ((outcome i).answer.number ≡ 7) ↔ (Passes (test1 i ∷ test17 i ∷ test2 i ∷ test3 i ∷ test4 i ∷ []) × (test7 i ≡ true))
+  pub five : ((outcome i).answer.number ≡ 5) ↔ (Passes (test1 i ∷ test17 i ∷ test2 i ∷ test3 i ∷ test4 i ∷ test7 i ∷ []) × (test5 i ≡ true))
+  pub six : ((outcome i).answer.number ≡ 6) ↔ (Passes (test1 i ∷ test17 i ∷ test2 i ∷ test3 i ∷ test4 i ∷ test7 i ∷ test5 i ∷ []) × (test6 i ≡ true))
 
-abbrev pub FirstSevenExactly : Type 0
-FirstSevenExactly = (i : Input) → ExactlyIf i
+abbrev pub SheetTestsExactly : Type 0
+SheetTestsExactly = (i : Input) → ExactlyIf i
 
--- the tests before the order are passed with the sheet s: the bytes hold it, and the diagnosis slice has six bytes for each row
-pub record PastSeven (i : Input) (s : Sheet) : Type 0 where
+-- Test 17 passes exactly if the limit is one of 1 to 256 (FORMAT 8.2).
+abbrev pub LimitExactly : Type 0
+LimitExactly = (s : Settings) → (bad_limit s ≡ false) ↔ ((0 < s.rows) × (s.rows ≤ 256))
+
+-- neither 17 nor 2: the limit is allowed, and a diagnosis slice of so many bytes has six for each of its rows
+pub record RowsFit (s : Settings) (bytes : ℕ) : Type 0 where
+  pub some : 0 < s.rows
+  pub few : s.rows ≤ most_rows
+  pub room : 6 * s.rows ≤ bytes
+
+abbrev pub AllFit : Input → Type 0
+AllFit i = RowsFit i.settings (length i.diagnosis)
+
+-- the input under another limit
+abbrev pub limited : ℕ → Input → Input
+limited n i = record { settings = record { rows = n }; call = i.call; sheet = i.sheet; listing = i.listing; diagnosis = i.diagnosis }
+
+-- the tests before the order are passed with the sheet s: the bytes hold it, and the rows fit
+pub record PastSheetTests (i : Input) (s : Sheet) : Type 0 where
   pub held : Holds i.sheet s
-  pub lent : 6 * i.settings.rows ≤ length i.diagnosis
+  pub fit : AllFit i
 
 -- They are passed with a sheet exactly if none of them holds.
 abbrev pub HeldPasses : Type 0
-HeldPasses = (i : Input) (s : Sheet) → PastSeven i s → NoneHolds (sheet_refusals i)
+HeldPasses = (i : Input) (s : Sheet) → PastSheetTests i s → NoneHolds (sheet_refusals i)
 
 abbrev pub PassedIsHeld : Type 0
-PassedIsHeld = (i : Input) → NoneHolds (sheet_refusals i) → PastSeven i (sheet_of (read_in i))
+PassedIsHeld = (i : Input) → NoneHolds (sheet_refusals i) → PastSheetTests i (sheet_of (read_in i))
 
--- A legal map passes the first seven tests, in each call that lends a diagnosis slice that is long enough: what it answers is
--- decided by 8, 9 and 10.
-abbrev pub LegalPassesSeven : Type 0
-LegalPassesSeven = (i : Input) (s : Sheet) → Legal s → i.sheet ≡ encode s → 6 * i.settings.rows ≤ length i.diagnosis → outcome i ≡ first_refusal i (late_refusals i (type_map_in i))
+-- A legal map passes the tests before the order, in each call whose limit is allowed and whose diagnosis slice is long enough:
+-- what it answers is decided by 8, 9 and 10.
+abbrev pub LegalPassesSheetTests : Type 0
+LegalPassesSheetTests = (i : Input) (s : Sheet) → Legal s → i.sheet ≡ encode s → AllFit i → outcome i ≡ first_refusal i (late_refusals i (type_map_in i))
 
 -- And no other input does.
-abbrev pub OnlyLegalPassesSeven : Type 0
-OnlyLegalPassesSeven = (i : Input) → Bytes i.sheet → NoneHolds (sheet_refusals i) → (s : Sheet) × Legal s × (i.sheet ≡ encode s) × (6 * i.settings.rows ≤ length i.diagnosis)
+abbrev pub OnlyLegalPassesSheetTests : Type 0
+OnlyLegalPassesSheetTests = (i : Input) → Bytes i.sheet → NoneHolds (sheet_refusals i) → (s : Sheet) × Legal s × (i.sheet ≡ encode s) × AllFit i
 
 -- A legal map's sheet that is cut short gives 3.
 abbrev pub CutShort : Type 0
 CutShort =
-    (i : Input) (s : Sheet) (k : ℕ) → Legal s → k < length (encode s) → i.sheet ≡ take k (encode s) → 6 * i.settings.rows ≤ length i.diagnosis →
+    (i : Input) (s : Sheet) (k : ℕ) → Legal s → k < length (encode s) → i.sheet ≡ take k (encode s) → AllFit i →
     (outcome i).answer.number ≡ 3
 
 -- One with more bytes gives 7.
 abbrev pub MoreBytes : Type 0
 MoreBytes =
     (i : Input) (s : Sheet) (b : ℕ) (more : List ℕ) → Legal s → i.sheet ≡ encode s ++ b ∷ more → length i.sheet ≤ 40960 →
-    6 * i.settings.rows ≤ length i.diagnosis → (outcome i).answer.number ≡ 7
+    AllFit i → (outcome i).answer.number ≡ 7

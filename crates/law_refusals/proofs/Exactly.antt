@@ -17,9 +17,9 @@ use Rattle.law_lines.specs.Statements.{Readable, line_map, Accepted, is_refused,
 use Rattle.law_lines.specs.Declarations.{type-of}
 use Rattle.law_lines.proofs.Refused.{refused-is-tested, accepted-is-tested}
 use Rattle.law_synthesis.specs.Rows.{rows-are-refusals}
-use Rattle.law_reading.specs.Statements.{NoneHolds, PastSeven, before}
+use Rattle.law_reading.specs.Statements.{NoneHolds, PastSheetTests, before}
 use Rattle.law_reading.specs.Refusals.{none-front}
-use Rattle.law_reading.proofs.Answers.{each-on-its-condition, accepted-exactly, first-seven-exactly, passed-is-held}
+use Rattle.law_reading.proofs.Answers.{each-on-its-condition, accepted-exactly, sheet-tests-exactly, passed-is-held}
 use Rattle.law_refusals.specs.Statements.{SomeRefused, NoneRefused, schedule_size, order_size, ScheduleAnswers, ScheduleOfSheet, OrderAnswers, OrderOfSheet, ScheduleExactly, OrderExactly}
 use Rattle.law_refusals.specs.Late.{needed, rowless, eight-tested, nine-tested, ten-tested, accepted-tested}
 
@@ -39,7 +39,7 @@ refused-or-none s ok =
 
 -- ---- the conditions of 8, 9 and 10, declared
 
-module _ (i : Input) (s : Sheet) (h : PastSeven i s) where
+module _ (i : Input) (s : Sheet) (h : PastSheetTests i s) where
   readable : Readable s
   readable = record { words = h.held.words; once = h.held.once }
 
@@ -134,30 +134,30 @@ order-of-sheet i s c h =
 
 -- what is answered by 8, 9, 10 or 0 has passed the tests before the order
 module _ (i : Input) where
-  past-seven : NoneHolds (sheet_refusals i) → (s : Sheet) × PastSeven i s
-  past-seven h = (sheet_of (read_in i), passed-is-held i h)
+  past-sheet-tests : NoneHolds (sheet_refusals i) → (s : Sheet) × PastSheetTests i s
+  past-sheet-tests h = (sheet_of (read_in i), passed-is-held i h)
 
-  past-by-8 : (outcome i).answer.number ≡ 8 → (s : Sheet) × PastSeven i s
+  past-by-8 : (outcome i).answer.number ≡ 8 → (s : Sheet) × PastSheetTests i s
   unfolding refusals
-  past-by-8 e = past-seven ((each-on-its-condition i 8 (omega arith)).0 e).0
+  past-by-8 e = past-sheet-tests ((each-on-its-condition i 8 (omega arith)).0 e).0
 
-  past-by-9 : (outcome i).answer.number ≡ 9 → (s : Sheet) × PastSeven i s
+  past-by-9 : (outcome i).answer.number ≡ 9 → (s : Sheet) × PastSheetTests i s
   unfolding refusals
-  past-by-9 e = past-seven (none-front (sheet_refusals i) (before 9 (late_refusals i (type_map_in i))) ((each-on-its-condition i 9 (omega arith)).0 e).0)
+  past-by-9 e = past-sheet-tests (none-front (sheet_refusals i) (before 9 (late_refusals i (type_map_in i))) ((each-on-its-condition i 9 (omega arith)).0 e).0)
 
-  past-by-10 : (outcome i).answer.number ≡ 10 → (s : Sheet) × PastSeven i s
+  past-by-10 : (outcome i).answer.number ≡ 10 → (s : Sheet) × PastSheetTests i s
   unfolding refusals
-  past-by-10 e = past-seven (none-front (sheet_refusals i) (before 10 (late_refusals i (type_map_in i))) ((each-on-its-condition i 10 (omega arith)).0 e).0)
+  past-by-10 e = past-sheet-tests (none-front (sheet_refusals i) (before 10 (late_refusals i (type_map_in i))) ((each-on-its-condition i 10 (omega arith)).0 e).0)
 
-  past-by-0 : (outcome i).answer.number ≡ 0 → (s : Sheet) × PastSeven i s
+  past-by-0 : (outcome i).answer.number ≡ 0 → (s : Sheet) × PastSheetTests i s
   unfolding refusals
-  past-by-0 e = past-seven (none-front (sheet_refusals i) (late_refusals i (type_map_in i)) ((accepted-exactly i).0 e))
+  past-by-0 e = past-sheet-tests (none-front (sheet_refusals i) (late_refusals i (type_map_in i)) ((accepted-exactly i).0 e))
 
 pub schedule-exactly : ScheduleExactly
 schedule-exactly i c =
-    let x : (s : Sheet) → PastSeven i s → ScheduleAnswers i s = λ s h. schedule-of-sheet i s c h in
+    let x : (s : Sheet) → PastSheetTests i s → ScheduleAnswers i s = λ s h. schedule-of-sheet i s c h in
     record {
-      one-to-seven = first-seven-exactly i;
+      sheet-tests = sheet-tests-exactly i;
       eight = (λ e. let t = past-by-8 i e in (t.0, t.1, (x t.0 t.1).eight.0 e), λ t. (x t.0 t.1).eight.1 t.2);
       nine = (
         λ e. let t = past-by-9 i e in let u = (x t.0 t.1).nine.0 e in (t.0, t.1, u.0, u.1),
@@ -175,9 +175,9 @@ schedule-exactly i c =
 
 pub order-exactly : OrderExactly
 order-exactly i c =
-    let x : (s : Sheet) → PastSeven i s → OrderAnswers i s = λ s h. order-of-sheet i s c h in
+    let x : (s : Sheet) → PastSheetTests i s → OrderAnswers i s = λ s h. order-of-sheet i s c h in
     record {
-      one-to-seven = first-seven-exactly i;
+      sheet-tests = sheet-tests-exactly i;
       eight = (λ e. let t = past-by-8 i e in (t.0, t.1, (x t.0 t.1).eight.0 e), λ t. (x t.0 t.1).eight.1 t.2);
       nine = λ e. let t = past-by-9 i e in (x t.0 t.1).nine e;
       ten = (

@@ -1,2 +1,3 @@
 pub mod Exactly
+pub mod Fewer
 pub mod Examples

@@ -1,4 +1,4 @@
--- The tests 8, 9 and 10, where the bytes hold a sheet and the diagnosis slice is long enough.
+-- The tests 8, 9 and 10, where the bytes hold a sheet and the rows fit.
 use Rattle.std.specs.Prelude.{Bool, true, false, not, List, ◌↔◌, ◌≡◌, refl, ℕ, ◌≤◌, ◌<◌, length}
 use Rattle.std.proofs.Common.{sym, ap, ◌∙◌, lt-ltb, le-ltb, ltb-true, ltb-false}
 use Rattle.std.proofs.lemmas.Bool.{not-true, not-false}
@@ -7,7 +7,7 @@ use Rattle.definitions.specs.Bits.{size}
 use Rattle.definitions.specs.Records.{Sheet}
 use Rattle.definitions.specs.Order.{has_order}
 use Rattle.definitions.specs.Answer.{Input, Outcome, schedule_of, bits_written, Refusal, synthesis_rows, late_refusals, type_map_in, sheet_refusals, refusals, first_refusal, outcome}
-use Rattle.law_reading.specs.Statements.{PastSeven}
+use Rattle.law_reading.specs.Statements.{PastSheetTests}
 use Rattle.law_reading.specs.Refusals.{Numbered, answered, none-answered, all_pass}
 use Rattle.law_reading.proofs.Answers.{held-passes}
 
@@ -19,7 +19,7 @@ module _ (i : Input) where
   abbrev pub rowless : Bool
   rowless = null (synthesis_rows i.call (type_map_in i))
 
-  module _ (s : Sheet) (h : PastSeven i s) where
+  module _ (s : Sheet) (h : PastSheetTests i s) where
     abbrev late : List Refusal
     late = late_refusals i (type_map_in i)
 

@@ -1,12 +1,12 @@
--- Relisted inputs answer alike. Where 2 is the answer, it is that of both. Otherwise both bytes hold the sheets that they are
--- read to, which leave rows in the synthesis alike, since rows and refused types agree for the whole map.
-use Rattle.std.specs.Prelude.{Bool, false, List, [], ◌∷◌, ◌++◌, ◌≡◌, refl, ℕ, ◌*◌, min, eqb, ltb, length, take, drop}
+-- Relisted inputs answer alike. Where 17 or 2 is the answer, it is that of both. Otherwise both bytes hold the sheets that they
+-- are read to, which leave rows in the synthesis alike, since rows and refused types agree for the whole map.
+use Rattle.std.specs.Prelude.{false, List, [], ◌∷◌, ◌++◌, ◌≡◌, refl, ℕ, ◌*◌, ◌≤◌, eqb, ltb, length, take, drop}
 use Rattle.std.proofs.Math.Bool.{true}
 use mathlib.Core.List.Memᴰ
 use Rattle.std.proofs.Math.Path.{sym, ap}
-use Rattle.std.proofs.Common.{ap₂, ◌∙◌, subst, arith, lt-ltb, le-ltb, ltb-true, ltb-false, eqb-true, take-append-drop}
+use Rattle.std.proofs.Common.{ap₂, ◌∙◌, subst, lt-ltb, le-ltb, ltb-true, ltb-false, eqb-true, take-append-drop}
 use Rattle.std.proofs.lemmas.Bool.{eqb-false}
-use Rattle.std.proofs.Math.Seq.{take-nil, take-append_seam}
+use Rattle.std.proofs.Math.Seq.{take-append_seam}
 use Rattle.lists.specs.Lists.{any, null}
 use Rattle.lists.specs.Tests.{by, never, not_so, same_test, null-nil, any_of, cons-elim}
 use Rattle.definitions.specs.Bits.{pack}
@@ -16,32 +16,36 @@ use Rattle.definitions.specs.Checks.{bad_fill, bad_words, something_twice}
 use Rattle.definitions.specs.Map.{TypeMap, type_map_of}
 use Rattle.definitions.specs.Order.{has_order}
 use Rattle.definitions.specs.Synthesis.{synthesis}
-use Rattle.definitions.specs.Answer.{Settings, Call, schedule, order, Input, Outcome, Refusal, bare, refused_by, rest_of, sheet_of, schedule_of, bits_written, overwrite, synthesis_rows, refusals, reject, type_map_in, accept, first_refusal, outcome}
-use Rattle.definitions.specs.Relisted.{ReadTo, Holds, left_out, Compared, RelistedInputs}
+use Rattle.definitions.specs.Answer.{Settings, bad_limit, Call, schedule, order, Input, Outcome, Refusal, refused_by, rest_of, sheet_of, schedule_of, bits_written, overwrite, synthesis_rows, refusals, reject, type_map_in, accept, first_refusal, outcome}
+use Rattle.definitions.specs.Relisted.{ReadTo, Holds, left_out, Compared, RelistedInputs, Alike}
 use Rattle.law_orders.specs.Comparisons.{names-once}
 use Rattle.law_orders.specs.Relisting.{relisted-map, relisted-order}
-use Rattle.law_orders.specs.Alike.{first_holds, first-passed, not-long, not-refused, not-filled, good-words, nothing-twice, map_read, schedules, alike}
-use Rattle.law_reading.specs.Statements.{test1, test2, test3, test4, test5, test6, test7}
-use Rattle.law_reading.proofs.Answers.{first-seven-exactly}
+use Rattle.law_orders.specs.Alike.{first_holds, first-passed, bare-alone, not-long, not-refused, not-filled, good-words, nothing-twice, map_read, schedules, alike}
+use Rattle.law_reading.specs.Statements.{test1, test17, test2, test3, test4, test5, test6, test7}
+use Rattle.law_reading.proofs.Answers.{sheet-tests-exactly}
 use Rattle.law_lines.specs.Statements.{line_map, any_refused}
 use Rattle.law_synthesis.specs.Statements.{Ordered}
 use Rattle.law_synthesis.specs.Rows.{rows-are-tested}
 use Rattle.law_schedule.proofs.OneToOne.{bytes-determine, order-bytes-determine}
-use Rattle.law_relisting.specs.Statements.{AnswersAlike, SchedulesEqual, ReadAlike, OrderReadAlike, ListingsEqual, HeldIsCompared, number_alone, ShortSlice, ShortSlicesAlike}
+use Rattle.law_relisting.specs.Statements.{AnswersAlike, SchedulesEqual, ReadAlike, OrderReadAlike, ListingsEqual, HeldIsCompared, number_alone, WrongLimit, WrongLimitsAlike, ShortSlice, ShortSlicesAlike}
 
--- ---- 2
+-- ---- 17 and 2
 
--- a refusal without rows and size names nothing but its number
-bare-alone : (i : Input) (n : ℕ) (test : Unit {0} → Bool) → reject i (bare n test) ≡ number_alone n i
-unfolding reject
-bare-alone i n test =
-    let few : min i.settings.rows 0 ≡ 0 = omega arith in
-    rw (few, le-ltb i.settings.rows 0 (omega arith), take-nil i.settings.rows)
+wrong-limit : (i : Input) → WrongLimit i → outcome i ≡ number_alone 17 i
+unfolding outcome refusals
+wrong-limit i h =
+    first-passed i _ _ (le-ltb 40960 (length i.sheet) h.sheet)
+    ∙ first_holds i _ _ h.limit
+    ∙ bare-alone i 17 _
+
+pub wrong-limits-alike : WrongLimitsAlike
+wrong-limits-alike i j h k = (wrong-limit i h, wrong-limit j k)
 
 short-slice : (i : Input) → ShortSlice i → outcome i ≡ number_alone 2 i
 unfolding outcome refusals
 short-slice i h =
     first-passed i _ _ (le-ltb 40960 (length i.sheet) h.sheet)
+    ∙ first-passed i _ _ h.limit
     ∙ first_holds i _ _ (lt-ltb (length i.diagnosis) (6 * i.settings.rows) h.diagnosis)
     ∙ bare-alone i 2 _
 
@@ -52,7 +56,7 @@ short-slices-alike i j h k = (short-slice i h, short-slice j k)
 
 pub held-is-compared : HeldIsCompared
 held-is-compared i s h m =
-    let x = first-seven-exactly i in
+    let x = sheet-tests-exactly i in
     cons-elim m (λ e. never (x.one.0 e) (not-long h))
     (λ m. cons-elim m (λ e. never (x.three.0 e).1 (not-refused h past))
     (λ m. cons-elim m (λ e. never (x.four.0 e).1 (not-refused h not_allowed))
@@ -67,18 +71,18 @@ module _ (i : Input) (s : Sheet) (r : ReadTo i.sheet s) (c : Compared i) where
   not-answered n m e = let x = any_of (eqb n) left_out m in c (Memᴰ.cast (e ∙ eqb-true n x.0 x.2) x.1)
 
   compared-short : test1 i ≡ false
-  compared-short = not_so (λ p. not-answered 1 refl ((first-seven-exactly i).one.1 p))
+  compared-short = not_so (λ p. not-answered 1 refl ((sheet-tests-exactly i).one.1 p))
 
-  -- what is read, compared and not answered by 2 is held
-  held : test2 i ≡ false → Holds i.sheet s
-  held two =
-      let x = first-seven-exactly i in
+  -- what is read, compared and answered by neither 17 nor 2 is held
+  held : test17 i ≡ false → test2 i ≡ false → Holds i.sheet s
+  held limit two =
+      let x = sheet-tests-exactly i in
       let one = compared-short in
       let three : test3 i ≡ false = ap (refused_by past) r.read in
       let four : test4 i ≡ false = ap (refused_by not_allowed) r.read in
-      let seven : test7 i ≡ false = not_so (λ p. not-answered 7 refl (x.seven.1 ((one, (two, (three, (four, tt)))), p))) in
-      let five : test5 i ≡ false = not_so (λ p. not-answered 5 refl (x.five.1 ((one, (two, (three, (four, (seven, tt))))), p))) in
-      let six : test6 i ≡ false = not_so (λ p. not-answered 6 refl (x.six.1 ((one, (two, (three, (four, (seven, (five, tt)))))), p))) in
+      let seven : test7 i ≡ false = not_so (λ p. not-answered 7 refl (x.seven.1 ((one, (limit, (two, (three, (four, tt))))), p))) in
+      let five : test5 i ≡ false = not_so (λ p. not-answered 5 refl (x.five.1 ((one, (limit, (two, (three, (four, (seven, tt)))))), p))) in
+      let six : test6 i ≡ false = not_so (λ p. not-answered 6 refl (x.six.1 ((one, (limit, (two, (three, (four, (seven, (five, tt))))))), p))) in
       record {
         rest = r.rest;
         short = ltb-false 40960 (length i.sheet) one;
@@ -107,22 +111,51 @@ calls-alike schedule m n e = e
 calls-alike order m n e = refl
 
 module _ (i j : Input) (h : RelistedInputs i j) where
-  -- the tests for 2 hold or do not hold alike
+  short-left : length i.sheet ≤ 40960
+  short-left = ltb-false _ _ (compared-short i h.s h.left h.left_compared)
+
+  short-right : length j.sheet ≤ 40960
+  short-right = ltb-false _ _ (compared-short j h.t h.right h.right_compared)
+
+  -- the tests for 17 and for 2 hold or do not hold alike
+  limits-same : test17 i ≡ test17 j
+  limits-same = ap bad_limit h.settings
+
   slices-same : test2 i ≡ test2 j
   slices-same = ap₂ (λ n (c : Settings). ltb n (6 * c.rows)) h.diagnosis h.settings
 
-  short-alike : test2 i ≡ true → (outcome i ≡ number_alone 2 i) × (outcome j ≡ number_alone 2 j)
-  short-alike e =
-      short-slices-alike i j
-      (record { sheet = ltb-false _ _ (compared-short i h.s h.left h.left_compared); diagnosis = ltb-true _ _ e })
-      (record { sheet = ltb-false _ _ (compared-short j h.t h.right h.right_compared); diagnosis = ltb-true _ _ (sym slices-same ∙ e) })
+  wrong-alike : test17 i ≡ true → (outcome i ≡ number_alone 17 i) × (outcome j ≡ number_alone 17 j)
+  wrong-alike e =
+      wrong-limits-alike i j
+      (record { sheet = short-left; limit = e })
+      (record { sheet = short-right; limit = sym limits-same ∙ e })
 
-  module _ (e : test2 i ≡ false) where
+  short-alike : test17 i ≡ false → test2 i ≡ true → (outcome i ≡ number_alone 2 i) × (outcome j ≡ number_alone 2 j)
+  short-alike l e =
+      short-slices-alike i j
+      (record { sheet = short-left; limit = l; diagnosis = ltb-true _ _ e })
+      (record { sheet = short-right; limit = sym limits-same ∙ l; diagnosis = ltb-true _ _ (sym slices-same ∙ e) })
+
+  -- what both get by its number alone is alike
+  alone-alike : (n : ℕ) → eqb n 0 ≡ false → (outcome i ≡ number_alone n i) × (outcome j ≡ number_alone n j) → Alike i j
+  alone-alike n z x =
+      let number : (k : Input) → outcome k ≡ number_alone n k → (outcome k).answer.number ≡ n = λ k p. ap (λ (o : Outcome). o.answer.number) p in
+      record {
+        number = number i x.0 ∙ sym (number j x.1);
+        size = ap (λ (o : Outcome). o.answer.size) x.0 ∙ sym (ap (λ (o : Outcome). o.answer.size) x.1);
+        written = λ e. absurd (eqb-false n 0 z (sym (number i x.0) ∙ e));
+      }
+
+  -- where the one is accepted, neither is the answer
+  not-alone : (n : ℕ) → eqb n 0 ≡ false → (outcome i).answer.number ≡ 0 → outcome i ≡ number_alone n i → ⊥
+  not-alone n z e p = eqb-false n 0 z (sym (ap (λ (o : Outcome). o.answer.number) p) ∙ e)
+
+  module _ (l : test17 i ≡ false) (e : test2 i ≡ false) where
     left : Holds i.sheet h.s
-    left = held i h.s h.left h.left_compared e
+    left = held i h.s h.left h.left_compared l e
 
     right : Holds j.sheet h.t
-    right = held j h.t h.right h.right_compared (sym slices-same ∙ e)
+    right = held j h.t h.right h.right_compared (sym limits-same ∙ l) (sym slices-same ∙ e)
 
     rows : has_order (type_map_in i) ≡ true → null (synthesis_rows i.call (type_map_in i)) ≡ null (synthesis_rows j.call (type_map_in j))
     unfolding type_map_in
@@ -138,21 +171,18 @@ module _ (i j : Input) (h : RelistedInputs i j) where
 
 pub answers-alike : AnswersAlike
 answers-alike i j h =
+    by (test17 i)
+    (λ l. alone-alike i j h 17 refl (wrong-alike i j h l))
+    (λ l.
     by (test2 i)
-    (λ e.
-    let x = short-alike i j h e in
-    let number : (k : Input) → outcome k ≡ number_alone 2 k → (outcome k).answer.number ≡ 2 = λ k p. ap (λ (o : Outcome). o.answer.number) p in
-    record {
-      number = number i x.0 ∙ sym (number j x.1);
-      size = ap (λ (o : Outcome). o.answer.size) x.0 ∙ sym (ap (λ (o : Outcome). o.answer.size) x.1);
-      written = λ z. absurd (eqb-false 2 0 refl (sym (number i x.0) ∙ z));
-    })
-    (λ e. alike i j h (left i j h e) (right i j h e) (rows i j h e))
+    (λ e. alone-alike i j h 2 refl (short-alike i j h l e))
+    (λ e. alike i j h (left i j h l e) (right i j h l e) (rows i j h l e)))
 
 pub schedules-equal : SchedulesEqual
 schedules-equal i j h z =
-    let e : test2 i ≡ false = not_so (λ p. eqb-false 2 0 refl (sym (ap (λ (o : Outcome). o.answer.number) (short-alike i j h p).0) ∙ z)) in
-    schedules i j h (left i j h e) (right i j h e)
+    let l : test17 i ≡ false = not_so (λ p. not-alone i j h 17 refl z (wrong-alike i j h p).0) in
+    let e : test2 i ≡ false = not_so (λ p. not-alone i j h 2 refl z (short-alike i j h l p).0) in
+    schedules i j h (left i j h l e) (right i j h l e)
 
 -- ---- listings
 

@@ -1,5 +1,6 @@
--- Pairs of different bytes that are relisted, through both calls: accepted, and refused by 2, 8, 9 and 10. In the pairs of 8 and
--- 9 the rows differ: they aren't compared. A pair that 5 would refuse is answered by 2 where the diagnosis slice is too short.
+-- Pairs of different bytes that are relisted, through both calls: accepted, and refused by 17, 2, 8, 9 and 10. In the pairs of 8
+-- and 9 the rows differ: they aren't compared. A pair that 5 would refuse is answered by 2 where the diagnosis slice is too
+-- short, and by 17 where the limit is too high.
 use Rattle.std.specs.Prelude.{false, List, [], ◌∷◌, ◌≡◌, refl, ℕ, eqb, take, drop, replicate}
 use mathlib.Core.List.Permᴰ
 use Rattle.std.proofs.Common.{eq-eqb, arith, lit≤, lit<}
@@ -14,8 +15,9 @@ use Rattle.definitions.specs.Answer.{Call, schedule, order, Input, Answer, stand
 use Rattle.definitions.specs.Relisted.{end, and, Relisted, Holds, left_out, Compared, RelistedInputs, Alike}
 use Rattle.definitions.specs.Cases.{hex, lent, run}
 use Rattle.law_orders.specs.Relisting.{relist-parents}
+use Rattle.law_reading.specs.Statements.{limited}
 use Rattle.law_relisting.specs.Statements.{number_alone}
-use Rattle.law_relisting.proofs.Alike.{answers-alike, schedules-equal, listings-equal, held-is-compared, short-slices-alike}
+use Rattle.law_relisting.proofs.Alike.{answers-alike, schedules-equal, listings-equal, held-is-compared, wrong-limits-alike, short-slices-alike}
 
 -- ---- types and inputs
 
@@ -240,8 +242,45 @@ unread-alike : (outcome (asked schedule [] 3 1535) ≡ number_alone 2 (asked sch
     × (outcome (asked order (replicate 40960 0) 0 0) ≡ number_alone 2 (asked order (replicate 40960 0) 0 0))
 unread-alike =
     short-slices-alike (asked schedule [] 3 1535) (asked order (replicate 40960 0) 0 0)
-    (record { sheet = lit≤ tt; diagnosis = lit< tt })
-    (record { sheet = omega (arith, length-replicate {A = ℕ} 40960 0); diagnosis = lit< tt })
+    (record { sheet = lit≤ tt; limit = refl; diagnosis = lit< tt })
+    (record { sheet = omega (arith, length-replicate {A = ℕ} 40960 0); limit = refl; diagnosis = lit< tt })
+
+-- ---- 17 where 5 would refuse
+
+unordered-limited : (c : Call) (l : ℕ) → RelistedInputs (limited 257 (asked c unordered_types l 1542)) (limited 257 (asked c unordered_turned l 1542))
+unfolding run
+unordered-limited c l =
+    let h = unordered-turned c l in
+    record {
+      settings = refl;
+      call = refl;
+      listing = refl;
+      diagnosis = refl;
+      s = h.s;
+      t = h.t;
+      left = h.left;
+      right = h.right;
+      relisted = h.relisted;
+      left_compared = compared (limited 257 (asked c unordered_types l 1542)) refl;
+      right_compared = compared (limited 257 (asked c unordered_turned l 1542)) refl;
+    }
+
+-- 17 on both sides; under a limit of 256 it would be 5, which is left out
+limited-alike : (c : Call) (l : ℕ) → Alike (limited 257 (asked c unordered_types l 1542)) (limited 257 (asked c unordered_turned l 1542))
+limited-alike c l =
+    answers-alike (limited 257 (asked c unordered_types l 1542)) (limited 257 (asked c unordered_turned l 1542)) (unordered-limited c l)
+
+limited-refused : (outcome (limited 257 (asked schedule unordered_types 5 1542))).answer ≡ answer 17 0 0
+unfolding run
+limited-refused = refl
+
+-- sheets that can't be read, of two calls under two limits: 17 of both
+unread-limited : (outcome (limited 0 (asked schedule [] 3 0)) ≡ number_alone 17 (limited 0 (asked schedule [] 3 0)))
+    × (outcome (limited 4294967295 (asked order (replicate 40960 0) 0 0)) ≡ number_alone 17 (limited 4294967295 (asked order (replicate 40960 0) 0 0)))
+unread-limited =
+    wrong-limits-alike (limited 0 (asked schedule [] 3 0)) (limited 4294967295 (asked order (replicate 40960 0) 0 0))
+    (record { sheet = lit≤ tt; limit = refl })
+    (record { sheet = omega (arith, length-replicate {A = ℕ} 40960 0); limit = refl })
 
 -- ---- 8, with other rows
 

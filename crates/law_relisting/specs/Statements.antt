@@ -1,12 +1,13 @@
 -- Demand 3, as it is proved: from bytes to answers, for both calls and every length of the lent slices. Each statement is a type
 -- of its own; the proofs are in Alike.antt.
-use Rattle.std.specs.Prelude.{false, List, ◌≡◌, ℕ, ◌*◌, ◌≤◌, ◌<◌, length}
+use Rattle.std.specs.Prelude.{true, false, List, ◌≡◌, ℕ, ◌*◌, ◌≤◌, ◌<◌, length}
 use Rattle.definitions.specs.Bits.{pack}
 use Rattle.definitions.specs.Records.{Name, Sheet, Schedule}
 use Rattle.definitions.specs.Packing.{order_bits, schedule_bits}
 use Rattle.definitions.specs.LegalSchedule.{LegalOrder, LegalSchedule}
 use Rattle.definitions.specs.Answer.{Input, Outcome, schedule_of, type_map_in, outcome}
 use Rattle.definitions.specs.Relisted.{Holds, Compared, RelistedInputs, Alike}
+use Rattle.law_reading.specs.Statements.{test17}
 use Rattle.law_schedule.specs.Statements.{bytes_written}
 
 -- Two sheets that are relisted get one number and one size from a call; where the number is 0, the bytes written are equal.
@@ -41,9 +42,19 @@ HeldIsCompared = (i : Input) (s : Sheet) → Holds i.sheet s → Compared i
 abbrev pub number_alone : ℕ → Input → Outcome
 number_alone n i = record { answer = record { number = n; size = 0; rows = 0; more = false }; listing = i.listing; diagnosis = i.diagnosis }
 
--- a sheet that is not too long goes to a call whose diagnosis slice is too short for its rows
+-- a sheet that is not too long goes to a call under a limit that is not allowed
+pub record WrongLimit (i : Input) : Type 0 where
+  pub sheet : length i.sheet ≤ 40960
+  pub limit : test17 i ≡ true
+
+-- Any two such sheets, relisted or not, readable or not, both get 17, and nothing else.
+abbrev pub WrongLimitsAlike : Type 0
+WrongLimitsAlike = (i j : Input) → WrongLimit i → WrongLimit j → (outcome i ≡ number_alone 17 i) × (outcome j ≡ number_alone 17 j)
+
+-- a sheet that is not too long goes to a call whose limit is allowed and whose diagnosis slice is too short for it
 pub record ShortSlice (i : Input) : Type 0 where
   pub sheet : length i.sheet ≤ 40960
+  pub limit : test17 i ≡ false
   pub diagnosis : length i.diagnosis < 6 * i.settings.rows
 
 -- Any two such sheets, relisted or not, readable or not, both get 2, and nothing else.

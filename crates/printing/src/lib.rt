@@ -2,12 +2,13 @@
 // which is read into records and printed from these.
 #![tactic(auto)]
 
-use access::Call;
+use access::{Call, Settings};
 use answers::Refusal;
 use emitting::Report;
 use std::alloc::Global;
-use std::io;
+use std::env::Env;
 use std::io::Write;
+use std::{env, io};
 use text::{Diagnosis, Refused, Schedule, Words};
 
 // The bytes that are lent for a listing (FORMAT 9.5).
@@ -16,10 +17,26 @@ const LISTING: usize = 65536;
 // The number of the items as a schedule has it, in bytes.
 const ITEMS: usize = 2;
 
-// Why a sheet cannot be read, by 1 to 7. A listing of one byte is too short or is filled: neither 8 nor 10 is asked for here.
+// How a program is set by its argument, the limit of rows in decimal: as programs are where there is none, and not at all where
+// it is no number, or not the only argument (FORMAT 9.5).
+pub fn settings_of<R: Env + Alloc>(rt: &R) -> io::Result<Option<Settings>> {
+    let mut args = env::args(rt)?;
+    args.next(); // the name of the program
+    let Some(limit) = args.next() else {
+        return Ok(Some(Settings::shown()));
+    };
+    if args.next().is_some() {
+        return Ok(None);
+    }
+    let rows = limit.as_str().parse::<usize>();
+    Ok(rows.ok().map(|rows| Settings { rows }))
+}
+
+// Why a sheet cannot be read, by 1 to 7. A listing of one byte is too short or is filled: neither 8 nor 10 is asked for here, and
+// of the rows of 8 none but the first.
 pub fn unread(sheet: &[u8]) -> Option<Refusal> {
-    let mut diagnosis = [0u8; answers::DIAGNOSIS];
-    match access::order(sheet, &mut [0], &mut diagnosis) {
+    let settings = Settings { rows: 1 };
+    match access::order(settings, sheet, &mut [0], &mut [0; emitting::ROW]) {
         Ok(_) | Err(Refusal::NoOrder(_)) | Err(Refusal::ShortListing(_)) => None,
         Err(refusal) => Some(refusal),
     }
@@ -89,12 +106,12 @@ impl<W: Write + Drop> Printer<W> {
         }
     }
 
-    // What a call answers. What the order-only call lists is a schedule without items if their number, 0, stands behind it
-    // (FORMAT 6.1).
-    pub fn print_answer(&mut self, call: Call, sheet: &[u8]) -> io::Result<()> {
+    // What a call answers under these settings. What the order-only call lists is a schedule without items if their number, 0,
+    // stands behind it (FORMAT 6.1).
+    pub fn print_answer(&mut self, call: Call, settings: Settings, sheet: &[u8]) -> io::Result<()> {
         let mut listing = vec![in self.alloc; 0u8; LISTING]?;
         let mut diagnosis = [0u8; answers::DIAGNOSIS];
-        match call.run(sheet, listing.as_mut_slice(), &mut diagnosis) {
+        match call.run(settings, sheet, listing.as_mut_slice(), &mut diagnosis) {
             Ok(size) => {
                 let whole = match call {
                     Call::Order => size.saturating_add(ITEMS),
@@ -149,14 +166,17 @@ mod tests {
             alloc: rt.alloc(),
             out: Vec::new(rt.alloc()),
         };
-        printer.print_answer(Call::Schedule, &SHEET)?;
+        printer.print_answer(Call::Schedule, Settings::shown(), &SHEET)?;
         assert_eq!(rt; printer.out.as_slice(), LINES.as_bytes());
         printer.out.clear();
-        printer.print_answer(Call::Order, &SHEET)?;
+        printer.print_answer(Call::Order, Settings::shown(), &SHEET)?;
         assert_eq!(rt; printer.out.as_slice(), ORDER.as_bytes());
         printer.out.clear();
-        printer.print_answer(Call::Order, b"")?;
+        printer.print_answer(Call::Order, Settings::shown(), b"")?;
         assert_eq!(rt; printer.out.as_slice(), b"refused 3\n".as_slice());
+        printer.out.clear();
+        printer.print_answer(Call::Order, Settings { rows: 257 }, b"")?;
+        assert_eq!(rt; printer.out.as_slice(), b"refused 17\n".as_slice());
         Ok(())
     }
 

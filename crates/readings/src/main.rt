@@ -1,11 +1,11 @@
 // Answers for each sheet of standard input: with its refusal by 3 to 7, 0 for none, of the sheet alone, or also of the sheet
-// cut to each shorter length and with each single bit flipped; or with what the order program prints for it. tools/damage
-// makes the input, and by a model of its own what must come out.
+// cut to each shorter length and with each single bit flipped; or with what the order program prints for it under the highest
+// limit. tools/damage makes the input, and by a model of its own what must come out.
 #![tactic(auto)]
 
 ghost use Rattle.std.specs.Prelude.{◌<◌, length};
 
-use access::Call;
+use access::{Call, Settings};
 use printing::Printer;
 use std::alloc::Global;
 use std::io::{BufReader, BufWriter, Read, Write};
@@ -89,7 +89,12 @@ impl Record {
                 print_all_flipped(out, self.sheet.as_mut_slice())?;
                 writeln!(out)
             }
-            Mode::Printed => printer.print_answer(Call::Order, self.sheet.as_slice()),
+            Mode::Printed => {
+                let settings = Settings {
+                    rows: answers::MOST_ROWS,
+                };
+                printer.print_answer(Call::Order, settings, self.sheet.as_slice())
+            }
         }
     }
 }

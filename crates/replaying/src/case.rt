@@ -1,7 +1,7 @@
 // A case as it was read, and how it is run.
 use crate::expected;
 use crate::head::Head;
-use access::Call;
+use access::{Call, Settings};
 use answers::Parts;
 use std::alloc::{AllocError, Global};
 
@@ -11,10 +11,11 @@ const LENT: u8 = 170;
 // Listings of every length are tried where the call writes no more bytes than these.
 const SMALL: usize = 255;
 
-// A call, its sheet, and what it must answer and write.
+// A call with its settings, its sheet, and what it must answer and write.
 #[derive(Clone, Copy)]
 pub(crate) struct Case<'a> {
     pub(crate) call: Call,
+    pub(crate) settings: Settings,
     pub(crate) sheet: &'a [u8],
     pub(crate) expected: Parts,
     pub(crate) written: &'a [u8],
@@ -47,7 +48,7 @@ impl Case<'_> {
     fn agrees(&self, listing: &mut [u8], diagnosis: &mut [u8]) -> bool {
         listing.fill(LENT);
         diagnosis.fill(LENT);
-        let answer = Parts::from(self.call.run(self.sheet, listing, diagnosis));
+        let answer = Parts::from(self.call.run(self.settings, self.sheet, listing, diagnosis));
         if answer != self.expected {
             return false;
         }
@@ -78,6 +79,7 @@ impl Case<'_> {
         }
         let short = Case {
             call: self.call,
+            settings: self.settings,
             sheet: self.sheet,
             expected: expected::short_listing(size),
             written: b"",

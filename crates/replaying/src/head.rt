@@ -1,12 +1,12 @@
 // The head of a stored case.
-use access::Call;
+use access::{Call, Settings};
 use answers::Parts;
 
 // A sheet of so many bytes stands for the one before it.
 pub(crate) const SAME_SHEET: usize = 65535;
 
 // Which call is run, with listings of which lengths, and what it must answer; the lengths of the name, the sheet, and the slices
-// that are lent.
+// that are lent; and how the call is set.
 #[derive(Clone, Copy)]
 pub(crate) struct Head {
     pub(crate) call: Call,
@@ -16,10 +16,11 @@ pub(crate) struct Head {
     pub(crate) sheet: usize,
     pub(crate) listing: usize,
     pub(crate) diagnosis: usize,
+    pub(crate) settings: Settings,
 }
 
-impl From<[u8; 16]> for Head {
-    fn from(bytes: [u8; 16]) -> Head {
+impl From<[u8; 20]> for Head {
+    fn from(bytes: [u8; 20]) -> Head {
         Head {
             call: if bytes[0] % 2 == 0 {
                 Call::Order
@@ -37,6 +38,9 @@ impl From<[u8; 16]> for Head {
             diagnosis: console::two([bytes[6], bytes[7]]),
             sheet: console::two([bytes[8], bytes[9]]),
             listing: console::three([bytes[10], bytes[11], bytes[12]]),
+            settings: Settings {
+                rows: u32::from_be_bytes([bytes[16], bytes[17], bytes[18], bytes[19]]) as usize,
+            },
         }
     }
 }

@@ -2,11 +2,10 @@
 // `apply_associate_annotations` of compile.rs.
 #![tactic(auto)]
 
-ghost use Rattle.std.specs.Prelude.{◌≡◌, ◌≤◌, length, get_or};
+ghost use Rattle.std.specs.Prelude.{◌≡◌, ◌*◌, ◌≤◌, length, get_or};
 ghost use Rattle.bits.specs.Reading.{Addressable};
 ghost use Rattle.definitions.specs.Bits.{bits_of};
 ghost use Rattle.definitions.specs.Records.{Sheet};
-ghost use Rattle.definitions.specs.Answer.{most_row_bytes};
 ghost use Rattle.synth_handing.specs.Handing.{Ready};
 ghost use Rattle.synthesis.specs.Playing.{Flagged, Receives, Turn, Plays, AllReady, AllPlayed};
 ghost use Rattle.synthesis.specs.Synthesized.{Synthesizes, Synthesized};
@@ -104,18 +103,19 @@ fn play(m: Tables, out: &mut Writer<'_>, trail: Trail)
     play_all(m, &mut store, out, trail);
 }
 
-// The rows of refusal 9: at most ROWS are written, and no other byte changes (FORMAT 8.2).
+// The rows of refusal 9: the first `limit` are written, and no other byte changes (FORMAT 8.2).
 pub fn apply_associate_annotations(
     s: &[u8],
     t: &Catalogue,
     l: &Parents,
     notes: &[Option<Location>; 64],
     diagnosis: &mut [u8],
+    limit: usize,
 ) -> Report
     requires addressable { Addressable s.now }
     requires synthesizes { (x : Sheet) × Synthesizes x t.now (bits_of s.now) notes.now l.now }
-    requires most_row_bytes_in_bounds { most_row_bytes ≤ length diagnosis.old }
-    ensures { Synthesized t.now (bits_of s.now) notes.now l.now diagnosis.old diagnosis.new result.rows result.more }
+    requires rows_in_bounds { 6 * limit ≤ length diagnosis.old }
+    ensures { Synthesized t.now (bits_of s.now) notes.now l.now limit diagnosis.old diagnosis.new result.rows result.more }
 {
     let trail = synth_visiting::trail_of(l);
     let tables = Tables {
@@ -124,7 +124,7 @@ pub fn apply_associate_annotations(
         order: l,
         notes,
     };
-    let mut out = Writer::new(diagnosis, answers::ROWS);
+    let mut out = Writer::new(diagnosis, limit);
     play(tables, &mut out, trail);
     out.report()
 }

@@ -12,7 +12,7 @@ returns-in_default c =
     let n = c.no_order in
     record {
       due = λ bytes w.
-          unordered-so order _ _ _ _ _ _ (sketch _ _ _ _ _ w _ _ _ _ o.1) _ _ _ n.result (found-is _ _ _ _ _ w _ _ _ _ o.1) n.ensures;
+          unordered-so order _ _ _ _ _ _ _ (sketch _ _ _ _ _ w _ _ _ _ o.1) _ _ _ n.result (found-is _ _ _ _ _ w _ _ _ _ o.1) n.ensures;
     }
 
 pub returns : goal.returns
@@ -21,5 +21,5 @@ returns c =
     let l = c.write_order in
     record {
       due = λ bytes w.
-          ordered-so _ _ _ _ _ l.result (found-is _ _ _ _ _ w _ _ _ _ o) (bits_are _ _ _ _ _ w _ _ _ o) l.ensures;
+          ordered-so _ _ _ _ _ _ l.result (found-is _ _ _ _ _ w _ _ _ _ o) (bits_are _ _ _ _ _ w _ _ _ o) l.ensures;
     }

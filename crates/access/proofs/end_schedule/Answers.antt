@@ -16,7 +16,7 @@ returns-in_default c =
     let n = c.no_order in
     record {
       due = λ w.
-          unordered-so schedule _ _ _ _ _ _ (sketch _ _ _ _ _ w _ _ _ _ o.1) _ _ _ n.result (found-is _ _ _ _ _ w _ _ _ _ o.1) n.ensures;
+          unordered-so schedule _ _ _ _ _ _ _ (sketch _ _ _ _ _ w _ _ _ _ o.1) _ _ _ n.result (found-is _ _ _ _ _ w _ _ _ _ o.1) n.ensures;
     }
 
 pub fill-lost-requires-clause-fillable : goal.fill-lost-requires-clause-fillable
@@ -76,6 +76,6 @@ returns c =
     let l = c.write_schedule in
     record {
       due = λ w.
-          scheduled-so _ (readable _ _ _ _ _ w) (found-is _ _ _ _ _ w _ _ _ _ o) _ _ _ l.result (sym (refused-is _ _ _ _ _ w _ _ _ o _ g.result x.result g.ensures x.ensures) ∙ e)
+          scheduled-so _ _ (readable _ _ _ _ _ w) (found-is _ _ _ _ _ w _ _ _ _ o) _ _ _ l.result (sym (refused-is _ _ _ _ _ w _ _ _ o _ g.result x.result g.ensures x.ensures) ∙ e)
           (l.ensures.lists _ (orderly _ _ _ _ _ w _ _ _ o _ g.result x.result g.ensures x.ensures e));
     }

@@ -7,4 +7,4 @@ pub returns : goal.returns
 returns c =
     let p = c.in_ok-read.ensures in
     let e = c.end_order in
-    due-so _ _ _ _ _ _ p order _ _ _ _ e.result refl (e.ensures.due _ p.whole)
+    due-so _ _ _ _ _ _ _ p order _ _ _ _ e.result refl (e.ensures.due _ p.whole)

@@ -8,5 +8,5 @@ pub returns : goal.returns
 returns c =
     let p = c.in_ok-read.ensures in
     let e = c.end_schedule in
-    let q = due-so _ _ _ _ _ _ p schedule _ _ _ _ e.result refl (e.ensures.due p.whole) in
-    record { answered = q; lines_listed = due-lists _ _ _ _ _ e.result q }
+    let q = due-so _ _ _ _ _ _ _ p schedule _ _ _ _ e.result refl (e.ensures.due p.whole) in
+    record { answered = q; lines_listed = due-lists _ _ _ _ _ _ e.result q }

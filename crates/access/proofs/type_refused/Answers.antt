@@ -16,4 +16,4 @@ apply_associate_annotations-report-requires-clause-synthesizes c =
 pub returns : goal.returns
 returns c =
     let y = c.apply_associate_annotations-report in
-    rows-due _ _ _ _ _ _ _ c.fill.ensures c.fill-2.ensures _ _ y.result.rows y.result.more _ y.ensures refl
+    rows-due _ _ _ _ _ _ _ c.fill.ensures c.fill-2.ensures _ _ _ y.result.rows y.result.more _ y.ensures refl

@@ -10,4 +10,4 @@ pub returns : goal.returns
 returns c =
     let g = c.play.ensures in
     let same : c.play.new.out.buf.ghost_name ≡ c.new-out.result.buf.ghost_name = g.same.slice in
-    synthesized-by _ _ _ _ _ c.trail_of-trail.ensures _ _ _ _ _ c.requires.most_row_bytes_in_bounds c.new-out.ensures g c.report.ensures (search rules)
+    synthesized-by _ _ _ _ _ c.trail_of-trail.ensures _ _ _ _ _ _ c.requires.rows_in_bounds c.new-out.ensures g c.report.ensures (search rules)
