@@ -1,12 +1,13 @@
 """Sheets for the calls that take one, what is lent for them, and what must be left, by the model."""
 
+import itertools
 import struct
 
 import case_texts
 import model
 import sheetlib
 from inputs import TOO_FEW_PARTS, Input, filled
-from maps import changed, drawn, flavours, large, loads
+from maps import changed, drawn, flavours, hyphens, large, loads, small
 
 CALLS = ("order", "schedule")
 OPTIONS = ()  # of the driver: a sheet is given, listing and diagnosis are lent besides the parts
@@ -26,6 +27,9 @@ def listed(_call):
         for count in (rows - 1, rows, rows + 1):
             yield "rows of 8", sheetlib.encode(large.rows_of_eight(count))
             yield "rows of 9", sheetlib.encode(large.rows_of_nine(count))
+    for family in (small.small_hyphen_orders, small.small_hyphen_parents, small.small_hyphen_resources):
+        for given in itertools.islice(family(), 0, None, 100):
+            yield "hyphens", sheetlib.encode(given)
     for case in [*case_texts.DOCUMENT.values(), *case_texts.CORNERS.values()]:
         sheet = case_texts.sheet_in(case)
         yield "listed", sheet
@@ -34,7 +38,13 @@ def listed(_call):
 
 
 def good_map(rng):
-    """A map refused by none of 3 to 7."""
+    """A map refused by none of 3 to 7; one in four has hyphens in its words."""
+    given = plain_map(rng)
+    return hyphens.respelled(rng, given) if rng.random() < 0.25 else given
+
+
+def plain_map(rng):
+    """A map without hyphens, refused by none of 3 to 7."""
     if rng.random() < 0.6:
         return drawn.random_map(rng, rng.choice((3, 8, 8, 16, 40)), rng.choice((0, 0.05, 0.3)))
     return flavours.random_map(rng, rng.choices(list(flavours.SHARES), list(flavours.SHARES.values()))[0])

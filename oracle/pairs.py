@@ -9,7 +9,7 @@ from sheet_records import ALIAS, ASSOCIATE, DERIVE, INHERIT, KINDS, NEST_ASSOCIA
 
 def words_in(line):
     """The words of a line, ascending."""
-    return sorted(set(re.findall(r"\w+", line)))
+    return sorted(set(re.findall(r"[\w-]+", line)))
 
 
 def annotation_of(text, words):

@@ -22,7 +22,7 @@ LEXER = re.compile(r"""
     (?P<space> [ \t\r\n\f\v]+ )
   | (?P<comment> //[^\n]* | /\*.*?\*/ )
   | (?P<string> "[^"\n]*" )
-  | (?P<name> [A-Za-z0-9_]+ (?: \.[A-Za-z0-9_]+ )* )
+  | (?P<name> [A-Za-z0-9_][A-Za-z0-9_-]* (?: \.[A-Za-z0-9_][A-Za-z0-9_-]* )* )
   | (?P<sign> [\x80-\xff]+ | . )
 """, re.X | re.S)
 
@@ -142,7 +142,7 @@ class Parser:
     def missing(self, what):
         """Something else stands where this is expected."""
         stray = self.token.kind == "sign" and self.token.text not in "@(){}[],;:=*"
-        hint = ": the bytes of a word are A-Z, a-z, 0-9 and _" if stray else ""
+        hint = ": the bytes of a word are A-Z, a-z, 0-9 and _, and - behind the first" if stray else ""
         self.wrong(self.token.place, f"expected {what}, found {self.token.said()}{hint}")
 
     # What is read

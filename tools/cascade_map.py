@@ -12,7 +12,7 @@ from dataclasses import dataclass, field
 from cascade import parse, skipped_text
 from places import counted, first_at, name_at, name_from, nearest, place_of, quoted
 from sheet_records import (ALIAS, ANNOTATIONS, ASSOCIATE, DERIVE, DOMAIN, INHERIT, LISTED, MAKE_LIST, NEST_ASSOCIATE,
-                           NO_DERIVE, OTHER, RESOURCE, TAGS, Annotation, Extension, TypeMap, TypeRecord)
+                           NO_DERIVE, OTHER, RESOURCE, TAGS, Annotation, Extension, TypeMap, TypeRecord, spelling)
 from sheet_text import number, show_name
 
 LATE = "late annotation of an extension|late annotations of extensions"
@@ -237,7 +237,7 @@ class Builder:
     def apply_extensions(self):
         """insert_extend_annotations, early; two-word names that no type has become extension records."""
         for name, found in self.extended.items():
-            parents = [parent for some in sorted(found.parents) for parent in some]
+            parents = [parent for some in sorted(found.parents, key=lambda some: list(map(spelling, some))) for parent in some]
             if name in self.declared:
                 for other, ann in found.unlike:
                     self.problems.error(ann.place, f"another extension of {quoted(show_name(name))} associates the same "

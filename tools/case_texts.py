@@ -136,6 +136,16 @@ READING = {
     **{f"wordByte{code}": case(f"a byte beside a range of word bytes: {code}",
                                f"words! {chr(code)} resource self", **ORDER)
        for code in (0x2f, 0x3a, 0x40, 0x5b, 0x5e, 0x60, 0x7b)},
+    "wordBytesBehind": case("the same behind the first byte, and the hyphen", "words _A _Z _a _z _0 _9 __ _-", **ORDER),
+    **{f"wordByte{code}Behind": case(f"a byte beside the hyphen: {code}", f"words! a{chr(code)} resource self", **ORDER)
+       for code in (0x2c, 0x2e)},
+    "hyphenFirst": raw("a hyphen as a word's first byte: 4 at that byte, and not 3 at the end behind it",
+                       fields(*HEAD, (5, 31), (8, ord("-"))), **ORDER),
+    "hyphenSecond": raw("a hyphen as the second byte is taken: 3 at the end behind it",
+                        fields(*HEAD, (5, 31), (8, ord("a")), (8, ord("-"))), **ORDER),
+    "hyphenLeads": case("a word that begins with a hyphen", "words! -a resource self", **ORDER),
+    "hyphenAlone": case("a hyphen alone is no word", "words! - resource self", **ORDER),
+    "hyphenLast": case("a word may end with hyphens, and have two in a row", "words a a- a-- a--b a-b", **ORDER),
     "emptyWord": case("a word without bytes", 'words! "" resource self', **ORDER),
     "longWord": case("a word of 31 bytes", "words abcdefghijklmnopqrstuvwxyz01234", **ORDER),
     "words1": raw("one word", fields((4, 1), (8, 1)), **ORDER),
@@ -192,6 +202,13 @@ ORDERS = {
     "againstNames": case("a chain against the order of names", "domain a : b\ndomain b : c\ndomain c", **ORDER),
     "nextRound": case("a type whose parent is placed in this round waits for the next one", "domain a\ndomain b : a\ndomain c", **ORDER),
     "oneWordFirst": case("one word before two", "domain b\ndomain a.b\ndomain a", **ORDER),
+    "hyphenBeforeDot": case("a hyphen goes before the dot, and the dot before all other bytes of words: `a-b` before `a.c`",
+                            "domain a_\ndomain a0\ndomain a.c\ndomain a-b.c\ndomain a-b\ndomain a--.c\ndomain a--\n"
+                            "domain a-\ndomain a", **ORDER),
+    "hyphenWithinRound": case("within a round by name, a type with a parent too",
+                              "domain a.c : z\ndomain a-b : z\ndomain a : z\ndomain z", **ORDER),
+    "hyphenSelf": case("rows of `self`: types in name order", "domain c\ndomain a.c : self\ndomain a-b : self", **ORDER),
+    "hyphenWaiting": case("types that wait, in name order", "domain a.c : zz\ndomain a-b : zz\ndomain a : a-b a.c", **ORDER),
     "longestChain": case("the longest chain counts", "domain a : d b\ndomain b : c\ndomain c : d\ndomain d", **ORDER),
     "selfTwice": case("each listing of `self` is a row", "domain a : self self", **ORDER),
     "selfWaiting": case("also of a type that waits, types in name order", "domain b : a self\ndomain a : c self\ndomain c", **ORDER),
@@ -229,6 +246,17 @@ SYNTHESIS = {
     "wordsAndDoms": case("two words, two doms and an inherited word in one type",
                          "resource f\nresource d.f\nresource g\nresource z.g\nresource h\ndomain p\n  associate h g\n"
                          "domain t : p\n  associate f\n  associate z.g d.f", **SCHEDULE),
+    "threeOrders": case("three orders of one map: P.r by the names of P, `a`, `a-b`, `a.c`; the classes of the inherited one by "
+                        "doms, `a` before `a-b`; own resources by the names of their classes, `a-b.f` before `a.f`",
+                        "domain t : a.c a-b a\n  associate a.f\n  associate a-b.f g\ndomain a.c : a\n"
+                        "domain a-b\n  nest a-b.f\ndomain a\n  nest a.f\n"
+                        "resource a.f\n  mark derive 1\nresource a-b.f\n  mark derive 2\nresource g", **SCHEDULE),
+    "hyphenTypes": case("items go by the names of the types: `a-b` before `a.c`",
+                        "resource f\ndomain a.c\n  associate f\ndomain a-b\n  associate f\ndomain a\n  associate f", **SCHEDULE),
+    "hyphenParents": case("P.r by the names of P, where a class, a chain and an extension have such names too",
+                          "domain a\n  associate d-b.f-1\ndomain a-\n  associate d.f-1\ndomain a-b.c : a-\ndomain a0 : a\n"
+                          "domain t : a0 a-b.c a a-\nresource d.f-1\n  mark derive 1\nresource d-b.f-1\n  mark derive 2\n"
+                          "extend t f-1 : a.c a-b a", **SCHEDULE),
     "twelveOwn": case("as many own resources of one word as there can be, by ascending class name",
                       "resource f\n" + "".join(f"resource {d}.f\nresource w{d}\n" for d in "abcdeghijkl")
                       + "domain t\n  associate f" + "".join(f"\n  associate {d}.f w{d}" for d in "lkjihgedcba"), **SCHEDULE),
@@ -253,6 +281,13 @@ SYNTHESIS = {
 ROWS9 = {
     "failedParent": case("a parent call that fails passes nothing at that listing: a refused type without a row",
                          "resource f\ndomain p\n  associate f\n  associate zz\ndomain c : p", **SCHEDULE),
+    "hyphenTried": case("types are tried in name order: `a-b` before `a.c`",
+                        "domain a.c\n  associate zz\ndomain a-b\n  associate zz\ndomain a\n  associate zz", **SCHEDULE),
+    "hyphenUnknown": case("unknown classes go by doms, `a` before `a-b`",
+                          "domain p\n  nest a-b.f\ndomain q\n  nest a.f\ndomain t : p q", **SCHEDULE),
+    "hyphenNoResource": case("the first class that does not fit goes by doms too",
+                             "domain a.f\ndomain a-b.f\ndomain p\n  nest a-b.f\ndomain q\n  nest a.f\ndomain t : p q",
+                             **SCHEDULE),
     "listedAgain": case("listed again, the parent passes everything", "resource f\ndomain p\n  associate f\n  associate zz\ndomain c : p p", **SCHEDULE),
     "failsThrough": case("the child of a failed call fails too", "resource f\ndomain p\n  associate f\n  associate zz\ndomain b : c c\ndomain c : p", **SCHEDULE),
     "rowUnrefused": case("a type that is not refused can get a row: `q` fails, so `p.f` alone stands above a.f",

@@ -44,14 +44,14 @@ def graph(explained):
     view = explained.view
     if view is not None:
         rounds, bad, refused = view.rounds(), bad_edges(explained), bad_types(explained)
-        for name in sorted(view.types):
+        for name in sorted(view.types, key=show_name):
             out.append(node(view.types[name], refused))
         for number in range(max(rounds.values(), default=-1) + 1):
-            same = " ".join(quoted(show_name(name)) + ";" for name in sorted(rounds) if rounds[name] == number)
+            same = " ".join(quoted(show_name(name)) + ";" for name in sorted(rounds, key=show_name) if rounds[name] == number)
             out.append(f"  {{ rank=same; {quoted(f'round {number}')} [shape=plaintext]; {same} }}")
         out += [f"  {quoted(f'round {number + 1}')} -> {quoted(f'round {number}')} [style=invis];"
                 for number in range(max(rounds.values(), default=0))]
-        for name in sorted(view.types):
+        for name in sorted(view.types, key=show_name):
             for parent in dict.fromkeys(view.types[name].parents):
                 edge = show_name(name), show_name(parent)
                 colour = " [color=red]" if edge in bad else ""

@@ -29,7 +29,7 @@ class Layout:
         rounds = view.rounds()
         self.known = max(rounds.values(), default=-1) + 1
         last = self.known  # types without a round stand in a row of their own
-        self.spots = {name: Spot(rounds.get(name, last), view.types[name]) for name in sorted(view.types)}
+        self.spots = {name: Spot(rounds.get(name, last), view.types[name]) for name in sorted(view.types, key=show_name)}
         self.rows = [[] for _ in range(last + (len(rounds) < len(self.spots)))]
         for spot in self.spots.values():
             self.rows[spot.row].append(spot)

@@ -83,7 +83,7 @@ def type_data(explained):
     """What the page's script knows of the types."""
     view, out = explained.view, {}
     rounds = view.rounds() if view else {}
-    for name, record in sorted(view.types.items()) if view else ():
+    for name, record in sorted(view.types.items(), key=lambda entry: show_name(entry[0])) if view else ():
         gives = [f"{'nests' if giver.nested else 'associates'} {show_name(giver.class_name)}"
                  for givers in view.gives[name].values() for giver in givers]
         flags = " ".join(["virtual"] * record.is_virtual + ["trait"] * record.is_trait + [VARIANTS[record.variant]])

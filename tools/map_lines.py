@@ -8,7 +8,7 @@ proved programs say that it does.
 
 from typing import NamedTuple
 
-from sheet_records import ASSOCIATE, RESOURCE
+from sheet_records import ASSOCIATE, RESOURCE, spelling
 from sheet_text import show_name
 
 
@@ -105,7 +105,8 @@ class MapView:
 
     def inherited(self, record, word):
         """What the ancestors of a type give for a word, by ancestor name."""
-        return [giver for name in sorted(self.above[record.name]) for giver in self.gives[name].get(word, ())]
+        return [giver for name in sorted(self.above[record.name], key=spelling)
+                for giver in self.gives[name].get(word, ())]
 
     def words(self, record):
         """The words with a making for a type, ascending."""
@@ -121,7 +122,7 @@ class MapView:
         """A synthesized resource; classes that are not declared are left out of its flag and marks."""
         doms = {giver.dom for giver in givers}
         classes = tuple([(word,)] * (None in doms) + [(dom, word) for dom in sorted(doms - {None})])
-        passing = tuple(parent for parent in sorted(set(record.parents))
+        passing = tuple(parent for parent in sorted(set(record.parents), key=spelling)
                         if inherited and parent in self.types and self.passes(parent, word))
         extension = self.extensions.get((record.name, word))
         first = tuple((*parent, word) for parent in passing) if inherited else classes
@@ -133,13 +134,13 @@ class MapView:
     def makings(self, record, word):
         """The resources made for a type and a word: the own ones by class name, then the inherited one."""
         own = [giver for giver in self.gives[record.name].get(word, ()) if not giver.nested]
-        out = [self.line(record, word, [giver], False) for giver in sorted(own, key=lambda g: g.class_name)]
+        out = [self.line(record, word, [giver], False) for giver in sorted(own, key=lambda g: spelling(g.class_name))]
         above = self.inherited(record, word)
         return out + [self.line(record, word, above, True)] if above else out
 
     def lines(self):
         """All lines, in the order in which the programs print them."""
-        for name in sorted(self.types):
+        for name in sorted(self.types, key=spelling):
             record = self.types[name]
             for word in self.words(record):
                 made = self.makings(record, word)

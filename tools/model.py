@@ -59,7 +59,7 @@ def answer(sheet, listing, diagnosis, rows, with_items):
         types = read_sheet(sheet)
         names = organize_type_map(types, rows)
         depth = rounds(types, names)
-        assert names == sorted(names, key=lambda name: (depth[name], name)), "round, then name"
+        assert names == sorted(names, key=lambda name: (depth[name], types.spelling(name))), "round, then name"
         packed = pack(names, synthesize(types, names, rows) if with_items else None)
     except Refused as refusal:
         written = b"".join(row_bytes(row) for row in refusal.rows[:rows])

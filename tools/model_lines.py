@@ -58,9 +58,9 @@ def items_of(types, names):
                 makings.setdefault(word, ([], []))[1].append(doms)
         for word in sorted(makings):
             own, inherited = makings[word]
-            made = [([c], [c]) for c in sorted(own)]
+            made = [([c], [c]) for c in sorted(own, key=types.spelling)]
             if inherited:
-                passing = [p for p in sorted(set(info.parents))
+                passing = [p for p in sorted(set(info.parents), key=types.spelling)
                            if word in gives[p] or any(word in gives[a] for a in above[p])]
                 doms = 0
                 for row in inherited:

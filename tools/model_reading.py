@@ -2,8 +2,9 @@
 
 Bits and fields are read by sheetlib.py, which tells 3, 4 and 7. Words are numbers
 in the sheet's list, so that they ascend as their bytes do. A name is a tuple of
-words; tuples compare as names do. A dom set is a row of bits: bit 0 for no dom,
-bit w + 1 for the word w.
+words. Names compare by all bytes of their spelling and not as tuples do: a hyphen
+goes before the dot, so that `a-b` precedes `a.c` (FORMAT 1.4). A dom set is a row
+of bits: bit 0 for no dom, bit w + 1 for the word w.
 """
 
 from collections import namedtuple
@@ -14,9 +15,19 @@ from sheetlib import ALIAS, ASSOCIATE, DERIVE, INHERIT, NEST_ASSOCIATE, SheetErr
 # for Alias a word, for Inherit a tuple of names, for Derive a tag, else None.
 # A mark is None for makelist, else the tag of a derive.
 TypeInfo = namedtuple("TypeInfo", "name variant is_virtual is_trait parents annotations marks")
-# `types` maps names to TypeInfo, in name order; `extensions` maps (name, word)
-# to the parents.
-TypeMap = namedtuple("TypeMap", "words types extensions resource self_word")
+
+
+class TypeMap(namedtuple("TypeMap", "words types extensions resource self_word")):
+    """A map: `types` maps names to TypeInfo, in name order; `extensions` maps (name, word) to the parents."""
+
+    def spelling(self, name):
+        """The bytes of a name, by which names compare (FORMAT 1.4)."""
+        return spelling_of(self.words, name)
+
+
+def spelling_of(words, name):
+    """A name's words joined by dots."""
+    return ".".join(words[word] for word in name)
 
 
 class Refused(Exception):
@@ -92,7 +103,7 @@ class Numbering:
 
     def map(self, given):
         """The whole map."""
-        types = sorted(map(self.type, given.types), key=lambda info: info.name)
+        types = sorted(map(self.type, given.types), key=lambda info: spelling_of(self.words, info.name))
         extensions = {(self.name(added.name), self.number[added.word]): self.names(added.parents)
                       for added in given.extensions}
         return TypeMap(self.words, {info.name: info for info in types}, extensions,

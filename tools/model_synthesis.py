@@ -140,7 +140,7 @@ class Synthesis:
             if self.types.types[c].variant != RESOURCE:
                 self.rows.append(Row(5, info.name, c, word))
                 return
-        first = [p + (word,) for p in sorted(parents)] if parents else classes
+        first = [p + (word,) for p in sorted(parents, key=self.types.spelling)] if parents else classes
         made = making(self.types, info, word, first, classes)
         if info.name + (word,) in self.types.types or made in self.makings:
             self.rows.append(Row(6, info.name, None, word))

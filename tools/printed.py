@@ -14,7 +14,7 @@ def number_of(text):
 
 
 def absent(word):
-    """A word of a row, None for `-`."""
+    """A word of a row, None for `-`, which is none: no word begins with a hyphen."""
     return None if word == "-" else word
 
 

@@ -10,10 +10,10 @@ from map_checks import Doubtful, Lines, Order
 from map_lines import MapView
 from places import counted, first_at, place_of, quoted
 from sheet_records import (ANNOTATIONS, DERIVE, EXTENSIONS, INHERIT, KINDS, LISTED, MARKS, NEST_ASSOCIATE, PARENTS,
-                           TAGS, TYPES, WORD_BYTES, WORD_CHARACTERS, WORDS)
+                           TAGS, TYPES, WORD_BYTES, WORDS, characters_at)
 from sheet_text import show_name, show_resource, show_word
 
-ALLOWED = "A-Z, a-z, 0-9 and _"
+ALLOWED = "A-Z, a-z, 0-9 and _ are, and - behind the first byte"
 
 
 def check(type_map, problems):
@@ -80,11 +80,11 @@ class Readable:
         if not word:
             self.error(place, "a word", "a word without bytes is for damaged sheets (--raw)")
         for at_byte, character in enumerate(word):
-            if character not in WORD_CHARACTERS:
+            if character not in characters_at(at_byte):
                 inside = place and place._replace(column=place.column + at_byte)
                 hint = "; white space goes on both sides of `:`" if character == ":" else ""
                 self.error(inside, f"word {quoted(word)}",
-                           f"the byte {byte_shown(character)} in {quoted(word)} is not allowed, {ALLOWED} are{hint}")
+                           f"the byte {byte_shown(character)} in {quoted(word)} is not allowed, {ALLOWED}{hint}")
                 break
         if len(word) > WORD_BYTES:
             self.error(place, "a word", f"{quoted(word)} has {len(word):,} bytes, at most {WORD_BYTES}")

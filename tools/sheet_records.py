@@ -16,7 +16,19 @@ MAKE_LIST, ASSOCIATE, NEST_ASSOCIATE, ALIAS, INHERIT, DERIVE, NO_DERIVE = range(
 # The limits of document 01.
 WORDS, WORD_BYTES, TYPES, EXTENSIONS = 200, 31, 64, 32
 PARENTS, ANNOTATIONS, MARKS, LISTED, TAGS = 8, 12, 7, 15, 256
-WORD_CHARACTERS = frozenset("ABCDEFGHIJKLMNOPQRSTUVWXYZabcdefghijklmnopqrstuvwxyz0123456789_")
+FIRST_CHARACTERS = frozenset("ABCDEFGHIJKLMNOPQRSTUVWXYZabcdefghijklmnopqrstuvwxyz0123456789_")
+WORD_CHARACTERS = FIRST_CHARACTERS | {"-"}  # those behind the first
+
+
+def characters_at(at):
+    """What a word may have at a place, 0 being the first."""
+    return WORD_CHARACTERS if at else FIRST_CHARACTERS
+
+
+def spelling(name):
+    """A name's words joined by dots: names compare by these bytes, of which a hyphen goes before the dot, and not
+    word by word."""
+    return ".".join(name)
 
 
 class SheetError(Exception):

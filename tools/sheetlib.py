@@ -7,8 +7,8 @@ the widths of the fields: sheet_checks.py has the rules.
 
 from places import counted, place_of, quoted
 from sheet_records import (ALIAS, ANNOTATIONS, ASSOCIATE, DERIVE, EXTENSIONS, INHERIT, KINDS, LISTED, MAKE_LIST,
-                           NEST_ASSOCIATE, NO_DERIVE, OTHER, PARENTS, TYPES, VARIANTS, WORD_BYTES, WORD_CHARACTERS,
-                           WORDS, Annotation, Extension, SheetError, TypeMap, TypeRecord)
+                           NEST_ASSOCIATE, NO_DERIVE, OTHER, PARENTS, TYPES, VARIANTS, WORD_BYTES, WORDS, Annotation,
+                           Extension, SheetError, TypeMap, TypeRecord, characters_at)
 from sheet_text import parse_text, show_mark, show_name, show_word, to_text
 
 __all__ = ["ALIAS", "ASSOCIATE", "DERIVE", "INHERIT", "KINDS", "MAKE_LIST", "NEST_ASSOCIATE", "NO_DERIVE", "VARIANTS",
@@ -192,10 +192,11 @@ class Decoding:
     def listed(self):
         """A word of the list by its bytes."""
         out = ""
-        for _ in range(self.take(5, "a word's length", 1, WORD_BYTES)):
+        for at in range(self.take(5, "a word's length", 1, WORD_BYTES)):
             byte = self.take(8, "a byte of a word")
-            if self.strict and chr(byte) not in WORD_CHARACTERS:
-                raise SheetError(f"bit {self.source.at - 8}: the byte {byte:02x} is not allowed in a word", number=4)
+            if self.strict and chr(byte) not in characters_at(at):
+                where = "in a word" if at else "as the first of a word"
+                raise SheetError(f"bit {self.source.at - 8}: the byte {byte:02x} is not allowed {where}", number=4)
             out += chr(byte)
         return out
 

@@ -11,7 +11,7 @@ sys.path.insert(0, os.path.dirname(os.path.abspath(__file__)))
 import cascade_map
 import cascade_text
 import sheetlib
-from maps import drawn
+from maps import drawn, hyphens
 from places import Problems
 from sheet_records import DERIVE, MAKE_LIST, NEST_ASSOCIATE, Annotation, TypeRecord
 from testing import EXAMPLES, command, found_in, printed, told
@@ -39,6 +39,20 @@ class Cascade(unittest.TestCase):
         self.reads("domain a inherits b, c {}\ndomain b {}\ndomain c {}", "domain a : b c\ndomain b\ndomain c")
         self.reads("/* domain x {} */ // domain y {}\ndomain a { /* } */ } // }", "domain a")
         self.reads("", "")
+
+    def test_hyphens(self):
+        """Words have hyphens wherever a name is taken; one that is not part of a word is a sign as before."""
+        self.reads("domain ph-probe inherits probe- {}\ndomain probe- { resource log--1 {} }\n"
+                   "@associate([probe-.log--1])\n@alias(old-probe)\ndomain orp-probe {}",
+                   "domain ph-probe : probe-\ndomain probe-\n  nest probe-.log--1\nresource probe-.log--1\n"
+                   "domain orp-probe\n  associate probe-.log--1\n  alias old-probe")
+        self.reads("f(a - b, -c, 80-90);\ndomain a {}", "domain a", "note: skipped, as no part of a schedule: 1 statement")
+        self.reads("@derive(a-b)\n@derive(a - b)\ndomain a {}",
+                   "domain a\n  derive 0\n  derive 1\n  mark derive 0\n  mark derive 1")
+        # The lists of parents that extensions bring ascend by the spelling of their names, as in the Rust.
+        self.reads("domain t {}\nextend t inherits a.c {}\nextend t inherits a-b {}\nextend t inherits a {}\n"
+                   "domain a {}\ndomain a-b {}\nresource a.c {}",
+                   "domain t : a a-b a.c\ndomain a\ndomain a-b\nresource a.c")
 
     def test_added_parents(self):
         """The parent that Cascade adds is left out; what is written stays, and is declared."""
@@ -169,10 +183,15 @@ class Cascade(unittest.TestCase):
     def test_errors(self):
         for policy, want in [
                 ("domain {}", "1:8: error: expected a name, found `{`"),
-                ("domain ph-probe {}", "1:10: error: expected `inherits`, `{` or `;`, found `-`: "
-                                       "the bytes of a word are A-Z, a-z, 0-9 and _"),
+                ("domain -probe {}", "1:8: error: expected a name, found `-`: "
+                                     "the bytes of a word are A-Z, a-z, 0-9 and _, and - behind the first"),
+                ("domain a.-b {}", "1:9: error: expected `inherits`, `{` or `;`, found `.`: "
+                                   "the bytes of a word are A-Z, a-z, 0-9 and _, and - behind the first"),
+                ("domain a inherits b, -c {}", "1:22: error: expected a parent, found `-`: "
+                                               "the bytes of a word are A-Z, a-z, 0-9 and _, and - behind the first"),
+                ("@associate([f -g])\ndomain a {}", "1:15: error: expected a name, found `-`"),
                 ("domain größe {}", "1:10: error: expected `inherits`, `{` or `;`, found `öß`: "
-                                    "the bytes of a word are A-Z, a-z, 0-9 and _"),
+                                    "the bytes of a word are A-Z, a-z, 0-9 and _, and - behind the first"),
                 ("domain a inherits {}", "1:19: error: expected a parent, found `{`"),
                 ("domain a inherits b c {}", "1:21: error: expected `{` or `;`, found `c`"),
                 ("domain a inherits b, {}", "1:22: error: expected a parent, found `{`"),
@@ -215,23 +234,25 @@ class Cascade(unittest.TestCase):
 
     def test_many_errors(self):
         """Reading goes on behind an error."""
-        self.errors("domain a inherits {}\ndomain b-c {}\n@foo\ndomain d inherits zz {}\ndomain e { x y }",
+        self.errors("domain a inherits {}\ndomain b+c {}\n@foo\ndomain d inherits zz {}\ndomain e { x y }",
                     "1:19: error: expected a parent, found `{`",
-                    "2:9: error: expected `inherits`, `{` or `;`, found `-`: the bytes of a word are A-Z, a-z, 0-9 and _",
+                    "2:9: error: expected `inherits`, `{` or `;`, found `+`: the bytes of a word are A-Z, a-z, 0-9 and _, "
+                    "and - behind the first",
                     "3:2: error: `@foo` is no annotation of a type", "4:19: error: `zz` is not declared",
                     "5:12: error: the statement `x` is not ended by `;`")
 
     def test_same_sheet(self):
-        """Both texts of the example give its sheet, and printing and reading it gives it again."""
-        with open(os.path.join(EXAMPLES, "pool.sheet"), "rb") as source:
-            sheet = source.read()
-        for name in ("pool.txt", "pool.cas"):
-            self.assertEqual(command("tools/sheet", "-q", "--strict", f"examples/{name}"), (0, sheet, ""))
-        status, text, error = command("tools/sheet", "--decode", "--cascade", "examples/pool.sheet")
-        self.assertEqual((status, error), (0, ""))
-        self.assertEqual(command("tools/sheet", "--cascade", given=text), (0, sheet, ""))
-        status, text, error = command("tools/sheet", "--decode", "examples/pool.sheet")
-        self.assertEqual(command("tools/sheet", given=text), (0, sheet, ""))
+        """Both texts of an example give its sheet, and printing and reading it gives it again."""
+        for name in ("pool", "probes"):
+            with open(os.path.join(EXAMPLES, name + ".sheet"), "rb") as source:
+                sheet = source.read()
+            for ending in ("txt", "cas"):
+                self.assertEqual(command("tools/sheet", "-q", "--strict", f"examples/{name}.{ending}"), (0, sheet, ""))
+            status, text, error = command("tools/sheet", "--decode", "--cascade", f"examples/{name}.sheet")
+            self.assertEqual((status, error), (0, ""))
+            self.assertEqual(command("tools/sheet", "--cascade", given=text), (0, sheet, ""))
+            status, text, error = command("tools/sheet", "--decode", f"examples/{name}.sheet")
+            self.assertEqual(command("tools/sheet", given=text), (0, sheet, ""))
 
 
 def sayable(rng, given):
@@ -274,6 +295,7 @@ class CascadeText(unittest.TestCase):
         for seed in range(1500):
             rng = random.Random(seed)
             given = drawn.random_map(rng, rng.choice([4, 8, 12]), rng.choice([0, 0.02, 0.1]))
+            given = hyphens.respelled(rng, given) if seed % 3 == 0 else given
             if rng.random() < 0.8:
                 given = sayable(rng, given)
             problems, again = Problems(), Problems()

@@ -24,7 +24,7 @@ import explain_page
 import map_lines
 import model
 import sheetlib
-from maps import drawn, large
+from maps import drawn, hyphens, large
 from testing import BUILT, EXAMPLES, NOT_BUILT, ROOT, InFolder, command, found_in, printed
 
 
@@ -140,6 +140,7 @@ class Explain(InFolder):
         for seed in range(700):
             rng = random.Random(seed)
             given = drawn.random_map(rng, rng.choice([4, 8, 12]), rng.choice([0, 0.02, 0.1, 0.3]))
+            given = hyphens.respelled(rng, given) if seed % 3 == 0 else given
             explained = self.explained(sheetlib.to_text(given))
             self.assertEqual([why.line for why in explained.whys], printed(sheetlib.encode(given)), seed)
             self.assertTrue(all(why.because for why in explained.whys), seed)

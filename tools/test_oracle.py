@@ -18,7 +18,7 @@ import model
 import sheetlib
 from answers import agree
 from comparison import Comparison
-from maps import flavours, small
+from maps import flavours, hyphens, small
 from ordering import UNFIT, corners, in_order, is_item
 from sheet_records import SheetError
 
@@ -97,7 +97,7 @@ class OrderOfItems(unittest.TestCase):
         self.assertEqual(in_order([], given), [f"{UNFIT}own, and missing: {own}"])
         for more in ("R t.f 1 p.f,resource -", "R t.f 0 f,resource makelist", own, "E t 10 f"):
             self.assertTrue(in_order([own, other, line, more], given)[-1].startswith(UNFIT + "not alone: "), more)
-        lists = ["a", "a,a0", "a,b", "a.b", "a.b,a", "a.b.c", "a0"]
+        lists = ["a", "a,a0", "a,b", "a-", "a-b", "a-b,a", "a-b.c", "a.b", "a.b,a", "a.b.c", "a0"]
         self.assertEqual(in_order([f"R t.f 0 {parents} -" for parents in lists[::-1]], given)[:len(lists)],
                          [f"R t.f 0 {parents} -" for parents in lists])
         self.assertEqual(in_order(["T t"], None), ["T t", UNFIT + "the sheet is not read"])
@@ -117,7 +117,8 @@ class OrderOfItems(unittest.TestCase):
         for family in small.EXHAUSTIVE.values():
             sheets += map(sheetlib.encode, itertools.islice(family(), 0, None, 60))
         for flavour in [name for name in flavours.FLAVOURS if name not in flavours.SLOW] * 10:
-            sheets.append(sheetlib.encode(flavours.random_map(rng, flavour)))
+            given = flavours.random_map(rng, flavour)
+            sheets += [sheetlib.encode(given), sheetlib.encode(hyphens.respelled(rng, given))]
         for sheet in sheets:
             lines = printed(sheet)
             try:

@@ -18,7 +18,7 @@ import cascade_text
 import map_files
 import map_lines
 import sheetlib
-from maps import changed, drawn
+from maps import changed, drawn, hyphens
 from places import Problems
 from sheet_checks import check
 from sheet_records import ASSOCIATE, DERIVE, MAKE_LIST, NEST_ASSOCIATE, Annotation, TypeRecord
@@ -40,8 +40,8 @@ class Errors(unittest.TestCase):
                 ("domain a\nextend a f : a\n  mark makelist", "3:3: error: `mark` stands under no type"),
                 ("domain a b", "1:10: error: `b` is no flag; parents follow ` : `"),
                 ("domain a :b", "1:10: error: `:b`: white space goes on both sides of `:`"),
-                ("domain a: b", "1:9: error: the byte `:` in `a:` is not allowed, A-Z, a-z, 0-9 and _ are; "
-                                "white space goes on both sides of `:`"),
+                ("domain a: b", "1:9: error: the byte `:` in `a:` is not allowed, A-Z, a-z, 0-9 and _ are, "
+                                "and - behind the first byte; white space goes on both sides of `:`"),
                 ("domain a.b.c", "1:8: error: `a.b.c` is not a name of one or two words"),
                 ("domain a : b. c", "1:12: error: `b.` is not a name of one or two words"),
                 ("version", "1:1: error: `version` takes one number"),
@@ -63,11 +63,30 @@ class Errors(unittest.TestCase):
                 self.assertIn(want, told(text))
 
     def test_words(self):
-        self.check("domain größe", "1:10: error: the byte c3 (hexadecimal) in `größe` is not allowed, "
-                                   "A-Z, a-z, 0-9 and _ are")
-        self.check("# größe\ndomain größe # größe\ndomain a-b", "2:10: error: the byte c3 (hexadecimal) in `größe` is "
-                   "not allowed, A-Z, a-z, 0-9 and _ are", "3:9: error: the byte `-` in `a-b` is not allowed, "
-                   "A-Z, a-z, 0-9 and _ are")
+        allowed = "is not allowed, A-Z, a-z, 0-9 and _ are, and - behind the first byte"
+        self.check("domain größe", f"1:10: error: the byte c3 (hexadecimal) in `größe` {allowed}")
+        self.check("# größe\ndomain größe # größe\ndomain -a-b",
+                   f"2:10: error: the byte c3 (hexadecimal) in `größe` {allowed}", f"3:8: error: the byte `-` in `-a-b` {allowed}")
+        self.check("domain a+b", f"1:9: error: the byte `+` in `a+b` {allowed}")
+
+    def test_hyphens(self):
+        """Behind the first byte of a word, twice and last too; the map keeps them, whichever way it is written."""
+        allowed = "is not allowed, A-Z, a-z, 0-9 and _ are, and - behind the first byte"
+        self.check("domain ph-probe")
+        self.check("domain a-\ndomain a--b.c-\nwords z-- Z-0 9- _-")
+        self.check("domain -", f"1:8: error: the byte `-` in `-` {allowed}")
+        self.check("words -- a", f"1:7: error: the byte `-` in `--` {allowed}")
+        self.check("domain a.-b", f"1:10: error: the byte `-` in `-b` {allowed}")
+        self.check("domain a\n  alias -a", f"2:9: error: the byte `-` in `-a` {allowed}")
+        self.check("domain a\n  associate a-.-f", "2:13: error: `a-.-f` is not declared",
+                   f"2:16: error: the byte `-` in `-f` {allowed}")
+        self.check("domain " + "a" * 30 + "-")
+        self.check("domain " + "a" * 31 + "-", f"1:8: error: `{'a' * 31}-` has 32 bytes, at most 31")
+        self.check("words! a a- a--b a-b resource self")
+        self.check("words! a-b a- resource self", "1:12: error: `a-` does not come after `a-b` by bytes")
+        # The list ascends by bytes: a word before those with a hyphen behind it, these before those with other bytes.
+        self.assertEqual(sheetlib.parse_text("domain a0\ndomain a_\ndomain a-b\ndomain a\ndomain a-").word_list(),
+                         ["a", "a-", "a-b", "a0", "a_", "resource", "self"])
         self.check("domain " + "a" * 31)
         self.check("domain " + "a" * 32, f"1:8: error: `{'a' * 32}` has 32 bytes, at most 31")
         self.check("words " + " ".join(f"w{at:03}" for at in range(198)))
@@ -201,6 +220,7 @@ class Agreement(unittest.TestCase):
         for seed in range(1200):
             rng = random.Random(seed)
             given = drawn.random_map(rng, rng.choice([4, 8, 12]), rng.choice([0, 0.02, 0.1, 0.3]))
+            given = hyphens.respelled(rng, given) if seed % 3 == 0 else given
             sheet = sheetlib.encode(given)
             problems = found_in(sheetlib.to_text(given))[1]
             numbers = [problem.number for problem in problems.of("error")]
@@ -213,11 +233,12 @@ class Agreement(unittest.TestCase):
         for seed in range(600):
             rng = random.Random(seed)
             given = drawn.random_map(rng, 12, 0.02)
+            given = hyphens.respelled(rng, given) if seed % 3 == 0 else given
             sheet = sheetlib.encode(given)
             if answer(sheet) == 0:
                 view = map_lines.MapView(given)
                 rounds = view.rounds()
-                names = sorted(rounds, key=lambda name: (rounds[name], name))
+                names = sorted(rounds, key=lambda name: (rounds[name], sheetlib.show_name(name)))
                 want = ["T " + sheetlib.show_name(name) for name in names] + [line.printed() for line in view.lines()]
                 self.assertEqual(printed(sheet), want, seed)
 
@@ -253,7 +274,7 @@ def spoil(rng, given):
         given.extensions.append(sheetlib.Extension(("a",), "f", [("a",)] * rng.choice([0, 1, 8, 9, 16])))
 
     def further():
-        given.extra = [rng.choice(["a" * 31, "a" * 32, "a-b", "a.b", "B", ""])]
+        given.extra = [rng.choice(["a" * 31, "a" * 32, "-b", "a.b", "a-b", ""])]
     choices = [words, version, extension, further]
     if given.types:
         record = rng.choice(given.types)
@@ -518,11 +539,12 @@ class Garbage(unittest.TestCase):
 class Stored(unittest.TestCase):
     """The stored answers of the examples."""
 
-    def test_pool(self):
-        with open(os.path.join(EXAMPLES, "pool.sheet"), "rb") as source:
-            sheet = source.read()
-        with open(os.path.join(EXAMPLES, "pool.schedule.txt"), encoding="ascii") as source:
-            self.assertEqual(source.read().splitlines(), printed(sheet))
+    def test_lines(self):
+        for name in ("pool", "probes"):
+            with open(os.path.join(EXAMPLES, name + ".sheet"), "rb") as source:
+                sheet = source.read()
+            with open(os.path.join(EXAMPLES, name + ".schedule.txt"), encoding="ascii") as source:
+                self.assertEqual(source.read().splitlines(), printed(sheet), name)
 
     def test_numbers(self):
         """Each refused example is refused by the number in its name, by the model."""

@@ -19,7 +19,7 @@ import model
 import schedule_text
 import sheetlib
 from case_texts import fields
-from maps import changed, drawn, flavours, large, loads, schedules, small
+from maps import changed, drawn, flavours, hyphens, large, loads, schedules, small
 from places import Problems
 from sheetlib import encode, sheet_of
 
@@ -204,6 +204,9 @@ class Reading(unittest.TestCase):
         head = [(4, 1), (8, 2), (5, 31)]
         self.assertEqual(number(fields(*head, (8, ord("!")))), 4)
         self.assertEqual(number(fields(*head, (8, ord("a")))), 3)
+        self.assertEqual(number(fields(*head, (8, ord("-")))), 4)
+        self.assertEqual(number(fields(*head, (8, ord("a")), (8, ord("-")))), 3)
+        self.assertEqual(number(fields(*head, (8, ord("a")), (8, ord("-")), (8, ord("!")))), 4)
         self.assertEqual(number(fields((4, 1), (8, 201))), 4)
         self.assertEqual(number(fields((4, 1), (8, 1))), 4)
         self.assertEqual(number(fields((4, 1), (8, 200))), 3)
@@ -225,6 +228,8 @@ class Reading(unittest.TestCase):
     def test_values(self):
         for text, want in [
                 ("words @z", 4), ("words a!", 4), ('words! "" resource self', 4),
+                ("words -a", 4), ("words -", 4), ("words --", 4), ("words a-", 0), ("words a--b a-b", 0), ("words a, a.", 4),
+                ("words! a-b a- resource self", 5), ("words! a- a-b a0 resource self", 0), ("words " + "a" + 30 * "-", 0),
                 ("words Z_9", 0), ("words! resource self self", 5), ("words! a resource", 5),
                 ("words! resource self a", 5), ("words! resource resource self", 5),
                 ("domain @2", 4), ("domain a : @9", 4), ("variant3 a", 4), ("domain a\n  kind7", 4),
@@ -501,7 +506,7 @@ def rust_cycles(types, name, visited):
 
 def rust_organize(types):
     """organize_type_map, word for word: (names, rows)."""
-    waiting, out, errors = sorted(types.types), [], []
+    waiting, out, errors = sorted(types.types, key=types.spelling), [], []
     while waiting:
         ready = []
         for name in waiting:
@@ -554,11 +559,13 @@ class RustSynthesis(model.Synthesis):
                 for kind, payload in info.annotations + [e.annotation for e in inherited]]
 
 
-def check_random_map(case, seed):
-    """One random map: round trips, the model's assertions, the word-for-word
-    transcriptions, relisting. Returns the number of the answer."""
+def check_random_map(case, seed, respelled=False):
+    """One random map, or the same with hyphens in its words: round trips, the model's assertions,
+    the word-for-word transcriptions, relisting. Returns the number of the answer."""
     rng = random.Random(seed)
     type_map = drawn.random_map(rng, rng.choice([4, 8, 12]), rng.choice([0, 0.02, 0.1, 0.3]))
+    if respelled:
+        type_map = hyphens.respelled(rng, type_map)
     sheet = sheetlib.encode(type_map)
     case.assertEqual(sheetlib.sheet_of(sheetlib.to_text(type_map)), sheet)
     case.assertEqual(sheetlib.sheet_of(sheetlib.text_of(sheet)), sheet)
@@ -591,6 +598,11 @@ class RandomMaps(unittest.TestCase):
         met = {check_random_map(self, seed) for seed in range(first, first + count)}
         self.assertEqual(met, {0, 8, 9})
 
+    def test_hyphens(self):
+        count, first = int(os.environ.get("RANDOM_MAPS", "1500")) // 3, int(os.environ.get("RANDOM_FIRST", "0"))
+        met = {check_random_map(self, seed, respelled=True) for seed in range(first, first + count)}
+        self.assertEqual(met, {0, 8, 9})
+
     def test_damaged_sheets(self):
         """Flipped bits are answered, and what is readable reads as the tool reads it."""
         rng = random.Random(1)
@@ -620,7 +632,8 @@ class Generators(unittest.TestCase):
         self.check("5b89a44e404391f7", (encode(flavours.random_map(rng, name)) for name in list(flavours.FLAVOURS) * 2))
 
     def test_small(self):
-        digests = "266c523bbcf61906", "7f3a9e1d1370a11b", "212fd6f395d0f3b9", "21dcd9c7806dd21c"
+        digests = ("266c523bbcf61906", "7f3a9e1d1370a11b", "212fd6f395d0f3b9", "21dcd9c7806dd21c", "921f33f64c6589c7",
+                   "f351b7b3a9f3d570", "ca11593eedd40884")
         self.assertEqual(len(digests), len(small.EXHAUSTIVE))
         for digest, family in zip(digests, small.EXHAUSTIVE.values()):
             self.check(digest, (encode(given) for given in itertools.islice(family(), 0, None, 500)))
@@ -632,6 +645,10 @@ class Generators(unittest.TestCase):
         self.check("5f6a107bb7e288c5", (encode(changed.rebuilt(rng, one)) for one in given))
         self.check("88d60d734a1ca338", (changed.damaged(rng, encode(one)) for one in given))
 
+    def test_hyphens(self):
+        rng = random.Random(3)
+        self.check("d8bedd9dec368423", (encode(hyphens.respelled(rng, drawn.random_map(rng, 12, 0.2))) for _ in range(60)))
+
     def test_loads(self):
         families = (loads.ordinary, loads.s13, loads.chain, loads.doubled, loads.diamonds, loads.star, loads.largest)
         self.check("939a3e4a31a8d808", (encode(family(count)) for family in families for count in (4, 20, 62)))
@@ -639,6 +656,106 @@ class Generators(unittest.TestCase):
 
     def test_large(self):
         self.check("81348165807c2a3c", (encode(make()) for make in large.MAPS.values()))
+
+
+def spelled(sheet):
+    """A sheet's words, and a function that spells a name of word numbers, as bytes."""
+    words = [word.encode() for word in model.sheet_words(sheet)]
+    return words, lambda name: b".".join(words[at] for at in name)
+
+
+class Hyphens(unittest.TestCase):
+    """Names compare by all bytes of their spelling: what the model answers for words with hyphens, held to the bytes
+    of what it prints and to the order by word numbers and `reach`."""
+
+    def test_without(self):
+        """Without hyphens names go by word numbers, one word before two."""
+        for seed in range(200):
+            types = model.read_sheet(encode(drawn.random_map(random.Random(seed), 12, 0.2))).types
+            self.assertEqual(list(types), sorted(types))
+
+    def test_types(self):
+        """In name order where the map is read; by round and then by name where it is ordered."""
+        rng = random.Random(5)
+        some = list(itertools.islice(small.small_hyphen_orders(), 0, None, 40))
+        some += [hyphens.respelled(rng, drawn.random_map(rng, 12, 0)) for _ in range(200)]
+        otherwise = 0
+        for given in some:
+            sheet = encode(given)
+            types, spell = model.read_sheet(sheet), spelled(sheet)[1]
+            self.assertEqual(list(types.types), sorted(types.types, key=spell))
+            otherwise += list(types.types) != sorted(types.types)
+            result = model.order(sheet, LISTING, DIAGNOSIS)
+            if result.number == 0:
+                names = [line[2:].encode() for line in model.printed(sheet, result, False)]
+                rounds = {}
+                parents = {spell(own.name): list(map(spell, own.parents)) for own in types.types.values()}
+                for name in names:
+                    rounds[name] = max((1 + rounds[parent] for parent in parents[name]), default=0)
+                self.assertEqual(names, sorted(names, key=lambda name: (rounds[name], name)))
+        self.assertGreater(otherwise, 100)
+
+    def test_rows_of_self(self):
+        """The subjects of rows of kind 1 ascend by their bytes."""
+        for names in itertools.permutations(["a", "a-b", "a.c", "a-b.c", "a-", "a0"], 3):
+            lines = run("".join(f"domain {name} : self\n" for name in names) + "domain z", "order")
+            self.assertEqual([line.split()[2].encode() for line in lines[1:]], sorted(name.encode() for name in names))
+
+    def test_lines(self):
+        """The items by type name and word; the first parents of an inherited resource by the names of P; its marks,
+        here one a class, by dom; own resources by class name."""
+        marks = {mark: at for at, mark in enumerate(["derive:0", "derive:1", "derive:3", "derive:2"])}  # f d.f d-.f d-b.f
+        met = set()
+        for given in itertools.islice(small.small_hyphen_parents(), 0, None, 7):
+            lines = [line.split() for line in run(encode(given)) if line[:2] in ("R ", "E ")]
+            keys = []
+            for kind, name, *rest in lines:
+                owner, word = name.rsplit(".", 1) if kind == "R" else (name, rest[1])
+                keys.append((owner.encode(), word.encode(), kind == "E"))
+                if kind == "R" and owner == "t":
+                    parents = [parent.removesuffix("." + word).encode() for parent in rest[1].split(",")[:-1]]
+                    self.assertEqual(parents, sorted(parents))
+                    met.add(tuple(parents))
+                    self.assertEqual(rest[2].split(","), sorted(rest[2].split(","), key=marks.get))
+            self.assertEqual(keys, sorted(keys))
+        self.assertIn((b"a", b"a-b", b"a.c"), met)
+        for given in itertools.islice(small.small_hyphen_resources(), 0, None, 5):
+            own = [line.split()[3].split(",")[0].encode() for line in run(encode(given)) if line.startswith("R t.f ")]
+            self.assertEqual((own[:-1], own[-1]), (sorted(own[:-1]), b"p.f"))
+
+    def test_three_orders(self):
+        """On one map: parents by P, classes by dom, own resources by class name."""
+        lines = run(case_texts.CORNERS["threeOrders"]["text"])
+        self.assertEqual([line for line in lines if line.startswith("R t.f ")],
+                         ["R t.f 0 a-b.f,resource derive:2", "R t.f 0 a.f,resource derive:1",
+                          "R t.f 0 a.f,a-b.f,a.c.f,resource derive:1,derive:2"])
+        self.assertLess(b"a-b.f", b"a.c.f")
+        self.assertLess(b"a.c.f", b"a.f")
+
+    def test_reach(self):
+        """Names by word numbers and reach, the last word that begins with a word and a hyphen: the same order as that
+        of the bytes. Such words stand directly behind the word."""
+        rng = random.Random(7)
+        for _ in range(60):
+            words = sorted({hyphens.random_word(rng) for _ in range(rng.choice((3, 8, 20)))} | {"resource", "self"})
+            inside = [[at for at, word in enumerate(words) if word.startswith(first + "-")] for first in words]
+            for at, some in enumerate(inside):
+                self.assertEqual(some, list(range(at + 1, at + 1 + len(some))))
+            reach = [at + len(some) for at, some in enumerate(inside)]
+            numbers = range(len(words))
+            names = [(at,) for at in numbers] + [(at, rng.randrange(len(words))) for at in numbers for _ in "123"]
+            for (a, *rest), (c, *other) in itertools.product(names, repeat=2):
+                before = (not (rest and c <= reach[a]) if a < c else
+                          bool(other) and a <= reach[c] if c < a else rest < other)
+                self.assertEqual(before, ".".join(words[at] for at in (a, *rest)).encode()
+                                 < ".".join(words[at] for at in (c, *other)).encode(), (words, a, rest, c, other))
+
+    def test_absent(self):
+        """No word is `-`, so that a line tells what is absent."""
+        for name, want in (("-", 4), ("a.-", 4), ("-.a", 4), ("a-", 0), ("a--", 0), ("a-.b-", 0)):
+            self.assertEqual(number(f"domain {name}", "order"), want, name)
+        self.assertEqual(run("domain a- : self\ndomain c-", "order"), ["refused 8", "D 1 a- self -"])
+        self.assertEqual(run("resource f-\nresource a-.f-\ndomain a-\n  associate f-"), ["refused 9", "D 6 a- - f-"])
 
 
 class LargeMaps(unittest.TestCase):

@@ -3,6 +3,7 @@
     drawn       random maps, the names few and the records of all kinds
     flavours    random maps by flavour: each makes one corner likely
     small       all small maps of a family
+    hyphens     maps of words with hyphens: all small ones of a family, and any map respelled
     changed     relisted, damaged and rebuilt maps and sheets
     loads       maps by family and number of types
     large       maps at the limits of document 01

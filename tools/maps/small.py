@@ -2,6 +2,7 @@
 
 import itertools
 
+from maps.hyphens import small_hyphen_orders, small_hyphen_parents, small_hyphen_resources
 from maps.records import associate, name_of, nest, record
 from sheet_records import DOMAIN, RESOURCE, Extension, TypeMap
 
@@ -80,4 +81,6 @@ def small_parent_lists():
 
 
 EXHAUSTIVE = {"small orders": small_orders, "small makings": small_makings,
-              "small diamonds": small_diamonds, "small parent lists": small_parent_lists}
+              "small diamonds": small_diamonds, "small parent lists": small_parent_lists,
+              "small hyphen orders": small_hyphen_orders, "small hyphen parents": small_hyphen_parents,
+              "small hyphen resources": small_hyphen_resources}

@@ -6,6 +6,7 @@ use Rattle.definitions.specs.Bits.{bits_of}
 use Rattle.definitions.specs.Records.{Sheet}
 use Rattle.definitions.specs.Map.{TypeMap, type_map_of}
 use Rattle.definitions.specs.Order.{has_order}
+use Rattle.law_lines.specs.Numbered.{declarations-numbered}
 use Rattle.law_lines.specs.Statements.{line_map, any_refused}
 use Rattle.rows.specs.Rows.{has_bit}
 use Rattle.order_form.specs.Lists.{elem}
@@ -115,6 +116,7 @@ module _ (bytes : List ℕ) (d : Draft) (entries : List Entry) (t : Catalogue) (
         ordered = subst (λ (i : ℕ). Ordered places.types.items i u.parents) (sym (o.organized.counted refl)) (o.organized.ordered refl);
         placed = λ a h. ap (λ (i : ℕ). elem a (take i places.types.items)) (o.organized.counted refl) ∙ o.organized.has refl a h;
         extensions = records;
+        numbered = λ e. declarations-numbered s (tables.readable bytes d entries t n w) (tables.within bytes d entries t n w) (w.plain e);
       }
 
   pub fillable : Fillable (bits_of bytes) d entries places u n r

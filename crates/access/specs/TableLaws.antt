@@ -24,7 +24,6 @@ use Rattle.sheet_draft.specs.declared.Draft.{Draft}
 use Rattle.sheet_draft.specs.declared.entry.Entry.{Entry}
 use Rattle.sheet_types.specs.Rows.{is_done}
 use Rattle.sheet_order.specs.RowLaws.{rows-by-name}
-use Rattle.law_lines.specs.Numbered.{types-by-number}
 use Rattle.sheet_draft.specs.declared.Decoding.{Decoding}
 use Rattle.sheet_decode.specs.Decodes.{Whole}
 use Rattle.catalogue.specs.Layout.{key_at}
@@ -89,9 +88,7 @@ module _ (bytes : List ℕ) (d : Draft) (entries : List Entry) (t : Catalogue) (
   listable = read.readable bytes s w.holds
 
   sorted : ByName s bs d entries n.count
-  sorted =
-      rows-by-name s.words (length s.words) bs d n.count
-      (λ T U i j. types-by-number s readable within T U (subst (In T) w.drafted.types i) (subst (In U) w.drafted.types j)) entries w.entered
+  sorted = rows-by-name s.words (length s.words) bs d n.count entries w.entered
 
   pub drawn : Drawn w.s (bits_of bytes) d entries n.count
   drawn = record {

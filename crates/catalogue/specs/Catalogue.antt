@@ -1,6 +1,6 @@
 -- What it means that a table is the catalogue of a sheet's map.
-use Rattle.std.specs.Prelude.{Bool, false, cond, List, [], ◌∷◌, ◌≡◌, ℕ, ◌+◌, ◌-◌, ◌*◌, ◌/◌, ◌%◌, ◌≤◌, ◌<◌, eqb, length}
-use Rattle.lists.specs.Lists.{each}
+use Rattle.std.specs.Prelude.{Bool, true, false, cond, List, [], ◌∷◌, ◌≡◌, ℕ, ◌+◌, ◌-◌, ◌*◌, ◌/◌, ◌%◌, ◌≤◌, ◌<◌, eqb, length}
+use Rattle.lists.specs.Lists.{Sorted, each, list_before}
 use Rattle.lists.specs.Tabulating.{tabulate}
 use Rattle.definitions.specs.Bits.{to_bits}
 use Rattle.definitions.specs.Records.{Name, Sheet}
@@ -17,7 +17,7 @@ use Rattle.catalogue.specs.Layout.{key_at, head_at, marks_at, mark_width, mark_c
 use Rattle.catalogue.specs.Layout.{extension_key_at, extension_count_at, extension_parent_at, first_at, second_at}
 use Rattle.catalogue.specs.declared.Catalogue.{Catalogue}
 
--- The words of a key: the first word times 256, and one more than the second word, or 0 where there is none. Keys ascend as names do.
+-- The words of a key: the first word times 256, and one more than the second word, or 0 where there is none.
 unfoldable pub name_of_key : ℕ → Name
 name_of_key k = (k / 256) ∷ cond (eqb (k % 256) 0) [] ((k % 256 - 1) ∷ [])
 
@@ -75,6 +75,8 @@ module _ (s : Sheet) (t : Catalogue) where
     pub none_fits : Fits (line_map s) (second_at t 0)
     pub second : (w : ℕ) → w < length s.words → SetIs (line_map s) (second_at t (1 + w)) (λ (D : LineType). second_is w D.name)
     pub second_fits : (w : ℕ) → w < length s.words → Fits (line_map s) (second_at t (1 + w))
+    -- without hyphens the types ascend by word numbers (FORMAT 1.4)
+    pub numbered : t.hyphens ≡ false → Sorted (λ (P Q : LineType). list_before P.name Q.name ≡ true) (line_map s).types
 
   -- The words that are the last of a type's name, ascending, each with its types.
   pub record Worded : Type 0 where

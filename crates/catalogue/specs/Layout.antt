@@ -1,5 +1,5 @@
 -- What stands at a place of a column of the catalogue; 0 past its end.
-use Rattle.std.specs.Prelude.{[], ℕ, ◌/◌, ◌%◌, get_or, replicate}
+use Rattle.std.specs.Prelude.{false, [], ℕ, ◌/◌, ◌%◌, get_or, replicate}
 use Rattle.std.specs.Int.Bits.{bit_and}
 use Rattle.item_heads.specs.Heads.{no_marks}
 use Rattle.item_heads.specs.declared.packed.Packed.{Packed}
@@ -117,4 +117,5 @@ blank = record {
   resources = 0;
   childed = 0;
   width = 0;
+  hyphens = false;
 }

@@ -1,2 +1,5 @@
 pub mod Layout
 pub mod Catalogue
+pub mod ByDom
+pub mod DomLaws
+pub mod ClassOrder

@@ -7,6 +7,7 @@
 ghost use Rattle.std.specs.Prelude.{◌≡◌, ◌+◌, ◌*◌, ◌/◌, ◌%◌, ◌<◌};
 ghost use Rattle.catalogue.specs.Layout.{blank, head_at, packed_at, mark_width, looked};
 ghost use Rattle.catalogue.specs.Catalogue.{virtual_head};
+ghost use Rattle.catalogue.specs.ByDom.{LeastKey, FirstByDom};
 
 use item_heads::Packed;
 
@@ -88,6 +89,8 @@ pub struct Catalogue {
     pub childed: u64,
     // How many words the sheet has.
     pub width: usize,
+    // Whether a word has a hyphen: then places, which are in name order, need not be in the order of word numbers.
+    pub hyphens: bool,
 }
 
 impl Catalogue {
@@ -121,6 +124,7 @@ impl Catalogue {
             resources: 0,
             childed: 0,
             width: 0,
+            hyphens: false,
         }
     }
 
@@ -159,5 +163,30 @@ impl Catalogue {
         ensures { (result ≡ mark_width self.now a) × (result < 64) }
     {
         self.marks_of(a).width as usize
+    }
+
+    // The type of a set with the least key.
+    fn least_key(&self, set: u64) -> usize
+        requires { 0 < set }
+        ensures { LeastKey self.now set result }
+    {
+        let mut best = bitsets::lowest(set);
+        for c in bitsets::members(set) {
+            if self.keys[c] < self.keys[best] {
+                best = c;
+            }
+        }
+        best
+    }
+
+    // The first of a set of classes of one word by dom (FORMAT 1.6).
+    pub fn first_by_dom(&self, set: u64) -> usize
+        requires { 0 < set }
+        ensures { FirstByDom self.now set result }
+    {
+        if self.hyphens {
+            return self.least_key(set);
+        }
+        bitsets::lowest(set)
     }
 }

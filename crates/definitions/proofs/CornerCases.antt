@@ -721,6 +721,108 @@ word_byte123-order-comes-out : ComesOut word_byte123-order
 unfolding run
 word_byte123-order-comes-out = refl
 
+-- the same behind the first byte, and the hyphen
+--     words _A _Z _a _z _0 _9 __ _-
+--   => nothing
+abbrev word_bytes_behind : List ℕ
+word_bytes_behind = hex 38 0x10a12f96897cc04be7225f4112fad097d7c4bec225f7a43932b9b7bab931b291cd95b1980000
+
+abbrev word_bytes_behind-order : Case
+word_bytes_behind-order = accepts word_bytes_behind order 3 1536 1 0x00
+
+word_bytes_behind-order-comes-out : ComesOut word_bytes_behind-order
+unfolding run
+word_bytes_behind-order-comes-out = refl
+
+-- a byte beside the hyphen: 44
+--     words! a, resource self
+--   => refused 4
+abbrev word_byte44_behind : List ℕ
+word_byte44_behind = hex 19 0x1031309621c995cdbdd5c98d948e6cad8cc000
+
+abbrev word_byte44_behind-order : Case
+word_byte44_behind-order = refuses word_byte44_behind order 2 1536 4
+
+word_byte44_behind-order-comes-out : ComesOut word_byte44_behind-order
+unfolding run
+word_byte44_behind-order-comes-out = refl
+
+-- a byte beside the hyphen: 46
+--     words! a. resource self
+--   => refused 4
+abbrev word_byte46_behind : List ℕ
+word_byte46_behind = hex 19 0x1031309721c995cdbdd5c98d948e6cad8cc000
+
+abbrev word_byte46_behind-order : Case
+word_byte46_behind-order = refuses word_byte46_behind order 2 1536 4
+
+word_byte46_behind-order-comes-out : ComesOut word_byte46_behind-order
+unfolding run
+word_byte46_behind-order-comes-out = refl
+
+-- a hyphen as a word's first byte: 4 at that byte, and not 3 at the end behind it
+--   => refused 4
+abbrev hyphen_first : List ℕ
+hyphen_first = hex 4 0x102f9680
+
+abbrev hyphen_first-order : Case
+hyphen_first-order = refuses hyphen_first order 2 1536 4
+
+hyphen_first-order-comes-out : ComesOut hyphen_first-order
+unfolding run
+hyphen_first-order-comes-out = refl
+
+-- a hyphen as the second byte is taken: 3 at the end behind it
+--   => refused 3
+abbrev hyphen_second : List ℕ
+hyphen_second = hex 5 0x102fb09680
+
+abbrev hyphen_second-order : Case
+hyphen_second-order = refuses hyphen_second order 2 1536 3
+
+hyphen_second-order-comes-out : ComesOut hyphen_second-order
+unfolding run
+hyphen_second-order-comes-out = refl
+
+-- a word that begins with a hyphen
+--     words! -a resource self
+--   => refused 4
+abbrev hyphen_leads : List ℕ
+hyphen_leads = hex 19 0x103116b0a1c995cdbdd5c98d948e6cad8cc000
+
+abbrev hyphen_leads-order : Case
+hyphen_leads-order = refuses hyphen_leads order 2 1536 4
+
+hyphen_leads-order-comes-out : ComesOut hyphen_leads-order
+unfolding run
+hyphen_leads-order-comes-out = refl
+
+-- a hyphen alone is no word
+--     words! - resource self
+--   => refused 4
+abbrev hyphen_alone : List ℕ
+hyphen_alone = hex 18 0x103096a1c995cdbdd5c98d948e6cad8cc000
+
+abbrev hyphen_alone-order : Case
+hyphen_alone-order = refuses hyphen_alone order 2 1536 4
+
+hyphen_alone-order-comes-out : ComesOut hyphen_alone-order
+unfolding run
+hyphen_alone-order-comes-out = refl
+
+-- a word may end with hyphens, and have two in a row
+--     words a a- a-- a--b a-b
+--   => nothing
+abbrev hyphen_last : List ℕ
+hyphen_last = hex 33 0x1070b08984b46c25a5a4612d2d621b096b121c995cdbdd5c98d948e6cad8cc0000
+
+abbrev hyphen_last-order : Case
+hyphen_last-order = accepts hyphen_last order 3 1536 1 0x00
+
+hyphen_last-order-comes-out : ComesOut hyphen_last-order
+unfolding run
+hyphen_last-order-comes-out = refl
+
 -- a word without bytes
 --     words! "" resource self
 --   => refused 4
@@ -1344,6 +1446,73 @@ one_word_first-order-comes-out : ComesOut one_word_first-order
 unfolding run
 one_word_first-order-comes-out = refl
 
+-- a hyphen goes before the dot, and the dot before all other bytes of words: `a-b` before `a.c`
+--     domain a_
+--     domain a0
+--     domain a.c
+--     domain a-b.c
+--     domain a-b
+--     domain a--.c
+--     domain a--
+--     domain a-
+--     domain a
+--   => T a; T a-; T a--; T a--.c; T a-b; T a-b.c; T a.c; T a0; T a_
+abbrev hyphen_before_dot : List ℕ
+hyphen_before_dot = hex 65 0x1090b08984b46c25a5a3612d621309809857c2c687265736f75726365239b2b6330905000004000000830000038300000300000283000002000001000000000000
+
+abbrev hyphen_before_dot-order : Case
+hyphen_before_dot-order = accepts hyphen_before_dot order 16 1536 14 0x1200010100a0c06038300418100a
+
+hyphen_before_dot-order-comes-out : ComesOut hyphen_before_dot-order
+unfolding run
+hyphen_before_dot-order-comes-out = refl
+
+-- within a round by name, a type with a parent too
+--     domain a.c : z
+--     domain a-b : z
+--     domain a : z
+--     domain z
+--   => T z; T a; T a-b; T a.c
+abbrev hyphen_within_round : List ℕ
+hyphen_within_round = hex 42 0x1060b08d84b5882c687265736f75726365239b2b63305e820040804140004020a0000010500050000000
+
+abbrev hyphen_within_round-order : Case
+hyphen_within_round-order = accepts hyphen_within_round order 9 1536 7 0x080a0000802040
+
+hyphen_within_round-order-comes-out : ComesOut hyphen_within_round-order
+unfolding run
+hyphen_within_round-order-comes-out = refl
+
+-- rows of `self`: types in name order
+--     domain c
+--     domain a.c : self
+--     domain a-b : self
+--   => refused 8; D 1 a-b self -; D 1 a.c self -
+abbrev hyphen_self : List ℕ
+hyphen_self = hex 36 0x1050b08d84b5882c687265736f75726365239b2b63303020000008100820000804100000
+
+abbrev hyphen_self-order : Case
+hyphen_self-order = diagnoses hyphen_self order 2 1536 8 2 false (hex 12 0x0101ff04ffff01000204ffff)
+
+hyphen_self-order-comes-out : ComesOut hyphen_self-order
+unfolding run
+hyphen_self-order-comes-out = refl
+
+-- types that wait, in name order
+--     domain a.c : zz
+--     domain a-b : zz
+--     domain a : a-b a.c
+--   => refused 8; D 3 a-b zz -; D 3 a.c zz -; D 3 a-b zz -; D 3 a.c zz -
+abbrev hyphen_waiting : List ℕ
+hyphen_waiting = hex 42 0x1060b08d84b5882c687265736f75726365239b2b63309e9e818040804140004020a00000201004080000
+
+abbrev hyphen_waiting-order : Case
+hyphen_waiting-order = diagnoses hyphen_waiting order 2 1536 8 4 false (hex 24 0x0301ff05ffff03000205ffff0301ff05ffff03000205ffff)
+
+hyphen_waiting-order-comes-out : ComesOut hyphen_waiting-order
+unfolding run
+hyphen_waiting-order-comes-out = refl
+
 -- the longest chain counts
 --     domain a : d b
 --     domain b : c
@@ -1698,6 +1867,75 @@ words_and_doms-schedule-comes-out : ComesOut words_and_doms-schedule
 unfolding run
 words_and_doms-schedule-comes-out = refl
 
+-- three orders of one map: P.r by the names of P, `a`, `a-b`, `a.c`; the classes of the inherited one by doms, `a` before `a-b`; own resources by the names of their classes, `a-b.f` before `a.f`
+--     domain t : a.c a-b a
+--       associate a.f
+--       associate a-b.f g
+--     domain a.c : a
+--     domain a-b
+--       nest a-b.f
+--     domain a
+--       nest a.f
+--     resource a.f
+--       mark derive 1
+--     resource a-b.f
+--       mark derive 2
+--     resource g
+--   => T a; T a-b; T a-b.f; T a.f; … 10 lines; E t 00 g
+abbrev three_orders : List ℕ
+three_orders = hex 73 0x1080b08d84b5882c61660b3a1c995cdbdd5c98d948e6cad8cc1740e0e030081008004440e00480e02080010201000001000a10380800000a1038000081a0018080c0d000c081080000
+
+abbrev three_orders-schedule : Case
+three_orders-schedule = accepts three_orders schedule 74 1536 72 0x0e000100c0c020608008103800200102030a0003414030180408030380c28040d0500c080e030a000341403010380c48000e0103c00080d050140605070060702048220a00838040
+
+three_orders-schedule-comes-out : ComesOut three_orders-schedule
+unfolding run
+three_orders-schedule-comes-out = refl
+
+-- items go by the names of the types: `a-b` before `a.c`
+--     resource f
+--     domain a.c
+--       associate f
+--     domain a-b
+--       associate f
+--     domain a
+--       associate f
+--   => T a; T a-b; T a.c; T f; R a.f 0 f,resource -; E a 00 f; R a-b.f 0 f,resource -; E a-b 00 f; R a.c.f 0 f,resource -; E
+--      a.c 00 f
+abbrev hyphen_types : List ℕ
+hyphen_types = hex 44 0x1060b08d84b5882c616643932b9b7bab931b291cd95b19820190000040800488180080048818000004881800
+
+abbrev hyphen_types-schedule : Case
+hyphen_types-schedule = accepts hyphen_types schedule 40 1536 38 0x080001004080c000c00018481a0800800030080c240d0400404018020406120682002010200c
+
+hyphen_types-schedule-comes-out : ComesOut hyphen_types-schedule
+unfolding run
+hyphen_types-schedule-comes-out = refl
+
+-- P.r by the names of P, where a class, a chain and an extension have such names too
+--     domain a
+--       associate d-b.f-1
+--     domain a-
+--       associate d.f-1
+--     domain a-b.c : a-
+--     domain a0 : a
+--     domain t : a0 a-b.c a a-
+--     resource d.f-1
+--       mark derive 1
+--     resource d-b.f-1
+--       mark derive 2
+--     extend t f-1 : a.c a-b a
+--   => T a; T a-; T d-b.f-1; T d.f-1; … 12 lines; E t 00 f-1
+abbrev hyphen_parents : List ℕ
+hyphen_parents = hex 86 0x10b0b08984b46c25ac4261300b185906c85ac43662d3143932b9b7bab931b291cd95b1982e81c00002441e0c004002441e0a00a08020200060100000a020180a080001000583a001808341d000c0810a039804100800
+
+abbrev hyphen_parents-schedule : Case
+hyphen_parents-schedule = accepts hyphen_parents schedule 88 1536 86 0x0e00010341c160e050403050002800070a06074200302800070081c28141d0800c060201c0504070a0107420030181410070181c28001d0800c0a0601c14072200078041f02040780c1d088001102400050181428038
+
+hyphen_parents-schedule-comes-out : ComesOut hyphen_parents-schedule
+unfolding run
+hyphen_parents-schedule-comes-out = refl
+
 -- as many own resources of one word as there can be, by ascending class name
 --     resource f
 --     resource a.f
@@ -1934,6 +2172,60 @@ failed_parent-schedule = diagnoses failed_parent schedule 2 1536 9 1 false (hex 
 failed_parent-schedule-comes-out : ComesOut failed_parent-schedule
 unfolding run
 failed_parent-schedule-comes-out = refl
+
+-- types are tried in name order: `a-b` before `a.c`
+--     domain a.c
+--       associate zz
+--     domain a-b
+--       associate zz
+--     domain a
+--       associate zz
+--   => refused 9; D 4 a zz zz; D 4 a-b zz zz; D 4 a.c zz zz
+abbrev hyphen_tried : List ℕ
+hyphen_tried = hex 42 0x1060b08d84b5882c687265736f75726365239b2b63309e9e818040800488280080048828000004882800
+
+abbrev hyphen_tried-schedule : Case
+hyphen_tried-schedule = diagnoses hyphen_tried schedule 2 1536 9 3 false (hex 18 0x0400ff05ff050401ff05ff0504000205ff05)
+
+hyphen_tried-schedule-comes-out : ComesOut hyphen_tried-schedule
+unfolding run
+hyphen_tried-schedule-comes-out = refl
+
+-- unknown classes go by doms, `a` before `a-b`
+--     domain p
+--       nest a-b.f
+--     domain q
+--       nest a.f
+--     domain t : p q
+--   => refused 9; D 4 t a.f f; D 4 t a-b.f f
+abbrev hyphen_unknown : List ℕ
+hyphen_unknown = hex 46 0x1080b08d84b5882cc1700b8a1c995cdbdd5c98d948e6cad8cc174060600142050100800142050000e02030200000
+
+abbrev hyphen_unknown-schedule : Case
+hyphen_unknown-schedule = diagnoses hyphen_unknown schedule 2 1536 9 2 false (hex 12 0x0407ff0002020407ff010202)
+
+hyphen_unknown-schedule-comes-out : ComesOut hyphen_unknown-schedule
+unfolding run
+hyphen_unknown-schedule-comes-out = refl
+
+-- the first class that does not fit goes by doms too
+--     domain a.f
+--     domain a-b.f
+--     domain p
+--       nest a-b.f
+--     domain q
+--       nest a.f
+--     domain t : p q
+--   => refused 9; D 5 t a.f f
+abbrev hyphen_no_resource : List ℕ
+hyphen_no_resource = hex 54 0x1080b08d84b5882cc1700b8a1c995cdbdd5c98d948e6cad8cc1740a01020000030200000600142050100800142050000e02030200000
+
+abbrev hyphen_no_resource-schedule : Case
+hyphen_no_resource-schedule = diagnoses hyphen_no_resource schedule 2 1536 9 1 false (hex 6 0x0507ff000202)
+
+hyphen_no_resource-schedule-comes-out : ComesOut hyphen_no_resource-schedule
+unfolding run
+hyphen_no_resource-schedule-comes-out = refl
 
 -- listed again, the parent passes everything
 --     resource f
@@ -2236,24 +2528,27 @@ cases =
     ∷ limit64_short-order ∷ limit64-schedule ∷ limit1-schedule ∷ limit1-order ∷ rows63-order ∷ rows64-schedule ∷ rows64-order ∷
     rows65-schedule ∷ rows65-order ∷ limit1_nine-schedule ∷ word_byte-order ∷ word_byte_missing-order ∷ word_bytes-order ∷
     word_byte47-order ∷ word_byte58-order ∷ word_byte64-order ∷ word_byte91-order ∷ word_byte94-order ∷ word_byte96-order ∷
-    word_byte123-order ∷ empty_word-order ∷ long_word-order ∷ words1-order ∷ words200-order ∷ words201-order ∷
-    types64_missing-order ∷ extensions32-order ∷ extensions33-order ∷ word_number-order ∷ variant3-order ∷ kind7-order ∷
-    annotations13-order ∷ annotations12-order ∷ marks7-order ∷ nest_in_two_words-order ∷ associate_in_two_words-order ∷
-    no_resources-schedule ∷ no_resources-order ∷ no_extension_parent-order ∷ every_kind-order ∷ no_self-order ∷ no_resource-order ∷
-    word_twice-order ∷ prefix_first-order ∷ fill-order ∷ more_bytes-order ∷ two_words_twice-order ∷ key_twice-order ∷
-    keys_differ-order ∷ word_twice_in_associate-order ∷ word_twice_in_nest-order ∷ equal_sets-order ∷ empty_sets-order ∷
-    unequal_sets-order ∷ inherit_twice-order ∷ inherits_differ-order ∷ derive_twice-order ∷ alias_twice-order ∷ makelist_twice-order
-    ∷ no_derive_twice-order ∷ tags_differ-order ∷ against_names-order ∷ next_round-order ∷ one_word_first-order ∷ longest_chain-order
-    ∷ self_twice-order ∷ self_waiting-order ∷ self_declared-order ∷ self_replaced-order ∷ self_in_two_words-order ∷
-    first_bad_parent-order ∷ repeated_parent-order ∷ through_path-order ∷ placed_parent-order ∷ rows256-schedule ∷ rows256-order ∷
-    rows257-schedule ∷ rows257-order ∷ two_doms-schedule ∷ far_doms-schedule ∷ united_doms-schedule ∷ own_doms-schedule ∷
-    direct_parents-schedule ∷ own_sorted-schedule ∷ own_before_inherited-schedule ∷ words_and_doms-schedule ∷ twelve_own-schedule ∷
-    items_by_name-schedule ∷ virtual-schedule ∷ repeated_marks-schedule ∷ other_kinds-schedule ∷ extensions-schedule ∷
-    three_words-schedule ∷ own_class-schedule ∷ nest_alone-schedule ∷ nest_unknown-schedule ∷ nest_and_own-schedule ∷
-    failed_parent-schedule ∷ listed_again-schedule ∷ fails_through-schedule ∷ row_unrefused-schedule ∷ unknown_ends-schedule ∷
-    after5-schedule ∷ after5_unknown-schedule ∷ after6_unknown-schedule ∷ not6_where5-schedule ∷ first_no_resource-schedule ∷
-    other_variant-schedule ∷ word_lists-schedule ∷ dedup_order-schedule ∷ dedup_turned-schedule ∷ identical_own-schedule ∷
-    identical_above-schedule ∷ marks_differ-schedule ∷ declared_name-schedule ∷ []
+    word_byte123-order ∷ word_bytes_behind-order ∷ word_byte44_behind-order ∷ word_byte46_behind-order ∷ hyphen_first-order ∷
+    hyphen_second-order ∷ hyphen_leads-order ∷ hyphen_alone-order ∷ hyphen_last-order ∷ empty_word-order ∷ long_word-order ∷
+    words1-order ∷ words200-order ∷ words201-order ∷ types64_missing-order ∷ extensions32-order ∷ extensions33-order ∷
+    word_number-order ∷ variant3-order ∷ kind7-order ∷ annotations13-order ∷ annotations12-order ∷ marks7-order ∷
+    nest_in_two_words-order ∷ associate_in_two_words-order ∷ no_resources-schedule ∷ no_resources-order ∷ no_extension_parent-order ∷
+    every_kind-order ∷ no_self-order ∷ no_resource-order ∷ word_twice-order ∷ prefix_first-order ∷ fill-order ∷ more_bytes-order ∷
+    two_words_twice-order ∷ key_twice-order ∷ keys_differ-order ∷ word_twice_in_associate-order ∷ word_twice_in_nest-order ∷
+    equal_sets-order ∷ empty_sets-order ∷ unequal_sets-order ∷ inherit_twice-order ∷ inherits_differ-order ∷ derive_twice-order ∷
+    alias_twice-order ∷ makelist_twice-order ∷ no_derive_twice-order ∷ tags_differ-order ∷ against_names-order ∷ next_round-order ∷
+    one_word_first-order ∷ hyphen_before_dot-order ∷ hyphen_within_round-order ∷ hyphen_self-order ∷ hyphen_waiting-order ∷
+    longest_chain-order ∷ self_twice-order ∷ self_waiting-order ∷ self_declared-order ∷ self_replaced-order ∷ self_in_two_words-order
+    ∷ first_bad_parent-order ∷ repeated_parent-order ∷ through_path-order ∷ placed_parent-order ∷ rows256-schedule ∷ rows256-order
+    ∷ rows257-schedule ∷ rows257-order ∷ two_doms-schedule ∷ far_doms-schedule ∷ united_doms-schedule ∷ own_doms-schedule ∷
+    direct_parents-schedule ∷ own_sorted-schedule ∷ own_before_inherited-schedule ∷ words_and_doms-schedule ∷ three_orders-schedule ∷
+    hyphen_types-schedule ∷ hyphen_parents-schedule ∷ twelve_own-schedule ∷ items_by_name-schedule ∷ virtual-schedule ∷
+    repeated_marks-schedule ∷ other_kinds-schedule ∷ extensions-schedule ∷ three_words-schedule ∷ own_class-schedule ∷
+    nest_alone-schedule ∷ nest_unknown-schedule ∷ nest_and_own-schedule ∷ failed_parent-schedule ∷ hyphen_tried-schedule ∷
+    hyphen_unknown-schedule ∷ hyphen_no_resource-schedule ∷ listed_again-schedule ∷ fails_through-schedule ∷ row_unrefused-schedule
+    ∷ unknown_ends-schedule ∷ after5-schedule ∷ after5_unknown-schedule ∷ after6_unknown-schedule ∷ not6_where5-schedule ∷
+    first_no_resource-schedule ∷ other_variant-schedule ∷ word_lists-schedule ∷ dedup_order-schedule ∷ dedup_turned-schedule ∷
+    identical_own-schedule ∷ identical_above-schedule ∷ marks_differ-schedule ∷ declared_name-schedule ∷ []
 
 pub hold : AllComeOut cases
 hold =
@@ -2275,31 +2570,37 @@ hold =
     word_byte-order-comes-out also word_byte_missing-order-comes-out also word_bytes-order-comes-out also
     word_byte47-order-comes-out also word_byte58-order-comes-out also word_byte64-order-comes-out also word_byte91-order-comes-out
     also word_byte94-order-comes-out also word_byte96-order-comes-out also word_byte123-order-comes-out also
-    empty_word-order-comes-out also long_word-order-comes-out also words1-order-comes-out also words200-order-comes-out also
-    words201-order-comes-out also types64_missing-order-comes-out also extensions32-order-comes-out also
-    extensions33-order-comes-out also word_number-order-comes-out also variant3-order-comes-out also kind7-order-comes-out also
-    annotations13-order-comes-out also annotations12-order-comes-out also marks7-order-comes-out also
-    nest_in_two_words-order-comes-out also associate_in_two_words-order-comes-out also no_resources-schedule-comes-out also
-    no_resources-order-comes-out also no_extension_parent-order-comes-out also every_kind-order-comes-out also
-    no_self-order-comes-out also no_resource-order-comes-out also word_twice-order-comes-out also prefix_first-order-comes-out
-    also fill-order-comes-out also more_bytes-order-comes-out also two_words_twice-order-comes-out also key_twice-order-comes-out
-    also keys_differ-order-comes-out also word_twice_in_associate-order-comes-out also word_twice_in_nest-order-comes-out also
-    equal_sets-order-comes-out also empty_sets-order-comes-out also unequal_sets-order-comes-out also
-    inherit_twice-order-comes-out also inherits_differ-order-comes-out also derive_twice-order-comes-out also
-    alias_twice-order-comes-out also makelist_twice-order-comes-out also no_derive_twice-order-comes-out also
-    tags_differ-order-comes-out also against_names-order-comes-out also next_round-order-comes-out also
-    one_word_first-order-comes-out also longest_chain-order-comes-out also self_twice-order-comes-out also
+    word_bytes_behind-order-comes-out also word_byte44_behind-order-comes-out also word_byte46_behind-order-comes-out also
+    hyphen_first-order-comes-out also hyphen_second-order-comes-out also hyphen_leads-order-comes-out also
+    hyphen_alone-order-comes-out also hyphen_last-order-comes-out also empty_word-order-comes-out also long_word-order-comes-out
+    also words1-order-comes-out also words200-order-comes-out also words201-order-comes-out also
+    types64_missing-order-comes-out also extensions32-order-comes-out also extensions33-order-comes-out also
+    word_number-order-comes-out also variant3-order-comes-out also kind7-order-comes-out also annotations13-order-comes-out
+    also annotations12-order-comes-out also marks7-order-comes-out also nest_in_two_words-order-comes-out also
+    associate_in_two_words-order-comes-out also no_resources-schedule-comes-out also no_resources-order-comes-out also
+    no_extension_parent-order-comes-out also every_kind-order-comes-out also no_self-order-comes-out also
+    no_resource-order-comes-out also word_twice-order-comes-out also prefix_first-order-comes-out also fill-order-comes-out also
+    more_bytes-order-comes-out also two_words_twice-order-comes-out also key_twice-order-comes-out also keys_differ-order-comes-out
+    also word_twice_in_associate-order-comes-out also word_twice_in_nest-order-comes-out also equal_sets-order-comes-out also
+    empty_sets-order-comes-out also unequal_sets-order-comes-out also inherit_twice-order-comes-out also
+    inherits_differ-order-comes-out also derive_twice-order-comes-out also alias_twice-order-comes-out also
+    makelist_twice-order-comes-out also no_derive_twice-order-comes-out also tags_differ-order-comes-out also
+    against_names-order-comes-out also next_round-order-comes-out also one_word_first-order-comes-out also
+    hyphen_before_dot-order-comes-out also hyphen_within_round-order-comes-out also hyphen_self-order-comes-out also
+    hyphen_waiting-order-comes-out also longest_chain-order-comes-out also self_twice-order-comes-out also
     self_waiting-order-comes-out also self_declared-order-comes-out also self_replaced-order-comes-out also
     self_in_two_words-order-comes-out also first_bad_parent-order-comes-out also repeated_parent-order-comes-out also
     through_path-order-comes-out also placed_parent-order-comes-out also rows256-schedule-comes-out also rows256-order-comes-out
     also rows257-schedule-comes-out also rows257-order-comes-out also two_doms-schedule-comes-out also
     far_doms-schedule-comes-out also united_doms-schedule-comes-out also own_doms-schedule-comes-out also
     direct_parents-schedule-comes-out also own_sorted-schedule-comes-out also own_before_inherited-schedule-comes-out also
-    words_and_doms-schedule-comes-out also twelve_own-schedule-comes-out also items_by_name-schedule-comes-out also
+    words_and_doms-schedule-comes-out also three_orders-schedule-comes-out also hyphen_types-schedule-comes-out also
+    hyphen_parents-schedule-comes-out also twelve_own-schedule-comes-out also items_by_name-schedule-comes-out also
     virtual-schedule-comes-out also repeated_marks-schedule-comes-out also other_kinds-schedule-comes-out also
     extensions-schedule-comes-out also three_words-schedule-comes-out also own_class-schedule-comes-out also
     nest_alone-schedule-comes-out also nest_unknown-schedule-comes-out also nest_and_own-schedule-comes-out also
-    failed_parent-schedule-comes-out also listed_again-schedule-comes-out also fails_through-schedule-comes-out also
+    failed_parent-schedule-comes-out also hyphen_tried-schedule-comes-out also hyphen_unknown-schedule-comes-out also
+    hyphen_no_resource-schedule-comes-out also listed_again-schedule-comes-out also fails_through-schedule-comes-out also
     row_unrefused-schedule-comes-out also unknown_ends-schedule-comes-out also after5-schedule-comes-out also
     after5_unknown-schedule-comes-out also after6_unknown-schedule-comes-out also not6_where5-schedule-comes-out also
     first_no_resource-schedule-comes-out also other_variant-schedule-comes-out also word_lists-schedule-comes-out also

@@ -50,3 +50,23 @@ module _ (types : List TypeInfo) (extensions : List Extension) where
 -- a list of names before its extensions
 shorter-first : NamesBefore words ((3 ∷ []) ∷ []) ((3 ∷ []) ∷ (0 ∷ []) ∷ [])
 shorter-first = inr (refl, tt)
+
+-- the words `a`, `a-b`, `c`, `f`, and any map over them
+abbrev hyphens : List (List ℕ)
+hyphens = (97 ∷ []) ∷ (97 ∷ 45 ∷ 98 ∷ []) ∷ (99 ∷ []) ∷ (102 ∷ []) ∷ []
+
+module _ (types : List TypeInfo) (extensions : List Extension) where
+  abbrev h : Sheet
+  h = record { words = hyphens; types = types; extensions = extensions }
+
+  -- types by their spelling: `a-b` before `a.c`, though the word `a` goes before the word `a-b`
+  by-spelling : ItemBefore h (line (1 ∷ []) 3) (made (0 ∷ 2 ∷ []) 3 [])
+  unfolding name_before bytes_before
+  by-spelling = ItemBefore.type refl
+
+  -- own resources so too: `a-b.f` before `a.f`
+  parents-by-spelling : (ps qs : List Name) → PartOf h (made (2 ∷ []) 3 ((1 ∷ 3 ∷ []) ∷ ps)) Part.own
+      → PartOf h (made (2 ∷ []) 3 ((0 ∷ 3 ∷ []) ∷ qs)) Part.own
+      → ItemBefore h (made (2 ∷ []) 3 ((1 ∷ 3 ∷ []) ∷ ps)) (made (2 ∷ []) 3 ((0 ∷ 3 ∷ []) ∷ qs))
+  unfolding name_before bytes_before
+  parents-by-spelling ps qs f g = ItemBefore.parents refl refl f g (inl refl)

@@ -4,7 +4,7 @@ use Rattle.lists.specs.Lists.{insert, sort, include, set_of}
 use Rattle.definitions.specs.Bits.{odd, to_bits, bits_of, num, pack_to, pack}
 use Rattle.definitions.specs.Parse.{field_onto, allowed, repeat_onto, counted}
 use Rattle.definitions.specs.Comparisons.{name_before, dom_before, words_before, bytes_before, look_up}
-use Rattle.definitions.specs.Reading.{is_word_byte, word, word_field, word_if_flag, name, associated, associated_list, kinds}
+use Rattle.definitions.specs.Reading.{is_first_byte, is_word_byte, word, word_field, word_if_flag, name, associated, associated_list, kinds}
 use Rattle.definitions.specs.Reading.{annotation, mark, variant, type_info, extension, sheet}
 use Rattle.definitions.specs.Checks.{bad_fill, bad_words, names_twice, keys_twice, words_twice, same_annotation}
 use Rattle.definitions.specs.Checks.{annotations_twice, something_twice}
@@ -75,7 +75,7 @@ expected c = record {
 -- The outcome, computed: who unfolds this unfolds every definition.
 unfoldable pub run : Case → Outcome
 unfolding insert sort include set_of odd to_bits bits_of num pack_to pack field_onto allowed repeat_onto counted name_before
-    dom_before words_before bytes_before look_up is_word_byte word word_field word_if_flag name associated associated_list kinds
+    dom_before words_before bytes_before look_up is_first_byte is_word_byte word word_field word_if_flag name associated associated_list kinds
     annotation mark variant type_info extension sheet bad_fill bad_words names_twice keys_twice words_twice same_annotation
     annotations_twice something_twice number_of type_map_of line_type_of line_map_of is_self ready pass passes last_pass
     inherits_self has_order organize_type_map self_rows is_bad bad_row find_cycles_or_bad_types no_parent_rows order_rows

@@ -27,6 +27,11 @@ bytes_before a b = list_before a b
 abbrev pub dot : ℕ
 dot = 46
 
+-- The byte of the hyphen, which is below the dot: a name whose word goes on with a hyphen stands before one whose word ends there
+-- with a dot (FORMAT 1.1, 1.4).
+abbrev pub hyphen : ℕ
+hyphen = 45
+
 -- How a name is spelled, given the words: their bytes with the dot between them (FORMAT 1.4).
 abbrev pub spelled : List (List ℕ) → Name → List ℕ
 spelled ws [] = []

@@ -3,7 +3,7 @@ use Rattle.std.specs.Prelude.{true, List, [], ◌∷◌, map, ◌↔◌, ◌≡�
 use Rattle.lists.specs.Lists.{In, Sorted}
 use Rattle.definitions.specs.Records.{Name, Resource, make_list, associate, nest_associate, alias, inherit, derive}
 use Rattle.definitions.specs.Records.{no_derive, Annotation, Mark, makelist_mark, derive_mark, TypeInfo, Extension, Sheet}
-use Rattle.definitions.specs.Comparisons.{bytes_before}
+use Rattle.definitions.specs.Comparisons.{bytes_before, hyphen}
 use Rattle.definitions.specs.Checks.{resource_bytes, self_bytes, resources_of}
 
 -- P of each element.
@@ -19,16 +19,22 @@ pub record Counted {A : Type 0} (least most : ℕ) (P : A → Type 0) (l : List 
 
 -- ---- fields
 
--- A byte of a word (FORMAT 1.1).
-pub data LegalByte (b : ℕ) : Type 0 where
-  upper : 65 ≤ b → b ≤ 90 → LegalByte b
-  lower : 97 ≤ b → b ≤ 122 → LegalByte b
-  digit : 48 ≤ b → b ≤ 57 → LegalByte b
-  underscore : b ≡ 95 → LegalByte b
+-- A byte that a word may begin with (FORMAT 1.1).
+pub data LegalFirst (b : ℕ) : Type 0 where
+  upper : 65 ≤ b → b ≤ 90 → LegalFirst b
+  lower : 97 ≤ b → b ≤ 122 → LegalFirst b
+  digit : 48 ≤ b → b ≤ 57 → LegalFirst b
+  underscore : b ≡ 95 → LegalFirst b
 
--- A word: 1 to 31 such bytes (FORMAT 1.1).
+-- A byte of a word behind its first: such a one, or the hyphen (FORMAT 1.1).
+pub data LegalByte (b : ℕ) : Type 0 where
+  begins : LegalFirst b → LegalByte b
+  joins : b ≡ hyphen → LegalByte b
+
+-- A word: a byte that it may begin with, and at most 30 more (FORMAT 1.1).
 abbrev pub LegalWord : List ℕ → Type 0
-LegalWord w = Counted 1 31 LegalByte w
+LegalWord [] = ⊥
+LegalWord (b ∷ w) = LegalFirst b × Counted 0 30 LegalByte w
 
 -- No word, or one whose number is below W (FORMAT 2.5).
 abbrev pub LegalWordIfAny : ℕ → List ℕ → Type 0

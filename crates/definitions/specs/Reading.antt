@@ -1,17 +1,26 @@
 -- Reading a sheet, bit by bit: each construct is a parser. The first field with a fault ends the reading (FORMAT 2).
-use Rattle.std.specs.Prelude.{Bool, ◌&&◌, ◌||◌, List, [], ◌∷◌, ℕ, eqb, ltb, leb, length, get_or}
+use Rattle.std.specs.Prelude.{Bool, ◌&&◌, ◌||◌, List, [], ◌∷◌, ℕ, ◌-◌, eqb, ltb, leb, length, get_or}
 use Rattle.definitions.specs.Records.{Name, Resource, make_list, associate, nest_associate, alias, inherit, derive}
 use Rattle.definitions.specs.Records.{no_derive, Annotation, Variant, domain, resource, other, Mark, makelist_mark}
 use Rattle.definitions.specs.Records.{derive_mark, TypeInfo, Extension, Sheet}
-use Rattle.definitions.specs.Parse.{not_allowed, Parser, ◌>>=◌, pure, refuse, choose, field, allowed, flag, counted}
+use Rattle.definitions.specs.Comparisons.{hyphen}
+use Rattle.definitions.specs.Parse.{not_allowed, Parser, ◌>>=◌, pure, refuse, choose, field, allowed, between, flag, repeat, counted}
 
--- Whether a byte may stand in a word: A-Z, a-z, 0-9, `_` (FORMAT 1.1).
+-- Whether a word may begin with a byte: A-Z, a-z, 0-9, `_` (FORMAT 1.1).
+unfoldable pub is_first_byte : ℕ → Bool
+is_first_byte b = (leb 65 b && leb b 90) || ((leb 97 b && leb b 122) || ((leb 48 b && leb b 57) || eqb b 95))
+
+-- Whether a byte may stand in a word behind its first: these, and the hyphen (FORMAT 1.1).
 unfoldable pub is_word_byte : ℕ → Bool
-is_word_byte b = (leb 65 b && leb b 90) || ((leb 97 b && leb b 122) || ((leb 48 b && leb b 57) || eqb b 95))
+is_word_byte b = is_first_byte b || eqb b hyphen
 
 -- An entry of the word list: its length, then its bytes, each a field of its own (FORMAT 2.4).
 unfoldable pub word : Parser (List ℕ)
-word = counted 5 1 31 (allowed 8 is_word_byte)
+word = do
+  n ← between 5 1 31
+  b ← allowed 8 is_first_byte
+  bs ← repeat (allowed 8 is_word_byte) (n - 1)
+  pure (b ∷ bs)
 
 -- The number of a word, below W (FORMAT 2.5).
 unfoldable pub word_field : ℕ → Parser ℕ

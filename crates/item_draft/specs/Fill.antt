@@ -1,14 +1,14 @@
 -- What the filling asks, and what it answers.
 use Rattle.std.specs.Prelude.{Bool, true, false, ◌||◌, not, List, map, ◌≡◌, ℕ, ◌/◌, ◌%◌, ◌≤◌, ◌<◌, eqb, length, get_or, take}
 use Rattle.std.specs.Int.Bits.{bit_and}
-use Rattle.lists.specs.Lists.{any, sort}
+use Rattle.lists.specs.Lists.{Sorted, any, sort, list_before}
 use Rattle.lists.specs.Tabulating.{tabulate}
 use Rattle.bounded.specs.Items.{items_of}
 use Rattle.rows.specs.Rows.{has_bit}
 use Rattle.definitions.specs.Records.{Sheet, TypeInfo}
 use Rattle.definitions.specs.Records as records
 use Rattle.definitions.specs.Comparisons.{name_before, elem_name}
-use Rattle.definitions.specs.Map.{TypeMap, type_map_of}
+use Rattle.definitions.specs.Map.{TypeMap, LineType, type_map_of}
 use Rattle.law_lines.specs.Statements.{Readable, line_map}
 use Rattle.law_lines.specs.Within.{Within}
 use Rattle.order_form.specs.Lists.{elem, below}
@@ -39,7 +39,7 @@ by_name ws T U = name_before ws T.name U.name
 -- The draft of a sheet, with its rows in name order, as the decoder leaves it (FORMAT 1.4, 2.6).
 pub record Drawn (s : Sheet) (bs : List Bool) (d : Draft) (entries : List Entry) (n : ℕ) : Type 0 where
   pub drafted : Drafted s bs d n
-  pub entered : Entered d entries n
+  pub entered : Entered s.words d entries n
   pub sorted : map (λ e. type_in (length s.words) bs d e.row) (take n entries) ≡ sort (by_name s.words) (types_in (length s.words) bs d n)
   pub read : (i : ℕ) → i < n → DoneAt (notes (length s.words) (eqb (key_at d i % 256) 0)) bs (place_at d i)
   pub within : Within s
@@ -65,7 +65,7 @@ unfoldable pub record_in : Catalogue → ℕ → records.Extension
 record_in t e = record { name = name_of_key (extension_key_at t e / 256); word = extension_key_at t e % 256; parents = parents_in t e }
 
 -- What stands in the catalogue and beside it when it is filled: names, parents, extension records, and an order in which parents
--- stand before their children (FORMAT 3.2).
+-- stand before their children (FORMAT 3.2). Without hyphens types ascend by word numbers (FORMAT 1.4).
 pub record Stands (s : Sheet) (bs : List Bool) (d : Draft) (entries : List Entry) (order : Order) (t : Catalogue) (k : Decoding) (o : Placing) : Type 0 where
   pub drawn : Drawn s bs d entries k.count
   pub wide : k.width ≡ length s.words
@@ -75,6 +75,7 @@ pub record Stands (s : Sheet) (bs : List Bool) (d : Draft) (entries : List Entry
   pub ordered : Ordered order.types.items order.types.count t.parents
   pub placed : (a : ℕ) → a < k.count → elem a (items_of order.types) ≡ true
   pub extensions : tabulate (record_in t) k.extensions ≡ s.extensions
+  pub numbered : k.hyphens ≡ false → Sorted (λ (P Q : LineType). list_before P.name Q.name ≡ true) (line_map s).types
 
 -- There is such a sheet.
 pub record Fillable (bs : List Bool) (d : Draft) (entries : List Entry) (order : Order) (t : Catalogue) (k : Decoding) (o : Placing) : Type 0 where

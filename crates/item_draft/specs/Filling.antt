@@ -62,6 +62,7 @@ numbered k o resources extended t = record t {
   resources = resources;
   childed = o.childed;
   width = k.width;
+  hyphens = k.hyphens;
 }
 
 -- The catalogue from part to part.
@@ -240,6 +241,7 @@ module _ (bs : List Bool) (d : Draft) (entries : List Entry) (order : Order) (k 
       none_fits = none-fits s (firsts_of entries) (seconds_of entries) t4 nm names_in;
       second = second_is_lem s (firsts_of entries) (seconds_of entries) t4 nm names_in;
       second_fits = second_fits s (firsts_of entries) (seconds_of entries) t4 nm names_in;
+      numbered = λ e. hs.numbered (sym (ap (λ (x : Catalogue). x.hyphens) is_whole) ∙ e);
     }
 
     -- ---- parents

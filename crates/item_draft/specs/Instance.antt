@@ -103,7 +103,9 @@ single-within = record {
 }
 
 word-within : (w : List ℕ) → all (ltb dot) w ≡ true → 1 ≤ length w → WordWithin w
-word-within w e h = record { filled = h; above = λ b i. ltb-true dot b (all_in (ltb dot) e i) }
+word-within w e h =
+    let over : (b : ℕ) → In b w → dot < b = λ b i. ltb-true dot b (all_in (ltb dot) e i) in
+    record { filled = h; least = λ b i. omega (arith, over b i); no_dot = λ b i q. omega (arith, over b i) }
 
 small-words : (w : List ℕ) → In w small.words → WordWithin w
 small-words w i =
@@ -134,8 +136,8 @@ types-drafted : types_in 2 small_bits small_draft 2 ≡ small.types
 unfolding types_in type_in tabulate notes_at notes name_of_key bits_of to_bits odd counted allowed repeat_onto field_onto annotation kinds associated_list associated word_field word_if_flag mark
 types-drafted = refl
 
-entries_sorted : take 2 small_entries ≡ sort entry_before (entries_of small_draft 2)
-unfolding entries_of tabulate sort insert
+entries_sorted : take 2 small_entries ≡ sort (entry_before small.words) (entries_of small_draft 2)
+unfolding entries_of tabulate sort insert name_before bytes_before name_of_key
 entries_sorted = refl
 
 pair_read : DoneAt (notes 2 false) small_bits 0

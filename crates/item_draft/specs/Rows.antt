@@ -105,13 +105,13 @@ module _ (s : Sheet) (bs : List Bool) (d : Draft) (entries : List Entry) (n : �
 
   -- the row of an entry, and its key
   pub row_below : (a : ℕ) → a < n → row_in entries a < n
-  row_below = row-below d entries n few w.entered
+  row_below = row-below s.words d entries n few w.entered
 
   pub rows-there : RowsThere entries n
   rows-there a h = omega (arith, row_below a h, few)
 
   pub key-is : (a : ℕ) → a < n → key_in entries a ≡ key_at d (row_in entries a)
-  key-is = key-of-row d entries n few w.entered
+  key-is = key-of-row s.words d entries n few w.entered
 
   pub name-at : (a : ℕ) → a < n → (type_at m a).name ≡ name_of_key (key_in entries a)
   unfolding line_type_of type_in

@@ -1,5 +1,5 @@
 -- What was put into the catalogue before the filling stands there when it is filled; and keys are looked up right.
-use Rattle.std.specs.Prelude.{Bool, ◌&&◌, List, [], ◌≡◌, ℕ, ◌/◌, ◌%◌, ◌^◌, ◌<◌, ltb, length, get_or}
+use Rattle.std.specs.Prelude.{Bool, ◌&&◌, List, ◌≡◌, ℕ, ◌/◌, ◌%◌, ◌^◌, ◌<◌, ltb, length, get_or}
 use Rattle.std.proofs.Math.Path.{sym, ap, ap₂}
 use Rattle.std.proofs.Common.{refl, ◌∙◌, subst, arith, eq-eqb, eqb-true, le-ltb}
 use Rattle.std.specs.Int.Bits.{bit_and}

@@ -1,18 +1,22 @@
 -- The same map where it is filled: what stands in the catalogue then is no empty demand either.
-use Rattle.std.specs.Prelude.{Bool, true, false, List, ◌∷◌, ◌≡◌, refl, ℕ, zero, suc, ◌+◌, ◌/◌, ◌≤◌, ◌<◌, eqb, length, get_or, take, set, replicate}
+use Rattle.std.specs.Prelude.{Bool, true, false, List, ◌∷◌, map, ◌≡◌, refl, ℕ, zero, suc, ◌+◌, ◌/◌, ◌≤◌, ◌<◌, eqb, length, get_or, take, set, replicate}
 use Rattle.std.proofs.Common.{sym, ap, ◌∙◌, subst, arith, ne_eqb, eqb-true, le-ltb, length-set}
 use Rattle.std.proofs.lemmas.Bool.{eqb-false}
 use Rattle.std.proofs.lemmas.List.{length-replicate}
 use Rattle.std.specs.Int.Count.{count_trailing_zeros}
-use Rattle.lists.specs.Lists.{any, insert, sort}
+use Rattle.lists.specs.Lists.{Sorted, any, insert, sort, list_before}
+use Rattle.lists.specs.Members.{map-sorted}
+use Rattle.lists.specs.Lexicographic.{list-strict}
+use Rattle.lists.specs.Sorting.{ascends-sorted}
 use Rattle.lists.specs.Tests.{by, never}
 use Rattle.lists.specs.Places.{zero-at}
 use Rattle.lists.specs.Tabulating.{tabulate}
 use Rattle.rows.specs.Rows.{has_bit}
 use Rattle.rows.specs.RowLaws.{bit-one, bit-none}
-use Rattle.definitions.specs.Records.{TypeInfo}
+use Rattle.definitions.specs.Records.{Name, TypeInfo}
 use Rattle.definitions.specs.Comparisons.{name_before, bytes_before, elem_name}
-use Rattle.definitions.specs.Map.{number_of, type_map_of}
+use Rattle.definitions.specs.Map.{LineType, number_of, type_map_of, line_type_of, line_map_of}
+use Rattle.law_lines.specs.Statements.{line_map}
 use Rattle.order_form.specs.Lists.{elem}
 use Rattle.order_form.specs.Reading.{type_at}
 use Rattle.item_spread.specs.Spread.{Ordered}
@@ -121,7 +125,7 @@ small_table = record blank {
 }
 
 pub small_known : Decoding
-small_known = record { width = 2; count = 2; extensions = 0; resource = 0; own = 1 }
+small_known = record { width = 2; count = 2; extensions = 0; resource = 0; own = 1; hyphens = false }
 
 pub small_placing : Placing
 small_placing = record { words = 2; childed = 1 }
@@ -238,6 +242,13 @@ resource-number : 0 ≡ (type_map_of small).resource
 unfolding type_map_of number_of
 resource-number = refl
 
+-- its types ascend by word numbers
+small-numbered : Sorted (λ (P Q : LineType). list_before P.name Q.name ≡ true) (line_map small).types
+unfolding line_map_of line_type_of type_map_of sort insert name_before bytes_before
+small-numbered =
+    map-sorted (λ (a b : Name). list_before a b ≡ true) (λ (D : LineType). D.name) (line_map small).types
+    (ascends-sorted list-strict (map (λ (D : LineType). D.name) (line_map small).types) refl)
+
 pub small-stands : Stands small small_bits small_draft small_entries small_order small_table small_known small_placing
 unfolding small_known small_placing tabulate
 small-stands = record {
@@ -249,6 +260,7 @@ small-stands = record {
   ordered = order-right;
   placed = below_two (λ a. elem a (take 2 small_places) ≡ true) refl refl;
   extensions = refl;
+  numbered = λ e. small-numbered;
 }
 
 pub small-fillable : Fillable small_bits small_draft small_entries small_order small_table small_known small_placing

@@ -83,6 +83,7 @@ pub fn fill(t: &mut Catalogue, s: &[u8], x: ByName, order: &Order, o: Placing) -
     t.resources = resources;
     t.childed = o.childed;
     t.width = n.width;
+    t.hyphens = n.hyphens;
     let mut given = [0u64; 64];
     let lost = put_notes(t, s, x, &mut given);
     item_sets::spread(t, &given, order);

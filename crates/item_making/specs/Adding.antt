@@ -7,8 +7,10 @@ use Rattle.item_pen.specs.declared.Pen.{Pen}
 use Rattle.item_pen.specs.Pen.{field_bits, Holds, RoomFor, Adds}
 use Rattle.item_pen.specs.PenLaws.{adds-as, adds_then, room_as, room-head, room-tail, Pending, pending-room, pending-less, pending-none}
 use Rattle.bitsets.specs.Bitsets.{Lowest, Rest}
-use Rattle.item_making.specs.Making.{each_of}
-use Rattle.item_making.specs.Walks.{each_next, each_none}
+use Rattle.catalogue.specs.declared.Catalogue.{Catalogue}
+use Rattle.catalogue.specs.ByDom.{but, FirstByDom}
+use Rattle.item_making.specs.Making.{each_of, each_by}
+use Rattle.item_making.specs.Walks.{each_next, each_none, each_by-next, each_by-none}
 
 -- ---- a field, and the rest
 
@@ -40,3 +42,15 @@ module _ (g : ℕ → List Bool) {P Q : Pen} {n : ℕ} {bs : List Bool} {left : 
 
   pub walk-end : left ≡ 0 → Pending P n bs Q 0 (each_of g left) → Adds P Q n bs
   walk-end e p = pending-none refl (each_none g left e) p
+
+-- ---- a walk over classes by dom
+
+module _ (t : Catalogue) (g : ℕ → List Bool) {P Q : Pen} {n : ℕ} {bs : List Bool} {left : ℕ} where
+  pub dom-room : {k : ℕ} → FirstByDom t left k → Pending P n bs Q 0 (each_by t g left) → RoomFor P n bs → RoomFor Q 0 (g k)
+  dom-room {k} f p w = pending-room 0 0 (g k) (each_by t g (but left k)) (each_by-next t g left k f) refl p w
+
+  pub dom-less : {k : ℕ} {R : Pen} → FirstByDom t left k → Pending P n bs Q 0 (each_by t g left) → Adds Q R 0 (g k) → Pending P n bs R 0 (each_by t g (but left k))
+  dom-less {k} f p w = pending-less 0 0 (g k) (each_by t g (but left k)) (each_by-next t g left k f) refl p w
+
+  pub dom-end : left ≡ 0 → Pending P n bs Q 0 (each_by t g left) → Adds P Q n bs
+  dom-end e p = pending-none refl (each_by-none t g left e) p

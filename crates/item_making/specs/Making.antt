@@ -11,6 +11,7 @@ use Rattle.rows.specs.Rows.{has_bit}
 use Rattle.bitsets.specs.Bitsets.{members, Rest}
 use Rattle.catalogue.specs.Layout.{key_at, head_at, marks_at, mark_width, mark_count, extension_count_at, second_at}
 use Rattle.catalogue.specs.Catalogue.{name_of_key, virtual_head, parents_in}
+use Rattle.catalogue.specs.ByDom.{by_dom}
 use Rattle.catalogue.specs.declared.Catalogue.{Catalogue}
 use Rattle.item_fields.specs.Fields.{line_bits}
 use Rattle.item_making.specs.declared.Item.{Item}
@@ -24,12 +25,16 @@ use Rattle.item_making.specs.declared.Gathered.{Gathered}
 unfoldable pub each_of : (ℕ → List Bool) → ℕ → List Bool
 each_of g x = each g (members x)
 
+-- What is made of each class of a set, the classes by dom.
+unfoldable pub each_by : Catalogue → (ℕ → List Bool) → ℕ → List Bool
+each_by t g x = each g (by_dom t x)
+
 -- The sum of what each place counts.
 abbrev pub total : (ℕ → ℕ) → List ℕ → ℕ
 total f [] = 0
 total f (x ∷ l) = f x + total f l
 
--- The classes of a set that have one word, and the others; no dom goes before the doms (FORMAT 1.6).
+-- The classes of a set that have one word, and the others; no dom goes before the doms, and these ascend (FORMAT 1.6).
 abbrev pub ones : Catalogue → ℕ → ℕ
 ones t x = bit_and x (second_at t 0)
 
@@ -37,7 +42,7 @@ abbrev pub others : Catalogue → ℕ → ℕ
 others t x = bit_xor x (ones t x)
 
 unfoldable pub classes_of : Catalogue → ℕ → List ℕ
-classes_of t x = members (ones t x) ++ members (others t x)
+classes_of t x = by_dom t (ones t x) ++ by_dom t (others t x)
 
 -- ---- parents
 

@@ -1,6 +1,7 @@
 -- Laws of what is made, as the code counts and adds it.
 use Rattle.std.proofs.Math.Bool.{Bool, and-true, and-false, and_assoc}
 use Rattle.std.specs.Prelude.{true, false, ◌&&◌, not, ◌≡◌, refl, eqb, ltb, length, drop}
+use mathlib.Core.List.Permᴰ
 use mathlib.Core.List.{List, [], ◌∷◌, ◌++◌, map, append_assoc, append-nil}
 use Rattle.std.proofs.Math.Path.{sym, ap, ap₂}
 use Rattle.std.proofs.Common.{◌∙◌, eq-eqb, ne_eqb, eqb-true, length-append}
@@ -9,7 +10,8 @@ use native.Mathlib.Omega.{arith}
 use Rattle.std.specs.Int.Bits.{bit_and, bit_xor}
 use Rattle.std.proofs.lemmas.List.{length-map}
 use Rattle.lists.specs.Lists.{all, each}
-use Rattle.lists.specs.Tests.{by, never, and_left}
+use Rattle.lists.specs.Tests.{by, never, and_left, all_same}
+use Rattle.lists.specs.Sorting.{perm_in}
 use Rattle.lists.specs.Appending.{each_append, each_map, each-each, all_append}
 use Rattle.lists.specs.Tabulating.{length-tabulate}
 use Rattle.definitions.specs.Bits.{odd, to_bits}
@@ -23,6 +25,8 @@ use Rattle.rows.specs.Rows.{has_bit}
 use Rattle.rows.specs.RowLaws.{bit-without, bit-none}
 use Rattle.catalogue.specs.Layout.{key_at, head_at, packed_at, marks_at, mark_width, mark_count, extension_count_at, extension_parent_at, second_at}
 use Rattle.catalogue.specs.Catalogue.{name_of_key, virtual_head, parents_in}
+use Rattle.catalogue.specs.ByDom.{by_dom}
+use Rattle.catalogue.specs.DomLaws.{by_dom-perm, by_dom-one, by_dom-empty}
 use Rattle.bitsets.specs.Bitsets.{members, Lowest, Rest}
 use Rattle.bitsets.specs.BitLaws.{bit-both, members-of, members-next, members-none}
 use Rattle.item_pen.specs.declared.field.Field.{Field}
@@ -32,8 +36,8 @@ use Rattle.item_heads.specs.declared.packed.Packed.{Packed}
 use Rattle.catalogue.specs.declared.Catalogue.{Catalogue}
 use Rattle.item_making.specs.declared.Making.{Making}
 use Rattle.item_making.specs.declared.Gathered.{Gathered}
-use Rattle.item_making.specs.Making.{each_of, total, ones, others, classes_of, name_in, first_in, Recorded, added, parents_of, first_bits, record_bits, others_bits, parents_bits, marks_bits, marks_in, all_virtual, all_marks_bits, GathersAll, making_bits, made_bits, behind_bits, Alone, tail_bits}
-use Rattle.item_making.specs.Walks.{members_most, each_next, each_none, total_next, total_none, total-append, total-most, total-each, from_next, from_end}
+use Rattle.item_making.specs.Making.{each_of, each_by, total, ones, others, classes_of, name_in, first_in, Recorded, added, parents_of, first_bits, record_bits, others_bits, parents_bits, marks_bits, marks_in, all_virtual, all_marks_bits, GathersAll, making_bits, made_bits, behind_bits, Alone, tail_bits}
+use Rattle.item_making.specs.Walks.{members_most, each_next, each_none, total_next, total_none, total-append, total-perm, total-most, total-each, from_next, from_end}
 
 -- ---- records
 
@@ -155,13 +159,28 @@ unfolding parent_bits
 resource-bits t = ap (λ (l : List Bool). to_bits 2 1 ++ l) (sym (append-nil (to_bits 8 t.resource)))
 
 pub mark-bits-both : (t : Catalogue) (classes marks : ℕ)
-    → to_bits 9 marks ++ (each_of (marks_bits t) (ones t classes) ++ each_of (marks_bits t) (others t classes)) ≡ all_marks_bits t marks classes
-unfolding all_marks_bits each_of classes_of
-mark-bits-both t classes marks = ap (λ (l : List Bool). to_bits 9 marks ++ l) (sym (each_append (marks_bits t) (members (ones t classes)) (members (others t classes))))
+    → to_bits 9 marks ++ (each_by t (marks_bits t) (ones t classes) ++ each_by t (marks_bits t) (others t classes)) ≡ all_marks_bits t marks classes
+unfolding all_marks_bits each_by classes_of
+mark-bits-both t classes marks = ap (λ (l : List Bool). to_bits 9 marks ++ l) (sym (each_append (marks_bits t) (by_dom t (ones t classes)) (by_dom t (others t classes))))
+
+-- by dom or by place the marks are as many, the bits as many, and the same classes virtual
+marks_by : (t : Catalogue) (x : ℕ) → marks_in t (by_dom t x) ≡ marks_in t (members x)
+unfolding marks_in
+marks_by t x = sym (total-perm (mark_count t) (by_dom-perm t x))
+
+virtual_by : (t : Catalogue) (x : ℕ) → all_virtual t (by_dom t x) ≡ all_virtual t (members x)
+unfolding all_virtual
+virtual_by t x = all_same (λ c. virtual_head (head_at t c)) (by_dom t x) (members x) (λ c. (perm_in (Permᴰ.symm (by_dom-perm t x)), perm_in (by_dom-perm t x)))
+
+long-by : (t : Catalogue) (g : ℕ → List Bool) (x : ℕ) → length (each_by t g x) ≡ length (each_of g x)
+unfolding each_by each_of
+long-by t g x = total-each g (by_dom t x) ∙ sym (total-perm (λ c. length (g c)) (by_dom-perm t x)) ∙ sym (total-each g (members x))
 
 pub marks_both : (t : Catalogue) (classes : ℕ) → marks_in t (classes_of t classes) ≡ marks_in t (members (ones t classes)) + marks_in t (members (others t classes))
 unfolding marks_in classes_of
-marks_both t classes = total-append (mark_count t) (members (ones t classes)) (members (others t classes))
+marks_both t classes =
+    total-append (mark_count t) (by_dom t (ones t classes)) (by_dom t (others t classes))
+    ∙ ap₂ (λ (a b : ℕ). a + b) (marks_by t (ones t classes)) (marks_by t (others t classes))
 
 pub flag_both : (t : Catalogue) (a classes : ℕ)
     → (virtual_head (head_at t a) && all_virtual t (classes_of t classes))
@@ -169,7 +188,9 @@ pub flag_both : (t : Catalogue) (a classes : ℕ)
 unfolding all_virtual virtual_head odd classes_of
 flag_both t a classes =
     let v : ℕ → Bool = λ c. odd (head_at t c / 32) in
-    ap (λ b. v a && b) (all_append v (members (ones t classes)) (members (others t classes))) ∙ sym (and_assoc (v a) (all v (members (ones t classes))) (all v (members (others t classes))))
+    ap (λ b. v a && b)
+    (all_append v (by_dom t (ones t classes)) (by_dom t (others t classes)) ∙ ap₂ (λ b c. b && c) (virtual_by t (ones t classes)) (virtual_by t (others t classes)))
+    ∙ sym (and_assoc (v a) (all v (members (ones t classes))) (all v (members (others t classes))))
 
 pub made-parts : (t : Catalogue) (a : ℕ) (m : Making) (count : ℕ) (g : Gathered) → count ≡ length (parents_of t m) → GathersAll t a m.classes g →
     head_bits (key_at t a) m.word g.flag count ++ (parents_bits t m ++ all_marks_bits t g.marks m.classes) ≡ made_bits t a m
@@ -282,14 +303,16 @@ made_long t a m z =
     let v = virtual_head (head_at t a) && all_virtual t (classes_of t m.classes) in
     let C = to_bits 5 (length (parents_of t m)) in
     let K = to_bits 9 (marks_in t (classes_of t m.classes)) in
-    let A = each_of (marks_bits t) (ones t m.classes) in
-    let B = each_of (marks_bits t) (others t m.classes) in
+    let A = each_by t (marks_bits t) (ones t m.classes) in
+    let B = each_by t (marks_bits t) (others t m.classes) in
     let q : length (all_marks_bits t 0 m.classes) ≡ 9 + (length A + length B) =
     sym (ap length (mark-bits-both t m.classes 0)) ∙ omega (arith, length-append (to_bits 9 0) (A ++ B), length-to_bits 9 0, length-append A B) in
     omega (
       arith,
       p,
       q,
+      long-by t (marks_bits t) (ones t m.classes),
+      long-by t (marks_bits t) (others t m.classes),
       length-append N (W ++ (v ∷ (C ++ P) ++ (K ++ M))),
       length-append W (v ∷ (C ++ P) ++ (K ++ M)),
       length-append (C ++ P) (K ++ M),
@@ -316,13 +339,13 @@ classes-alone t x c h is =
     by (has_bit S c)
     (λ e.
     ap₂ (λ (a b : List ℕ). a ++ b)
-    (below-same (has_bit (bit_and x S)) (λ j. eqb c j) 64 (λ j l. in-it j ∙ at true j e ∙ and-true (eqb c j)) ∙ below_one 64 c h)
-    (below_none (has_bit (bit_xor x (bit_and x S))) 64 (λ j l. out j ∙ by (eqb c j) (λ q. rw q (ap (λ k. not (has_bit S k)) (sym (eqb-true c j q)) ∙ ap not e)) (λ q. rw q))))
+    (by_dom-one t (bit_and x S) c (below-same (has_bit (bit_and x S)) (λ j. eqb c j) 64 (λ j l. in-it j ∙ at true j e ∙ and-true (eqb c j)) ∙ below_one 64 c h))
+    (by_dom-empty t (bit_xor x (bit_and x S)) (below_none (has_bit (bit_xor x (bit_and x S))) 64 (λ j l. out j ∙ by (eqb c j) (λ q. rw q (ap (λ k. not (has_bit S k)) (sym (eqb-true c j q)) ∙ ap not e)) (λ q. rw q)))))
     (λ e.
     ap₂ (λ (a b : List ℕ). a ++ b)
-    (below_none (has_bit (bit_and x S)) 64 (λ j l. in-it j ∙ at false j e ∙ and-false (eqb c j)))
-    (below-same (has_bit (bit_xor x (bit_and x S))) (λ j. eqb c j) 64
-    (λ j l. out j ∙ by (eqb c j) (λ q. rw q (ap (λ k. not (has_bit S k)) (sym (eqb-true c j q)) ∙ ap not e)) (λ q. rw q)) ∙ below_one 64 c h))
+    (by_dom-empty t (bit_and x S) (below_none (has_bit (bit_and x S)) 64 (λ j l. in-it j ∙ at false j e ∙ and-false (eqb c j))))
+    (by_dom-one t (bit_xor x (bit_and x S)) c (below-same (has_bit (bit_xor x (bit_and x S))) (λ j. eqb c j) 64
+    (λ j l. out j ∙ by (eqb c j) (λ q. rw q (ap (λ k. not (has_bit S k)) (sym (eqb-true c j q)) ∙ ap not e)) (λ q. rw q)) ∙ below_one 64 c h)))
 
 -- nothing is left behind the lowest of it
 pub alone-is : (x c : ℕ) → Lowest x c → Rest x 0 → (j : ℕ) → has_bit x j ≡ eqb c j

@@ -1,6 +1,7 @@
 -- Counts over a set, and the walk over it: its lowest place, then the rest.
 use Rattle.std.specs.Prelude.{Bool, true, false, List, [], ◌∷◌, ◌++◌, ◌≡◌, refl, ℕ, zero, suc, ◌+◌, ◌*◌, ◌/◌, ◌%◌, ◌^◌, ◌≤◌, ◌<◌, length, drop}
 use mathlib.Core.List.Memᴰ
+use mathlib.Core.List.{Permᴰ}
 use Rattle.std.proofs.Common.{sym, ap, ap₂, ◌∙◌, mul-suc, pow-suc, arith, eq-eqb, ne_eqb, length-append}
 use Rattle.std.proofs.Math.Decide.{dec_lt}
 use Rattle.std.specs.Int.Count as counting
@@ -11,7 +12,10 @@ use Rattle.order_form.specs.Lists.{only, below, below-most}
 use Rattle.rows.specs.Rows.{has_bit}
 use Rattle.bitsets.specs.Bitsets.{members, Lowest, Rest}
 use Rattle.bitsets.specs.BitLaws.{members-next, members-none}
-use Rattle.item_making.specs.Making.{each_of, total}
+use Rattle.catalogue.specs.declared.Catalogue.{Catalogue}
+use Rattle.catalogue.specs.ByDom.{but, FirstByDom}
+use Rattle.catalogue.specs.DomLaws.{by_dom-next, by_dom-none, by_dom-plain}
+use Rattle.item_making.specs.Making.{each_of, each_by, total}
 
 -- how many a set has is how many of its bits are set
 only-long : (b : Bool) (x y : ℕ) → length (only b x) ≡ length (only b y)
@@ -62,6 +66,19 @@ pub each_none : (g : ℕ → List Bool) (left : ℕ) → left ≡ 0 → each_of 
 unfolding each_of
 each_none g left e = ap (each g) (members-none left e)
 
+-- of the classes by dom
+pub each_by-next : (t : Catalogue) (g : ℕ → List Bool) (left k : ℕ) → FirstByDom t left k → each_by t g left ≡ g k ++ each_by t g (but left k)
+unfolding each_by
+each_by-next t g left k f = ap (each g) (by_dom-next t left k f)
+
+pub each_by-none : (t : Catalogue) (g : ℕ → List Bool) (left : ℕ) → left ≡ 0 → each_by t g left ≡ []
+unfolding each_by
+each_by-none t g left e = ap (each g) (by_dom-none t left e)
+
+pub each_by-plain : (t : Catalogue) (g : ℕ → List Bool) (set : ℕ) → t.hyphens ≡ false → each_by t g set ≡ each_of g set
+unfolding each_by each_of
+each_by-plain t g set e = ap (each g) (by_dom-plain t set e)
+
 -- what each counts
 pub total_next : (f : ℕ → ℕ) (left k r : ℕ) → Lowest left k → Rest left r → total f (members left) ≡ f k + total f (members r)
 total_next f left k r w t = ap (total f) (members-next left k r w t)
@@ -81,6 +98,13 @@ total-most f m (x ∷ l) h = rw (mul-suc m (length l)) (omega (arith, h x (Mem�
 pub total-same : (f g : ℕ → ℕ) (l : List ℕ) → ((x : ℕ) → In x l → f x ≡ g x) → total f l ≡ total g l
 total-same f g [] h = refl
 total-same f g (x ∷ l) h = ap₂ (λ (a b : ℕ). a + b) (h x (Memᴰ.head refl)) (total-same f g l (λ y i. h y (Memᴰ.tail i)))
+
+-- whatever the order
+pub total-perm : (f : ℕ → ℕ) {l k : List ℕ} → Permᴰ l k → total f l ≡ total f k
+total-perm f Permᴰ.nil = refl
+total-perm f (Permᴰ.cons e p) = ap₂ (λ (a b : ℕ). a + b) (ap f e) (total-perm f p)
+total-perm f (Permᴰ.swap {l = l} e g) = omega (arith, ap f e, ap f g)
+total-perm f (Permᴰ.trans p q) = total-perm f p ∙ total-perm f q
 
 -- as many as there are
 pub total-each : {A : Type 0} (g : ℕ → List A) (l : List ℕ) → length (each g l) ≡ total (λ x. length (g x)) l

@@ -11,7 +11,7 @@ ghost use Rattle.bitsets.specs.Bitsets.{members};
 ghost use Rattle.item_pen.specs.Pen.{field_bits, Holds, RoomFor, Adds};
 ghost use Rattle.item_pen.specs.SoFar.{Grows};
 ghost use Rattle.item_fields.specs.Fields.{line_bits};
-ghost use Rattle.item_making.specs.Making.{each_of, classes_of, marks_in, Recorded, added, record_bits, first_bits, marks_bits, Gathers};
+ghost use Rattle.item_making.specs.Making.{each_of, each_by, classes_of, marks_in, Recorded, added, record_bits, first_bits, marks_bits, Gathers};
 ghost use Rattle.item_making.specs.Making.{Listable, item_in, all_marks_bits, GathersAll, parents_of, made_bits, others_bits, behind_bits, tail_bits, Alone};
 
 use catalogue::Catalogue;
@@ -123,8 +123,7 @@ fn add_record(pen: &mut Pen<'_>, t: &Catalogue, e: usize)
     }
 }
 
-// The parents of some records. This loop and that of `add_classes` stay apart: a closure for both would hold the pen, whose bytes
-// and place it would owe at each turn.
+// The parents of some records.
 fn add_records(pen: &mut Pen<'_>, t: &Catalogue, records: u64)
     requires recorded { Recorded t.now records }
     requires room_for { RoomFor pen.old 0 (each_of (record_bits t.now) records) }
@@ -168,11 +167,28 @@ fn add_class(pen: &mut Pen<'_>, t: &Catalogue, c: usize)
     pen.add(item_pen::number(32, marks.bits));
 }
 
-// The marks of the classes of a set (FORMAT 4.7).
-fn add_classes(pen: &mut Pen<'_>, t: &Catalogue, set: u64)
-    requires { RoomFor pen.old 0 (each_of (marks_bits t.now) set) }
-    ensures { Adds pen.old pen.new 0 (each_of (marks_bits t.now) set) }
+// The marks of the classes of a set, the first by dom each time.
+fn add_by_dom(pen: &mut Pen<'_>, t: &Catalogue, set: u64)
+    requires { RoomFor pen.old 0 (each_by t.now (marks_bits t.now) set) }
+    ensures { Adds pen.old pen.new 0 (each_by t.now (marks_bits t.now) set) }
 {
+    let mut left = set;
+    while left != 0 {
+        let c = t.first_by_dom(left);
+        add_class(pen, t, c);
+        left = bitsets::without(left, bitsets::with_one(0, c));
+    }
+}
+
+// The marks of the classes of a set, by dom (FORMAT 4.4, 4.7). Without hyphens their places are in that order.
+fn add_classes(pen: &mut Pen<'_>, t: &Catalogue, set: u64)
+    requires { RoomFor pen.old 0 (each_by t.now (marks_bits t.now) set) }
+    ensures { Adds pen.old pen.new 0 (each_by t.now (marks_bits t.now) set) }
+{
+    if t.hyphens {
+        add_by_dom(pen, t, set);
+        return;
+    }
     for c in bitsets::members(set) {
         add_class(pen, t, c);
     }

@@ -1,8 +1,12 @@
 -- Two sheets with their catalogues: what the answer asks is no empty demand, and the test by numbers decides both.
-use Rattle.std.specs.Prelude.{Bool, true, false, List, [], ◌∷◌, ◌≡◌, refl, ℕ, zero, suc, ◌+◌, ◌^◌, ◌<◌, ◌≤◌, eqb, replicate}
+use Rattle.std.specs.Prelude.{Bool, true, false, List, [], ◌∷◌, map, ◌≡◌, refl, ℕ, zero, suc, ◌+◌, ◌^◌, ◌<◌, ◌≤◌, eqb, replicate}
 use Rattle.std.proofs.Common.{sym, ◌∙◌, subst, eqb-true, arith}
 use Rattle.std.proofs.lemmas.Bool.{eqb-false}
-use Rattle.lists.specs.Tests.{by}
+use Rattle.lists.specs.Lists.{list_before}
+use Rattle.lists.specs.Tests.{by, never}
+use Rattle.lists.specs.Members.{map-sorted}
+use Rattle.lists.specs.Lexicographic.{list-strict}
+use Rattle.lists.specs.Sorting.{ascends-sorted}
 use Rattle.lists.specs.Tabulating.{tabulate}
 use Rattle.definitions.specs.Records.{Name, associate, Annotation, makelist_mark, Mark, Variant, domain, resource, TypeInfo, Sheet}
 use Rattle.definitions.specs.Comparisons.{same_name, dotted}
@@ -77,6 +81,7 @@ crossed_table = record {
   resources = 6;
   childed = 1;
   width = 6;
+  hyphens = false;
 }
 
 -- the bits of a set, and a number without others
@@ -157,6 +162,9 @@ crossed-listed = record {
     crossed-set (second_at crossed_table 6) (λ (D : LineType). second_is 5 D.name) ((((tt, refl), refl), refl), refl),
   );
   second_fits = each_at (λ w. Fits (line_map crossed) (second_at crossed_table (1 + w))) 6 ((((((tt, crossed-fits _ (omega arith)), crossed-fits _ (omega arith)), crossed-fits _ (omega arith)), crossed-fits _ (omega arith)), crossed-fits _ (omega arith)), crossed-fits _ (omega arith));
+  numbered = λ e.
+      map-sorted (λ (a b : Name). list_before a b ≡ true) (λ (D : LineType). D.name) (line_map crossed).types
+      (ascends-sorted list-strict (map (λ (D : LineType). D.name) (line_map crossed).types) refl);
 }
 
 crossed-worded : Worded crossed crossed_table
@@ -317,6 +325,7 @@ worked_table = record {
   resources = 6;
   childed = 4;
   width = 4;
+  hyphens = true;
 }
 
 -- the bits of a set, and a number without others
@@ -382,6 +391,7 @@ worked-listed = record {
     worked-set (second_at worked_table 4) (λ (D : LineType). second_is 3 D.name) (((tt, refl), refl), refl),
   );
   second_fits = each_at (λ w. Fits (line_map worked) (second_at worked_table (1 + w))) 4 ((((tt, worked-fits _ (omega arith)), worked-fits _ (omega arith)), worked-fits _ (omega arith)), worked-fits _ (omega arith));
+  numbered = λ e. never refl e;
 }
 
 worked-worded : Worded worked worked_table

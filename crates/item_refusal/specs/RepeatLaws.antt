@@ -11,16 +11,16 @@ use Rattle.std.proofs.Math.Dec.{eqb}
 use Rattle.lists.specs.Lists.{In, any, all, filter, each, same_list}
 use Rattle.lists.specs.Tests.{by, never, not_so, same_test, and_left, and_right, and_both, any-not, any_none, all_same, each_of, filter-of}
 use Rattle.lists.specs.Appending.{all_map, each-each, each_map, each_same}
-use Rattle.lists.specs.Places.{get_d-in, sorted-places}
+use Rattle.lists.specs.Places.{get_d-in}
 use Rattle.lists.specs.Lexicographic.{same_self, same_true}
 use Rattle.definitions.specs.Records.{Name, Mark, Sheet}
 use Rattle.definitions.specs.Bits.{to_bits}
 use Rattle.definitions.specs.Packing.{mark_bits}
-use Rattle.definitions.specs.Comparisons.{same_name, name_before, dotted}
+use Rattle.definitions.specs.Comparisons.{same_name, dotted}
 use Rattle.definitions.specs.Map.{LineType, LineMap, line_type_of}
 use Rattle.definitions.specs.Making.{same_mark}
 use Rattle.definitions.specs.Items.{parents_of}
-use Rattle.law_orders.specs.Comparisons.{name-strict, same-name, name-same}
+use Rattle.law_orders.specs.Comparisons.{same-name, name-same}
 use Rattle.law_lines.specs.Statements.{Readable, line_map}
 use Rattle.law_lines.specs.Declarations.{type-of}
 use Rattle.law_lines.specs.Within.{Within}
@@ -31,11 +31,15 @@ use Rattle.bitsets.specs.Bitsets.{members, more, less}
 use Rattle.bitsets.specs.BitLaws.{bit-both, bit-less, bit-more, members-of, in_members, below_of, in-below}
 use Rattle.law_classes.specs.Sets.{both, some, word_of, masked, own_set, above_set, passed_set, no_type, type_at, SetIs}
 use Rattle.law_classes.specs.Numbers.{place-of, Fits, fits_both, holds-both, holds-some}
-use Rattle.law_classes.specs.Walks.{some-walked, classes-walked, passing-walked}
+use Rattle.law_classes.specs.Walks.{some-walked, passing-walked}
 use Rattle.law_classes.proofs.ItemLaws.{plain_map}
+use Rattle.law_classes.proofs.ClassOrder
 use Rattle.law_classes.specs.Refusal.{firsts, identical, crosses}
 use Rattle.catalogue.specs.Layout.{packed_at, marks_at, mark_width, parents_at, own_at, above_at, passed_at, owner_at, second_at}
 use Rattle.catalogue.specs.Catalogue.{Catalogued}
+use Rattle.catalogue.specs.ByDom.{by_dom}
+use Rattle.catalogue.specs.DomLaws.{by_dom-of, in-by_dom}
+use Rattle.catalogue.specs.ClassOrder.{classes-by-dom}
 use Rattle.catalogue.specs.declared.Catalogue.{Catalogue}
 use Rattle.item_refusal.specs.Tests.{same_word, passes, passes_alone, is_virtual, same_virtual, same_marks, repeated, repeated_for, types_in, pairs_in}
 use Rattle.item_refusal.specs.TestLaws.{repeated-none}
@@ -45,16 +49,7 @@ use Rattle.item_refusal.specs.MarkLaws.{AllWithin, follow-is, follow-append}
 
 -- two places with one name are one place
 pub one_place : (s : Sheet) → Readable s → Within s → (p q : ℕ) → p < length (line_map s).types → q < length (line_map s).types → (type_at (line_map s) p).name ≡ (type_at (line_map s) q).name → p ≡ q
-one_place s ok within p q h i e =
-    let m = line_map s in
-    let N : LineType → LineType → Type 0 = λ P Q. name_before m.words P.name Q.name ≡ true in
-    let ascend = (plain_map s ok within).ascend in
-    by (ltb p q)
-    (λ l. never (sorted-places N m.types no_type ascend p q (ltb-true p q l) i) (rw e ((name-strict m.words).irreflexive (type_at m q).name)))
-    (λ l.
-    by (ltb q p)
-    (λ r. never (sorted-places N m.types no_type ascend q p (ltb-true q p r) h) (rw e ((name-strict m.words).irreflexive (type_at m q).name)))
-    (λ r. omega (arith, ltb-false p q l, ltb-false q p r)))
+one_place s ok within p q h i e = ClassOrder.one_place (line_map s) (plain_map s ok within) p q h i e
 
 module _ (s : Sheet) (ok : Readable s) (within : Within s) (t : Catalogue) (k : Catalogued s t) where
   abbrev m : LineMap
@@ -162,7 +157,7 @@ module _ (s : Sheet) (ok : Readable s) (within : Within s) (t : Catalogue) (k : 
 
     -- those of one word, then the others
     abbrev places : List ℕ
-    places = members (bit_and classes ones) ++ members (less classes ones)
+    places = by_dom t (bit_and classes ones) ++ by_dom t (less classes ones)
 
     class-lt : (x : ℕ) → has_bit classes x ≡ true → x < n
     class-lt x b = by (ltb x n) (λ l. ltb-true x n l) (λ l. never b (fits.within x (ltb-false x n l)))
@@ -173,17 +168,17 @@ module _ (s : Sheet) (ok : Readable s) (within : Within s) (t : Catalogue) (k : 
       λ i.
           ⊎_elim
           (λ j.
-          let b = members-of (bit_and classes ones) j in
+          let b = members-of (bit_and classes ones) (by_dom-of t (bit_and classes ones) j) in
           in_members classes b.0 (and_left (has_bit classes x) (has_bit ones x) (sym (bit-both classes ones x) ∙ b.1)))
           (λ j.
-          let b = members-of (less classes ones) j in
+          let b = members-of (less classes ones) (by_dom-of t (less classes ones) j) in
           in_members classes b.0 (and_left (has_bit classes x) (not (has_bit ones x)) (sym (bit-less classes ones x) ∙ b.1)))
-          (Memᴰ.append_cases (members (bit_and classes ones)) i),
+          (Memᴰ.append_cases (by_dom t (bit_and classes ones)) i),
       λ i.
           let b = members-of classes i in
           by (has_bit ones x)
-          (λ o. Memᴰ.append_left (members (less classes ones)) (in_members (bit_and classes ones) b.0 (bit-both classes ones x ∙ and_both b.1 o)))
-          (λ o. Memᴰ.append_right (members (bit_and classes ones)) (in_members (less classes ones) b.0 (bit-less classes ones x ∙ and_both b.1 (ap not o)))),
+          (λ o. Memᴰ.append_left (by_dom t (less classes ones)) (in-by_dom t (bit_and classes ones) (in_members (bit_and classes ones) b.0 (bit-both classes ones x ∙ and_both b.1 o))))
+          (λ o. Memᴰ.append_right (by_dom t (bit_and classes ones)) (in-by_dom t (less classes ones) (in_members (less classes ones) b.0 (bit-less classes ones x ∙ and_both b.1 (ap not o))))),
     )
 
     place-lt : (x : ℕ) → In x places → x < n
@@ -240,7 +235,7 @@ module _ (s : Sheet) (ok : Readable s) (within : Within s) (t : Catalogue) (k : 
         let y = each_of ms (map (type_at m) places) j in
         let z = Memᴰ.of_map (type_at m) places y.1 in
         marks-within y.0 (subst (λ D. In D m.types) z.2 (get_d-in m.types no_type z.0 (place-lt z.0 z.1))) x y.2))
-        ∙ ap (λ (x : ℕ). eqb x 0) (follow-append t marks (members (bit_and classes ones)) (members (less classes ones)) left)
+        ∙ ap (λ (x : ℕ). eqb x 0) (follow-append t marks (by_dom t (bit_and classes ones)) (by_dom t (less classes ones)) left)
 
   -- ---- one own class
 
@@ -281,7 +276,7 @@ module _ (s : Sheet) (ok : Readable s) (within : Within s) (t : Catalogue) (k : 
         let S = both (above_set m T) (masked r) in
         let set : SetIs m above S = holds-both m (above_at t a) word (above_set m T) (masked r) (k.sets a h).above w.is in
         let fits : Fits m above = fits_both m (above_at t a) word w.fits in
-        let cs = classes-walked m above (second_at t 0) S k.listed.few fits set k.listed.none in
+        let cs = classes-by-dom s (plain_map s ok within) t k.listed above r (above_set m T) fits set in
         let name : C.name ≡ dotted (type_at m p).name r = same-name C.name (dotted (type_at m p).name r) o in
         let first : same_list same_name (C.name ∷ []) (firsts m T r) ≡ passes_alone t (parents_at t a) p word =
         ap (λ (x : Name). same_list same_name (x ∷ []) (firsts m T r)) name ∙ alone-is a p r word h hp w in

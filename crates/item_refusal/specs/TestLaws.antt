@@ -3,9 +3,9 @@ use Rattle.std.specs.Prelude.{false, List, [], ◌∷◌, refl, ◌≡◌, ℕ, 
 use Rattle.std.proofs.Common.{sym, ap, ◌∙◌}
 use native.Mathlib.Omega.{arith}
 use borrow.Author.Tests.{eq-eqb, ne_eqb, lt-ltb, le-ltb}
-use Rattle.bitsets.specs.Bitsets.{members, Lowest, Rest}
-use Rattle.bitsets.specs.BitLaws.{members-next, members-none}
 use Rattle.catalogue.specs.Layout.{marks_at, mark_width, owner_at}
+use Rattle.catalogue.specs.ByDom.{by_dom, but, FirstByDom}
+use Rattle.catalogue.specs.DomLaws.{by_dom-next, by_dom-none}
 use Rattle.catalogue.specs.declared.Catalogue.{Catalogue}
 use Rattle.item_refusal.specs.Tests.{behind, follow, repeated}
 
@@ -36,16 +36,16 @@ follow_lost t marks left [] h = h
 follow_lost t marks left (e ∷ l) h = follow_lost t marks (behind marks left (marks_at t e) (mark_width t e)) l (sym (behind-parted marks left (marks_at t e) (mark_width t e) (omega arith)))
 
 -- one class more, and none
-pub follow_next : (t : Catalogue) (marks left set e r out : ℕ) → Lowest set e → Rest set r → out ≡ behind marks left (marks_at t e) (mark_width t e) → follow t marks left (members set) ≡ follow t marks out (members r)
+pub follow_next : (t : Catalogue) (marks left set e out : ℕ) → FirstByDom t set e → out ≡ behind marks left (marks_at t e) (mark_width t e) → follow t marks left (by_dom t set) ≡ follow t marks out (by_dom t (but set e))
 unfolding follow
-follow_next t marks left set e r out l w o = ap (follow t marks left) (members-next set e r l w) ∙ ap (λ (x : ℕ). follow t marks x (members r)) (sym o)
+follow_next t marks left set e out f o = ap (follow t marks left) (by_dom-next t set e f) ∙ ap (λ (x : ℕ). follow t marks x (by_dom t (but set e))) (sym o)
 
-pub follow_stop : (t : Catalogue) (marks left set e r : ℕ) → Lowest set e → Rest set r → 64 ≡ behind marks left (marks_at t e) (mark_width t e) → follow t marks left (members set) ≡ 64
-follow_stop t marks left set e r l w o = follow_next t marks left set e r 64 l w o ∙ follow_lost t marks 64 (members r) refl
+pub follow_stop : (t : Catalogue) (marks left set e : ℕ) → FirstByDom t set e → 64 ≡ behind marks left (marks_at t e) (mark_width t e) → follow t marks left (by_dom t set) ≡ 64
+follow_stop t marks left set e f o = follow_next t marks left set e 64 f o ∙ follow_lost t marks 64 (by_dom t (but set e)) refl
 
-pub follow_end : (t : Catalogue) (marks left set : ℕ) → set ≡ 0 → follow t marks left (members set) ≡ left
+pub follow_end : (t : Catalogue) (marks left set : ℕ) → set ≡ 0 → follow t marks left (by_dom t set) ≡ left
 unfolding follow
-follow_end t marks left set e = ap (follow t marks left) (members-none set e)
+follow_end t marks left set e = ap (follow t marks left) (by_dom-none t set e)
 
 -- ---- an own making that stands again
 

@@ -11,6 +11,7 @@ use Rattle.bitsets.specs.Bitsets.{members, more, less, first_bits}
 use Rattle.law_classes.specs.Refusal.{lost_class, own_twice}
 use Rattle.catalogue.specs.Layout.{key_at, head_at, marks_at, mark_width, parents_at, own_at, above_at, passed_at, owner_at, first_at, second_at}
 use Rattle.catalogue.specs.Catalogue.{virtual_head, Catalogued}
+use Rattle.catalogue.specs.ByDom.{by_dom}
 use Rattle.catalogue.specs.declared.Catalogue.{Catalogue}
 
 -- The types whose last word is the second word of a type's name; none where the name has one word (FORMAT 4.2).
@@ -60,13 +61,13 @@ unfoldable pub follow : Catalogue → ℕ → ℕ → List ℕ → ℕ
 follow t marks left [] = left
 follow t marks left (e ∷ l) = follow t marks (behind marks left (marks_at t e) (mark_width t e)) l
 
--- Whether the marks of c are those of the classes in turn, that of one word first (FORMAT 4.4, 4.7).
+-- Whether the marks of c are those of the classes in turn, that of one word first, the others by dom (FORMAT 4.4, 4.7).
 unfoldable pub same_marks : Catalogue → ℕ → ℕ → Bool
 same_marks t c classes =
     eqb
     (follow t (marks_at t c)
-    (follow t (marks_at t c) (mark_width t c) (members (bit_and classes (second_at t 0))))
-    (members (less classes (second_at t 0))))
+    (follow t (marks_at t c) (mark_width t c) (by_dom t (bit_and classes (second_at t 0))))
+    (by_dom t (less classes (second_at t 0))))
     0
 
 -- Whether the type's making of its own class c stands again as the inherited one: c is P.r, and P is the only parent that

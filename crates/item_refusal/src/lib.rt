@@ -4,6 +4,7 @@
 ghost use Rattle.std.specs.Prelude.{◌≡◌, ◌<◌};
 ghost use Rattle.lists.specs.Lists.{any, all};
 ghost use Rattle.bitsets.specs.Bitsets.{members};
+ghost use Rattle.catalogue.specs.ByDom.{by_dom};
 ghost use Rattle.item_refusal.specs.Tests.{same_word, takes, passes, passes_alone, is_virtual, same_virtual, behind, follow};
 ghost use Rattle.item_refusal.specs.Tests.{same_marks, repeated, repeated_for, number_left, Decides};
 
@@ -105,15 +106,18 @@ fn bits_behind(marks: u64, left: u64, next: u64, width: u64) -> Option<u64>
     None
 }
 
-// The same behind the marks of the classes of a set in turn (FORMAT 4.7).
-#[tactic(auto, using(crate::specs::TestLaws::follow_next, crate::specs::TestLaws::follow_stop, crate::specs::TestLaws::follow_end))]
+// The same behind the marks of the classes of a set in turn, by dom (FORMAT 4.4, 4.7).
+#[tactic(auto, using(crate::specs::TestLaws::follow_next, crate::specs::TestLaws::follow_end))]
 fn marks_behind(t: &Catalogue, marks: u64, left: u64, classes: u64) -> Option<u64>
-    ensures { number_left result ≡ follow t.now marks left (members classes) }
+    ensures { number_left result ≡ follow t.now marks left (by_dom t.now classes) }
 {
     let mut rest = left;
-    for e in bitsets::members(classes) {
+    let mut places = classes;
+    while places != 0 {
+        let e = t.first_by_dom(places);
         let next = t.marks_of(e);
         rest = bits_behind(marks, rest, next.bits, next.width)?;
+        places = bitsets::without(places, bitsets::with_one(0, e));
     }
     Some(rest)
 }

@@ -144,7 +144,7 @@ orderly-of s t order n whole r w c a h o = record {
 module _ (s : Sheet) (t : Catalogue) (order : Order) (h : Orderly s t order) where
   -- the items are those of the map
   items-made : all_items t ≡ map item_bits (items_of (line_map s))
-  items-made = items-are s t h.within h.catalogued ∙ ap (map item_bits) (sym (items-by-sets s h.readable h.within h.accepted))
+  items-made = items-are s t h.readable h.within h.catalogued ∙ ap (map item_bits) (sym (items-by-sets s h.readable h.within h.accepted))
 
   items-joined : joined (all_items t) ≡ each item_bits (items_of (line_map s))
   items-joined = ap joined items-made ∙ each_map (λ (x : List Bool). x) item_bits (items_of (line_map s))
@@ -209,7 +209,7 @@ module _ (s : Sheet) (t : Catalogue) (order : Order) (h : Orderly s t order) whe
 
   passable : (down : Bool) (buf words : List ℕ) (k : ℕ) → WordsAre t words → (down ≡ true → size (length (bits_in t order k)) ≤ length buf) → Passable down buf t words order k
   passable down buf words k w f = record {
-    sound = sound s t h.within h.catalogued;
+    sound = sound s t h.readable h.within h.catalogued;
     noted = w;
     fits = λ d. omega (arith, f d);
     small = omega (arith, bits_most k);
@@ -225,7 +225,7 @@ module _ {t : Catalogue} {order : Order} (h : Schedulable t order) where
   pub readable_words : Sound t × Cleared (replicate 64 0)
   readable_words =
       let o = h.orderly in
-      (sound h.sheet t o.within o.catalogued, record { none = λ c j. ap (λ (x : ℕ). has_bit x j) (zero-at 64 c) ∙ bit-none j })
+      (sound h.sheet t o.readable o.within o.catalogued, record { none = λ c j. ap (λ (x : ℕ). has_bit x j) (zero-at 64 c) ∙ bit-none j })
 
   module _ {words : List ℕ} (w : WordsAre t words) where
     pub to_count : {buf : List ℕ} → Passable false buf t words order 0

@@ -8,7 +8,7 @@ use Rattle.std.proofs.Math.Path.{sym, ap, ap₂}
 use Rattle.std.proofs.Common.{◌∙◌, subst, arith}
 use Prim.Native.Nat.{ℕ, zero, suc, ◌<◌}
 use borrow.Author.Tests.{ltb-true, ltb-false}
-use Rattle.std.specs.Int.Bits.{bit_and, bit_or, bit_xor, xor_lt}
+use Rattle.std.specs.Int.Bits.{bit_and, bit_or, bit_xor}
 use Rattle.std.proofs.Math.ListN.{length}
 use Rattle.std.proofs.Math.Seq
 use Rattle.lists.specs.Lists.{In, all, filter, each}
@@ -22,19 +22,23 @@ use Rattle.definitions.specs.Comparisons.{dotted}
 use Rattle.definitions.specs.Map.{LineType, LineMap}
 use Rattle.definitions.specs.Making.{extension_parents, extension_line}
 use Rattle.definitions.specs.Items.{parents_of}
-use Rattle.law_lines.specs.Statements.{line_map}
+use Rattle.law_lines.specs.Statements.{Readable, line_map}
 use Rattle.law_lines.specs.Within.{Within}
 use Rattle.order_form.specs.Lists.{only, below, below-same, tab-get_d, filter-below, map_below}
 use Rattle.rows.specs.Rows.{has_bit}
 use Rattle.rows.specs.RowLaws.{bit-without}
-use Rattle.law_classes.specs.Sets.{Set, both, some, one_word, masked, own_set, above_set, passed_set, classes_in, making_of, own_making, inherited_making, set_items_at, made_set, set_items_for, set_items, no_type, type_at, SetIs}
+use Rattle.law_classes.specs.Sets.{Set, both, some, masked, own_set, above_set, passed_set, classes_in, making_of, own_making, inherited_making, set_items_at, made_set, set_items_for, set_items, no_type, type_at, SetIs}
 use Rattle.law_classes.specs.Numbers.{Fits, fits_both, holds-both, holds-either, holds-some}
 use Rattle.law_classes.specs.Walks.{filter-twice}
+use Rattle.law_classes.proofs.ItemLaws.{plain_map}
 use Rattle.catalogue.specs.Layout.{key_at, head_at, mark_count, parents_at, own_at, above_at, passed_at, word_at, mask_at, second_at}
 use Rattle.catalogue.specs.Catalogue.{virtual_head, trait_head, Entry, Catalogued}
+use Rattle.catalogue.specs.ByDom.{by_dom}
+use Rattle.catalogue.specs.DomLaws.{by_dom-of}
+use Rattle.catalogue.specs.ClassOrder.{classes-by-dom}
 use Rattle.catalogue.specs.declared.Catalogue.{Catalogue}
 use Rattle.item_fields.specs.Fields.{line_bits}
-use Rattle.bitsets.specs.Bitsets.{members}
+use Rattle.bitsets.specs.Bitsets.{members, less}
 use Rattle.bitsets.specs.BitLaws.{below_of, members-of, members-below}
 use Rattle.item_making.specs.Making.{name_in, classes_of, marks_bits, marks_in, all_virtual, making_bits}
 use Rattle.item_making.specs.Walks.{total-same, total-each}
@@ -55,7 +59,7 @@ filter-tabulate f h (suc n) =
     ∙ ap₂ (λ (a b : List ℕ). a ++ b) (filter-tabulate f h n) (by (f (h n)) (λ e. rw e) (λ e. rw e))
     ∙ sym (map-append h (below (λ k. f (h k)) n) (only (f (h n)) n))
 
-module _ (s : Sheet) (t : Catalogue) (within : Within s) (c : Catalogued s t) where
+module _ (s : Sheet) (t : Catalogue) (ok : Readable s) (within : Within s) (c : Catalogued s t) where
   abbrev m : LineMap
   m = line_map s
 
@@ -192,24 +196,12 @@ module _ (s : Sheet) (t : Catalogue) (within : Within s) (c : Catalogued s t) wh
           ∙ map-map item_bits (λ p. own_making m T r (type_at m p)) (members row)
           )
 
-      -- the classes of the inherited resource, no dom first
+      -- the classes of the inherited resource, by dom
       classes-are : map (type_at m) (classes_of t (bit_and (above_at t a) (mask_at t k))) ≡ classes_in m (both (above_set m T) (masked r))
-      unfolding classes_of classes_in
+      unfolding classes_of less
       classes-are =
           let x = bit_and (above_at t a) (mask_at t k) in
-          let S : Set = both (above_set m T) (masked r) in
-          let h : SetIs m x S = masked-is (above_at t a) (above_set m T) (c.sets a ha).above in
-          let f = masked-fits (above_at t a) in
-          let y = second_at t 0 in
-          let fits : Fits m (bit_xor x (bit_and x y)) =
-          record {
-            most = xor_lt 64 x (bit_and x y) f.most (fits_both m x y c.listed.none_fits).most;
-            within = λ q l. bit-without x y q ∙ ap (λ b. b && not (has_bit y q)) (f.within q l);
-          } in
-          map-append (type_at m) (members (bit_and x y)) (members (bit_xor x (bit_and x y)))
-          ∙ ap₂ (λ (p q : List LineType). p ++ q)
-          (sym (rows_are (bit_and x y) (both S (λ D. one_word D.name)) (fits_both m x y c.listed.none_fits) (holds-both m x y S (λ D. one_word D.name) h c.listed.none)))
-          (sym (rows_are (bit_xor x (bit_and x y)) (λ D. S D && not (one_word D.name)) fits (λ q l. bit-without x y q ∙ ap₂ (λ p b. p && not b) (h q l) (c.listed.none q l))))
+          sym (classes-by-dom s (plain_map s ok within) t c.listed x r (above_set m T) (masked-fits (above_at t a)) (masked-is (above_at t a) (above_set m T) (c.sets a ha).above))
 
       -- its first parents
       firsts-are : map (λ p. dotted (name_in t p) r) (passing_in t (parents_at t a) (mask_at t k))
@@ -239,12 +231,12 @@ module _ (s : Sheet) (t : Catalogue) (within : Within s) (c : Catalogued s t) wh
           let y = second_at t 0 in
           let f = masked-fits (above_at t a) in
           ⊎_elim
-          (λ j. member_below (bit_and x y) p (fits_both m x y c.listed.none_fits) j)
+          (λ j. member_below (bit_and x y) p (fits_both m x y c.listed.none_fits) (by_dom-of t (bit_and x y) j))
           (λ j.
           by (ltb p n)
           (λ l. ltb-true p n l)
-          (λ l. never (and_left (has_bit x p) _ (sym (bit-without x y p) ∙ (members-of (bit_xor x (bit_and x y)) j).1)) (f.within p (ltb-false p n l))))
-          (Memᴰ.append_cases (members (bit_and x y)) i)
+          (λ l. never (and_left (has_bit x p) _ (sym (bit-without x y p) ∙ (members-of (bit_xor x (bit_and x y)) (by_dom-of t (bit_xor x (bit_and x y)) j)).1)) (f.within p (ltb-false p n l))))
+          (Memᴰ.append_cases (by_dom t (bit_and x y)) i)
 
       inherited-is : inherited_bits t a r (mask_at t k) ≡ item_bits (inherited_making m T r)
       unfolding inherited_bits inherited_making

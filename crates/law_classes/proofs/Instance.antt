@@ -1,6 +1,14 @@
 -- Two sheets: what the laws ask is no empty demand, and the test by sets decides them.
-use Rattle.std.specs.Prelude.{true, false, List, [], ◌∷◌, ◌≡◌, refl, ℕ, zero, suc, ◌<◌, replicate}
+use Rattle.std.specs.Prelude.{true, false, List, [], ◌∷◌, map, ◌≡◌, refl, ℕ, zero, suc, ◌<◌, replicate}
 use Rattle.std.proofs.Common.{◌∙◌, arith}
+use mathlib.Core.List.Memᴰ
+use Rattle.lists.specs.Lists.{insert, sort}
+use Rattle.lists.specs.Tests.{cons-elim}
+use Rattle.lists.specs.Members.{map-sorted}
+use Rattle.lists.specs.Sorting.{ascends-sorted}
+use Rattle.definitions.specs.Comparisons.{name_before, dom_before, bytes_before}
+use Rattle.definitions.specs.Map.{LineType, LineMap}
+use Rattle.law_orders.specs.Comparisons.{name-strict}
 use Rattle.definitions.specs.Records.{Name, Resource, associate, nest_associate, Annotation, makelist_mark, derive_mark, Mark, domain, resource, TypeInfo, Sheet}
 use Rattle.definitions.specs.Bits.{bits_of}
 use Rattle.definitions.specs.Parse.{done}
@@ -11,8 +19,9 @@ use Rattle.definitions.specs.Cases.{hex, run}
 use Rattle.law_lines.specs.Statements.{Readable, line_map, any_refused}
 use Rattle.law_lines.specs.Reading.{read-is-within}
 use Rattle.law_lines.specs.Within.{Within}
-use Rattle.law_classes.specs.Sets.{named, own_set, given_set, above_set, passed_set, classes_in, made_set, set_items}
+use Rattle.law_classes.specs.Sets.{masked, named, own_set, given_set, above_set, passed_set, classes_in, made_set, set_items}
 use Rattle.law_classes.specs.Refusal.{unmet, has_child, lost_class, taken_name, own_twice, firsts, identical, crosses, set_refused}
+use Rattle.law_classes.proofs.SetLaws.{Plain}
 use Rattle.law_classes.proofs.RefusalLaws.{refused-by-sets}
 use Rattle.law_classes.proofs.ItemLaws.{items-by-sets}
 
@@ -93,6 +102,33 @@ crossed-sets = refl
 
 pub crossed-tested : any_refused (line_map crossed) ≡ true
 crossed-tested = refused-by-sets crossed crossed-readable crossed-within ∙ crossed-sets
+
+-- ---- words with hyphens: `f`, `a.f` and `a-b.f` are the classes of `f` in this order, while `a-b.f` goes before `a.f` by name
+-- (FORMAT 1.4, 1.6)
+
+abbrev class_type : Name → LineType
+class_type n = record { name = n; variant = resource; virtual = false; trait = false; inherits = λ p. false; annotations = []; marks = [] }
+
+abbrev hyphened : LineMap
+hyphened = record {
+  words = (97 ∷ []) ∷ (97 ∷ 45 ∷ 98 ∷ []) ∷ (102 ∷ []) ∷ resource_bytes ∷ self_bytes ∷ [];
+  resource = 3;
+  types = class_type (1 ∷ 2 ∷ []) ∷ class_type (0 ∷ 2 ∷ []) ∷ class_type (2 ∷ []) ∷ [];
+  extensions = [];
+}
+
+hyphened-plain : Plain hyphened
+unfolding name_before bytes_before
+hyphened-plain = record {
+  short = λ D i. cons-elim i (λ e. rw e refl) (λ j. cons-elim j (λ e. rw e refl) (λ k. cons-elim k (λ e. rw e refl) (λ l. absurd (Memᴰ.not-nil l))));
+  ascend =
+      map-sorted (λ (a b : Name). name_before hyphened.words a b ≡ true) (λ (D : LineType). D.name) hyphened.types
+      (ascends-sorted (name-strict hyphened.words) (map (λ (D : LineType). D.name) hyphened.types) refl);
+}
+
+hyphened-classes : map (λ (C : LineType). C.name) (classes_in hyphened (masked 2)) ≡ (2 ∷ []) ∷ (0 ∷ 2 ∷ []) ∷ (1 ∷ 2 ∷ []) ∷ []
+unfolding classes_in sort insert dom_before
+hyphened-classes = refl
 
 -- what holds at the four places
 pub four : (P : ℕ → Type 0) → P 0 → P 1 → P 2 → P 3 → (t : ℕ) → t < 4 → P t

@@ -5,7 +5,6 @@ use mathlib.Core.List.Memᴰ
 use mathlib.Core.List.Permᴰ
 use mathlib.Core.List.{List, [], ◌∷◌, ◌++◌, map, append-nil}
 use Rattle.std.proofs.Common.{inl, inr, ◌∙◌, subst, arith}
-use Rattle.std.proofs.Math.Logic.{⊎_elim}
 use Rattle.std.proofs.Math.Path.{refl, sym, ap, ap₂}
 use Rattle.std.proofs.Math.Dec.{eqb}
 use Rattle.lists.specs.Lists.{In, Sorted, any, all, null, keep, filter, each, repeats, sort}
@@ -15,20 +14,19 @@ use Rattle.lists.specs.Members.{sorted-map, map-sorted, sorted-left, sorted-righ
 use Rattle.lists.specs.Sorting.{Distinct, sorted-imp, perm-sorted, sort-perm, sort_sorted, sort-is, sorted-unique, sorted_filter}
 use Rattle.lists.specs.Strict.{asymmetric}
 use Rattle.definitions.specs.Records.{Name, Resource, TypeInfo, Sheet, Item}
-use Rattle.definitions.specs.Comparisons.{name_before, dotted}
+use Rattle.definitions.specs.Comparisons.{name_before, dom_before, dotted}
 use Rattle.definitions.specs.Map.{LineType, LineMap, line_type_of, type_map_of, line_map_of}
 use Rattle.definitions.specs.Making.{declared, is_resource, class_names, marks_of, all_virtual, create_synthetic_resource, extension_line, same_item}
 use Rattle.definitions.specs.Items.{owned, given, of_word, associate_word, parents_of, ancestors, own_classes, doms_above, parents_above, words_made, own_resource, inherited_resource, items_at, items_for, items_of}
 use Rattle.law_orders.specs.Comparisons.{name-strict, look-up-is}
 use Rattle.law_lines.specs.Statements.{Readable, line_map, classes_of, is_refused, any_refused}
 use Rattle.law_lines.specs.Unroll.{tests-unroll, ancestors-unroll}
-use Rattle.law_lines.specs.Numbered.{declarations-numbered}
 use Rattle.law_lines.specs.Declarations.{type-in, type-of, declarations-ascend, name-is, declared-one}
 use Rattle.law_lines.specs.SameItem.{tested-once}
 use Rattle.law_lines.specs.Within.{Within}
 use Rattle.law_lines.specs.Associating.{word-is}
 use Rattle.order_form.specs.Lists.{below, below-same}
-use Rattle.law_classes.specs.Sets.{Set, both, some, one_word, class_of, named, masked, own_set, given_set, above_set, passed_set, classes_in, making_of, own_making, inherited_making, set_items_at, made_set, set_items_for, set_items}
+use Rattle.law_classes.specs.Sets.{Set, both, some, dom_of, class_of, named, masked, own_set, given_set, above_set, passed_set, classes_in, making_of, own_making, inherited_making, set_items_at, made_set, set_items_for, set_items}
 use Rattle.law_classes.proofs.SetLaws.{Short, Plain, Known, class-of, class-in, word-meets, names-in-set, words-in-set}
 
 -- ---- inheritance is `or`
@@ -80,7 +78,6 @@ plain_map s ok w = record {
       let n = (w.type t.0 t.1).name in
       subst (λ (D : LineType). Short D.name) t.2 (subst Short (sym (name-is t.0)) (short-of t.0.name n.least n.most));
   ascend = declarations-ascend s ok;
-  numbered = declarations-numbered s ok w;
 }
 
 -- tests that agree on the members keep the same
@@ -190,10 +187,7 @@ module _ (s : Sheet) (ok : Readable s) (within : Within s) where
     pub classes-in : (S : Set) (C : LineType) → In C (classes_in m S) → In C m.types
     unfolding classes_in
     classes-in S C i =
-        ⊎_elim
-        (λ j. (filter-of (λ E. S E && one_word E.name) m.types j).0)
-        (λ j. (filter-of (λ E. S E && not (one_word E.name)) m.types j).0)
-        (Memᴰ.append_cases (filter (λ E. S E && one_word E.name) m.types) i)
+        (filter-of S m.types ((sort-is (λ (D E : LineType). dom_before (dom_of D.name) (dom_of E.name)) (filter S m.types) C).0 i)).0
 
     pub inherited-is : (r : ℕ) → inherited_resource m D As r ≡ inherited_making m D r
     unfolding inherited_resource inherited_making

@@ -1,4 +1,5 @@
 pub mod SetLaws
+pub mod ClassOrder
 pub mod ItemLaws
 pub mod RefusalLaws
 pub mod Instance

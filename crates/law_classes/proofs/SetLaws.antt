@@ -1,23 +1,21 @@
 -- Where every class is declared, the lists that the items are made of are the members of sets.
-use Rattle.std.specs.Prelude.{Bool, true, false, ◌&&◌, ◌||◌, not, ◌≡◌, refl, ℕ, zero, suc, ◌<◌, eqb, ltb}
+use Rattle.std.specs.Prelude.{Bool, true, false, ◌&&◌, ◌||◌, ◌≡◌, refl, ℕ, zero, suc, ◌<◌, eqb, ltb}
 use mathlib.Core.List.Memᴰ
-use mathlib.Core.List.{List, [], ◌∷◌, ◌++◌, map}
-use Rattle.std.proofs.Common.{⊎_elim, ◌∙◌, subst, eq-eqb, eqb-true, lt-ltb}
-use Rattle.std.proofs.Math.Path.{sym, ap}
-use Rattle.std.proofs.lemmas.Bool.{not-true}
-use Rattle.lists.specs.Lists.{In, Sorted, list_before, filter, set_of}
-use Rattle.lists.specs.Tests.{by, never, same_test, and_left, and_right, and_both, cons-elim, any-in, any_of, filter-in, filter-of}
+use mathlib.Core.List.{List, [], ◌∷◌, map}
+use Rattle.std.proofs.Common.{◌∙◌, subst, eq-eqb, eqb-true, lt-ltb}
+use Rattle.std.proofs.Math.Path.{sym, ap, ap₂}
+use Rattle.lists.specs.Lists.{In, Sorted, list_before, filter, sort, set_of}
+use Rattle.lists.specs.Tests.{never, same_test, and_left, and_right, and_both, cons-elim, any-in, any_of, filter-in, filter-of}
 use Rattle.lists.specs.Strict.{asymmetric, number-strict}
-use Rattle.lists.specs.Lexicographic.{list-strict}
 use Rattle.lists.specs.Appending.{map-map, map_same}
 use Rattle.lists.specs.Members.{sorted-map}
-use Rattle.lists.specs.Sorting.{Ascending, sorted-append, sorted_filter, sorted-imp, sorted-unique, set_is, set-sorted}
+use Rattle.lists.specs.Sorting.{Ascending, sorted-append, sorted_filter, sorted-imp, sorted-unique, sort-is, sort_sorted, set_is, set-sorted}
 use Rattle.definitions.specs.Records.{Name, Dom, Resource}
 use Rattle.definitions.specs.Comparisons.{same_name, name_before, dom_before, dotted}
 use Rattle.definitions.specs.Map.{LineType, LineMap}
 use Rattle.definitions.specs.Making.{class_names}
 use Rattle.definitions.specs.Items.{of_word, has_word}
-use Rattle.law_orders.specs.Comparisons.{dom-strict, same-name, name-same}
+use Rattle.law_orders.specs.Comparisons.{name-strict, dom-strict, same-name, name-same}
 use Rattle.law_lines.specs.Associating.{word-is, has_word_lem, word-of}
 use Rattle.order_form.specs.Lists.{only, below}
 pub use Rattle.bitsets.specs.BitLaws.{below_of, in-below}
@@ -59,7 +57,7 @@ whole (a ∷ b ∷ []) h = refl
 whole (a ∷ b ∷ c ∷ l) h = never h refl
 
 -- names of one word, that word, are equal; names of two words with one last word go by the first
-alone-once : (a b : Name) → one_word a ≡ true → one_word b ≡ true → word_of a ≡ word_of b → a ≡ b
+pub alone-once : (a b : Name) → one_word a ≡ true → one_word b ≡ true → word_of a ≡ word_of b → a ≡ b
 alone-once [] b h k e = never h refl
 alone-once (x ∷ y ∷ l) b h k e = never h refl
 alone-once (x ∷ []) [] h k e = never k refl
@@ -69,7 +67,7 @@ alone-once (x ∷ []) (y ∷ z ∷ l) h k e = never k refl
 first-before : (x y r : ℕ) → (ltb x y || (eqb x y && (ltb r r || (eqb r r && false)))) ≡ true → (ltb x y || (eqb x y && false)) ≡ true
 first-before x y r e = rw (number-strict.irreflexive r, eq-eqb r r refl) at e
 
-paired-before : (a b : Name) → Short a → Short b → one_word a ≡ false → one_word b ≡ false → word_of a ≡ word_of b → list_before a b ≡ true → dom_before (dom_of a) (dom_of b) ≡ true
+pub paired-before : (a b : Name) → Short a → Short b → one_word a ≡ false → one_word b ≡ false → word_of a ≡ word_of b → list_before a b ≡ true → dom_before (dom_of a) (dom_of b) ≡ true
 unfolding dom_before
 paired-before [] b s t h k e l = never s refl
 paired-before (x ∷ []) b s t h k e l = never refl h
@@ -79,7 +77,7 @@ paired-before (x ∷ r ∷ []) (y ∷ []) s t h k e l = never refl k
 paired-before (x ∷ r ∷ []) (y ∷ q ∷ z ∷ b) s t h k e l = never t refl
 paired-before (x ∷ r ∷ []) (y ∷ q ∷ []) s t h k e l = first-before x y r (subst (λ w. (ltb x y || (eqb x y && (ltb r w || (eqb r w && false)))) ≡ true) (sym e) l)
 
-alone-before : (a b : Name) → Short b → one_word a ≡ true → one_word b ≡ false → dom_before (dom_of a) (dom_of b) ≡ true
+pub alone-before : (a b : Name) → Short b → one_word a ≡ true → one_word b ≡ false → dom_before (dom_of a) (dom_of b) ≡ true
 unfolding dom_before
 alone-before [] b t h k = never h refl
 alone-before (x ∷ y ∷ a) b t h k = never h refl
@@ -89,11 +87,23 @@ alone-before (x ∷ []) (y ∷ z ∷ b) t h k = refl
 
 -- ---- a map, and resources whose classes are declared
 
--- what is asked of the map: names of one word or two, ascending, and so by word number too
+-- what is asked of the map: names of one word or two, ascending
 pub record Plain (m : LineMap) : Type 0 where
   pub short : (D : LineType) → In D m.types → Short D.name
   pub ascend : Sorted (λ (P Q : LineType). name_before m.words P.name Q.name ≡ true) m.types
-  pub numbered : Sorted (λ (P Q : LineType). list_before P.name Q.name ≡ true) m.types
+
+-- classes of one word with one dom have one name, so that no two of a word have one dom
+pub doms-apart : (m : LineMap) → Plain m → (S : Set) (r : ℕ) → Sorted (λ (D E : LineType). dom_of D.name ≡ dom_of E.name → ⊥) (filter (both S (masked r)) m.types)
+doms-apart m plain S r =
+    let word : (D : LineType) → In D (filter (both S (masked r)) m.types) → In D m.types × (word_of D.name ≡ r) =
+    λ D i. let x = filter-of (both S (masked r)) m.types i in (x.0, eqb-true (word_of D.name) r (and_right (S D) (masked r D) x.1)) in
+    sorted-imp (filter (both S (masked r)) m.types)
+    (λ D E i j b e.
+    let x = word D i in
+    let y = word E j in
+    let n : D.name ≡ E.name = sym (whole D.name (plain.short D x.0)) ∙ ap₂ dotted e (x.1 ∙ sym y.1) ∙ whole E.name (plain.short E y.0) in
+    never b (rw n ((name-strict m.words).irreflexive E.name)))
+    (sorted_filter (λ (P Q : LineType). name_before m.words P.name Q.name ≡ true) (both S (masked r)) m.types plain.ascend)
 
 -- every class is declared
 abbrev pub Known : LineMap → List Resource → Type 0
@@ -152,78 +162,28 @@ module _ (m : LineMap) (plain : Plain m) (us : List Resource) where
     abbrev dom : LineType → Dom
     dom D = dom_of D.name
 
-    -- the classes of one word and those of two, by name
-    abbrev alone : ℕ → List LineType
-    alone r = filter (λ D. classes r D && one_word D.name) m.types
+    abbrev of_set : ℕ → List LineType
+    of_set r = filter (classes r) m.types
 
-    abbrev paired : ℕ → List LineType
-    paired r = filter (λ D. classes r D && not (one_word D.name)) m.types
-
-    -- a class stands in one of the two lists
-    split-in : (r : ℕ) (D : LineType) → In D m.types → classes r D ≡ true → In D (alone r ++ paired r)
-    split-in r D i e =
-        by (one_word D.name)
-        (λ o. Memᴰ.append_left (paired r) (filter-in (λ D. classes r D && one_word D.name) i (and_both e o)))
-        (λ o. Memᴰ.append_right (alone r) (filter-in (λ D. classes r D && not (one_word D.name)) i (and_both e (ap not o))))
-
-    split-of : (r : ℕ) (D : LineType) → In D (alone r ++ paired r) → In D m.types × (classes r D ≡ true)
-    split-of r D i =
-        ⊎_elim
-        (λ j. let x = filter-of (λ D. classes r D && one_word D.name) m.types j in (x.0, and_left (classes r D) (one_word D.name) x.1))
-        (λ j. let x = filter-of (λ D. classes r D && not (one_word D.name)) m.types j in (x.0, and_left (classes r D) (not (one_word D.name)) x.1))
-        (Memᴰ.append_cases (alone r) i)
-
-    abbrev Later : LineType → LineType → Type 0
-    Later D E = dom_before (dom D) (dom E) ≡ true
-
-    same_word : (r : ℕ) (D E : LineType) → classes r D ≡ true → classes r E ≡ true → word_of D.name ≡ word_of E.name
-    same_word r D E p q =
-        eqb-true (word_of D.name) r (and_right (named us D) (masked r D) p) ∙ sym (eqb-true (word_of E.name) r (and_right (named us E) (masked r E) q))
-
-    alone_of : (r : ℕ) {D : LineType} → In D (alone r) → In D m.types × (classes r D ≡ true) × (one_word D.name ≡ true)
-    alone_of r {D} i =
-        let x = filter-of (λ D. classes r D && one_word D.name) m.types i in
-        (x.0, and_left (classes r D) (one_word D.name) x.1, and_right (classes r D) (one_word D.name) x.1)
-
-    paired-of : (r : ℕ) {D : LineType} → In D (paired r) → In D m.types × (classes r D ≡ true) × (one_word D.name ≡ false)
-    paired-of r {D} i =
-        let x = filter-of (λ D. classes r D && not (one_word D.name)) m.types i in
-        (x.0, and_left (classes r D) (not (one_word D.name)) x.1, not-true (one_word D.name) (and_right (classes r D) (not (one_word D.name)) x.1))
-
-    split-sorted : (r : ℕ) → Sorted Later (alone r ++ paired r)
-    split-sorted r =
-        let N : LineType → LineType → Type 0 = λ P Q. list_before P.name Q.name ≡ true in
-        sorted-append Later (alone r) (paired r)
-        (sorted-imp (alone r)
-        (λ D E i j b.
-        let x = alone_of r i in
-        let y = alone_of r j in
-        let e = alone-once D.name E.name x.2 y.2 (same_word r D E x.1 y.1) in
-        never b (rw e (list-strict.irreflexive E.name)))
-        (sorted_filter N (λ D. classes r D && one_word D.name) m.types plain.numbered))
-        (sorted-imp (paired r)
-        (λ D E i j b.
-        let x = paired-of r i in
-        let y = paired-of r j in
-        paired-before D.name E.name (plain.short D x.0) (plain.short E y.0) x.2 y.2 (same_word r D E x.1 y.1) b)
-        (sorted_filter N (λ D. classes r D && not (one_word D.name)) m.types plain.numbered))
-        (λ D E i j. let y = paired-of r j in alone-before D.name E.name (plain.short E y.0) (alone_of r i).2 y.2)
+    abbrev Later : LineType → LineType → Bool
+    Later D E = dom_before (dom D) (dom E)
 
     -- in class order: the doms that the resources give r are those of the members, in their order
     pub doms-in-set : (r : ℕ) → set_of dom_before (map (λ (u : Resource). u.dom) (of_word r us)) ≡ map (λ (D : LineType). dom_of D.name) (classes_in m (both (named us) (masked r)))
     unfolding classes_in
     doms-in-set r =
         let l = map (λ (u : Resource). u.dom) (of_word r us) in
-        sorted-unique (λ d e. dom_before d e ≡ true) (asymmetric dom-strict) (set_of dom_before l) (map dom (alone r ++ paired r)) (set-sorted dom-strict l)
-        (sorted-map (λ d e. dom_before d e ≡ true) dom (alone r ++ paired r) (split-sorted r))
+        let k = sort Later (of_set r) in
+        sorted-unique (λ d e. dom_before d e ≡ true) (asymmetric dom-strict) (set_of dom_before l) (map dom k) (set-sorted dom-strict l)
+        (sorted-map (λ d e. dom_before d e ≡ true) dom k (sort_sorted dom-strict dom (of_set r) (doms-apart m plain (named us) r)))
         (λ d i.
         let x = Memᴰ.of_map (λ (u : Resource). u.dom) (of_word r us) ((set_is dom-strict l d).0 i) in
         let w = (word-is r us x.0).0 x.1 in
         let c = class-in x.0 w.0 in
-        Memᴰ.cast (sym x.2 ∙ c.3) (Memᴰ.map dom (split-in r c.0 c.1 (subst (λ q. classes q c.0 ≡ true) w.1 c.2))))
+        Memᴰ.cast (sym x.2 ∙ c.3) (Memᴰ.map dom ((sort-is Later (of_set r) c.0).1 (filter-in (classes r) c.1 (subst (λ q. classes q c.0 ≡ true) w.1 c.2)))))
         (λ d i.
-        let x = Memᴰ.of_map dom (alone r ++ paired r) i in
-        let y = split-of r x.0 x.1 in
+        let x = Memᴰ.of_map dom k i in
+        let y = filter-of (classes r) m.types ((sort-is Later (of_set r) x.0).0 x.1) in
         let c = class-of r x.0 y.0 y.1 in
         (set_is dom-strict l d).1 (Memᴰ.cast (sym x.2 ∙ sym c.4) (Memᴰ.map (λ (u : Resource). u.dom) ((word-is r us c.0).1 (c.1, c.3)))))
 
@@ -231,11 +191,12 @@ module _ (m : LineMap) (plain : Plain m) (us : List Resource) where
     pub names-in-set : (r : ℕ) → class_names (set_of dom_before (map (λ (u : Resource). u.dom) (of_word r us))) r ≡ map (λ (D : LineType). D.name) (classes_in m (both (named us) (masked r)))
     unfolding classes_in
     names-in-set r =
+        let k = sort Later (of_set r) in
         ap (λ (ds : List Dom). class_names ds r) (doms-in-set r)
-        ∙ map-map (λ (d : Dom). dotted d r) dom (alone r ++ paired r)
-        ∙ map_same (λ (D : LineType). dotted (dom D) r) (λ (D : LineType). D.name) (alone r ++ paired r)
+        ∙ map-map (λ (d : Dom). dotted d r) dom k
+        ∙ map_same (λ (D : LineType). dotted (dom D) r) (λ (D : LineType). D.name) k
         (λ D i.
-        let y = split-of r D i in
+        let y = filter-of (classes r) m.types ((sort-is Later (of_set r) D).0 i) in
         ap (dotted (dom D)) (sym (eqb-true (word_of D.name) r (and_right (named us D) (masked r D) y.1))) ∙ whole D.name (plain.short D y.0))
 
     -- the words, ascending: those below W whose mask the set meets

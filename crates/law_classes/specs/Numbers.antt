@@ -2,7 +2,7 @@
 use Rattle.std.proofs.Math.Bool.{true, not, and-false}
 use Rattle.std.specs.Prelude.{false, ◌&&◌, ◌||◌, ◌≡◌, ℕ, suc, ◌^◌, ◌≤◌, ◌<◌, eqb, ltb, get_or}
 use mathlib.Core.List.Memᴰ
-use mathlib.Core.List.{List, [], ◌∷◌, ◌++◌, map}
+use mathlib.Core.List.{List, [], ◌∷◌, map}
 use Rattle.std.proofs.Math.Path.{sym, ap, ap₂}
 use Rattle.std.proofs.Common.{◌∙◌, arith}
 use borrow.Author.Tests.{eqb-true, eqb-false, ltb-true, ltb-false, eq-eqb}
@@ -11,14 +11,13 @@ use Rattle.std.proofs.lemmas.Nat.{and_le_r}
 use Rattle.std.proofs.Math.ListN.{length}
 use Rattle.lists.specs.Lists.{In, filter}
 use Rattle.lists.specs.Tests.{by, never, not_so, cons-elim, any-in, any_of}
-use Rattle.lists.specs.Appending.{map-append}
 use Rattle.lists.specs.Places.{get_d-in}
-use Rattle.definitions.specs.Map.{LineType, LineMap}
+use Rattle.definitions.specs.Map.{LineMap}
 use Rattle.rows.specs.Rows.{has_bit}
 use Rattle.rows.specs.RowLaws.{bit-either, bit-none}
 use Rattle.order_form.specs.Lists.{tab-get_d, below, below-same, filter-below, map_below}
 pub use Rattle.bitsets.specs.BitLaws.{bit-both, some-bit}
-use Rattle.law_classes.specs.Sets.{Set, both, some, one_word, no_type, type_at, SetIs, classes_in}
+use Rattle.law_classes.specs.Sets.{Set, both, some, no_type, type_at, SetIs}
 
 -- a member of a list has a place
 pub place-of : {A : Type 0} (d x : A) (l : List A) → In x l → (i : ℕ) × (i < length l) × (get_or l i d ≡ x)
@@ -71,14 +70,3 @@ module _ (m : LineMap) where
       by (ltb b.0 (length m.types))
       (λ l. let k = ltb-true _ _ l in rw e (any-in S (get_d-in m.types no_type b.0 k) (sym (h b.0 k) ∙ t)))
       (λ l. never t (f.within b.0 (ltb-false _ _ l))))
-
-  -- in class order: the bits of one-word types, then the others
-  pub holds-classes : (row ones others : ℕ) (S : Set) → SetIs m row S → SetIs m ones (λ D. one_word D.name) → SetIs m others (λ D. not (one_word D.name))
-      → classes_in m S ≡ map (type_at m) (below (has_bit (bit_and row ones)) (length m.types) ++ below (has_bit (bit_and row others)) (length m.types))
-  unfolding classes_in
-  holds-classes row ones others S h p q =
-      let n = length m.types in
-      ap₂ (λ (a b : List LineType). a ++ b)
-      (holds-members (bit_and row ones) (both S (λ D. one_word D.name)) (holds-both row ones S (λ D. one_word D.name) h p))
-      (holds-members (bit_and row others) (both S (λ D. not (one_word D.name))) (holds-both row others S (λ D. not (one_word D.name)) h q))
-      ∙ sym (map-append (type_at m) (below (has_bit (bit_and row ones)) n) (below (has_bit (bit_and row others)) n))

@@ -1,9 +1,9 @@
 -- Sets of classes. A set of declared types is a test of them. On a map whose classes are all declared, what a type gives, has from above and passes on
 -- are such sets, and inheritance is `or`. In code a set is one number: bit a is the type at place a in name order.
-use Rattle.std.specs.Prelude.{Bool, true, false, ◌&&◌, ◌||◌, not, List, [], ◌∷◌, ◌++◌, map, ◌≡◌, ℕ, ◌<◌, eqb, length, get_or}
-use Rattle.lists.specs.Lists.{any, all, filter, each}
+use Rattle.std.specs.Prelude.{Bool, true, false, ◌&&◌, ◌||◌, List, [], ◌∷◌, ◌++◌, map, ◌≡◌, ℕ, ◌<◌, eqb, length, get_or}
+use Rattle.lists.specs.Lists.{any, all, filter, each, sort}
 use Rattle.definitions.specs.Records.{Name, Dom, Resource, other, Item, synthesized}
-use Rattle.definitions.specs.Comparisons.{same_name, dotted}
+use Rattle.definitions.specs.Comparisons.{same_name, dom_before, dotted}
 use Rattle.definitions.specs.Map.{LineType, LineMap}
 use Rattle.definitions.specs.Making.{extension_parents, extension_line}
 use Rattle.definitions.specs.Items.{owned, given, parents_of, ancestors}
@@ -77,9 +77,9 @@ passed_set m T D = given_set T D || above_set m T D
 
 -- ---- the members of a set
 
--- In class order: the class of one word, then those of two by name (FORMAT 4.4)
+-- In class order: by dom, none first (FORMAT 4.4). It is not the order of names: the dom `a` goes before `a-b`, and `a-b.r` before `a.r`.
 unfoldable pub classes_in : LineMap → Set → List LineType
-classes_in m S = filter (λ D. S D && one_word D.name) m.types ++ filter (λ D. S D && not (one_word D.name)) m.types
+classes_in m S = sort (λ (D E : LineType). dom_before (dom_of D.name) (dom_of E.name)) (filter S m.types)
 
 -- ---- the items by sets
 

@@ -2,24 +2,23 @@
 -- word on.
 use Rattle.std.specs.Prelude.{Bool, false, ◌&&◌, ◌≡◌, refl, ℕ, ◌≤◌, ◌<◌, eqb, ltb, length}
 use Rattle.std.proofs.Math.Bool.{true, not}
-use mathlib.Core.List.{List, [], ◌∷◌, ◌++◌, map}
+use mathlib.Core.List.{List, [], ◌∷◌, map}
 use Rattle.std.proofs.Math.Path.{sym, ap, ap₂}
 use Rattle.std.proofs.Common.{◌∙◌, arith, ltb-true, ltb-false}
 use Rattle.std.specs.Int.Bits.{bit_and, bit_or}
 use Rattle.std.proofs.lemmas.Nat.{or_lt}
 use Rattle.lists.specs.Lists.{any, keep, filter}
 use Rattle.lists.specs.Tests.{by, never, same_test, and_left, and_right, and_both, or-false-both, any-in, any_of}
-use Rattle.lists.specs.Appending.{map-append}
 use Rattle.lists.specs.Places.{get_d-in}
 use Rattle.rows.specs.Rows.{has_bit}
 use Rattle.rows.specs.RowLaws.{bit-either}
 use Rattle.order_form.specs.Lists.{below, below-same, filter-below}
-use Rattle.bitsets.specs.Bitsets.{members, less}
-use Rattle.bitsets.specs.BitLaws.{bit-both, bit-less, members-of, in_members, members-below}
+use Rattle.bitsets.specs.Bitsets.{members}
+use Rattle.bitsets.specs.BitLaws.{members-of, in_members}
 use Rattle.definitions.specs.Map.{LineType, LineMap}
 use Rattle.definitions.specs.Items.{parents_of}
-use Rattle.law_classes.specs.Sets.{Set, both, some, one_word, masked, passed_set, no_type, type_at, SetIs, classes_in}
-use Rattle.law_classes.specs.Numbers.{place-of, Fits, fits_both, holds-both, holds-some, holds-members, types-at}
+use Rattle.law_classes.specs.Sets.{Set, both, some, masked, passed_set, no_type, type_at, SetIs}
+use Rattle.law_classes.specs.Numbers.{place-of, Fits, fits_both, holds-both, holds-some, types-at}
 
 -- a filter of a filter
 pub filter-twice : {A : Type 0} (f g : A → Bool) (l : List A) → filter g (filter f l) ≡ filter (λ x. f x && g x) l
@@ -57,19 +56,6 @@ module _ (m : LineMap) where
       let h = ltb-true x.0 n l in
       any-in F (get_d-in m.types no_type x.0 h) (at x.0 h ∙ and_both b.1 x.2))
       (λ l. never b.1 (past x.0 (ltb-false x.0 n l))))
-
-  -- ---- in class order: the types of one word in a set, then the others
-
-  pub classes-walked : (row ones : ℕ) (S : Set) → n ≤ 64 → Fits m row → SetIs m row S → SetIs m ones (λ D. one_word D.name)
-      → classes_in m S ≡ map (type_at m) (members (bit_and row ones) ++ members (less row ones))
-  unfolding classes_in
-  classes-walked row ones S few f h o =
-      let x = bit_and row ones in
-      let y = less row ones in
-      ap₂ (λ (a b : List LineType). a ++ b)
-      (holds-members m x (both S (λ D. one_word D.name)) (holds-both m row ones S (λ D. one_word D.name) h o) ∙ ap (map (type_at m)) (sym (members-below x n few (λ a k. bit-both row ones a ∙ ap (λ b. b && has_bit ones a) (f.within a k)))))
-      (holds-members m y (both S (λ D. not (one_word D.name))) (λ a k. bit-less row ones a ∙ ap₂ (λ p q. p && not q) (h a k) (o a k)) ∙ ap (map (type_at m)) (sym (members-below y n few (λ a k. bit-less row ones a ∙ ap (λ b. b && not (has_bit ones a)) (f.within a k)))))
-      ∙ sym (map-append (type_at m) (members x) (members y))
 
   -- ---- the parents whose passed set meets the mask of a word
 

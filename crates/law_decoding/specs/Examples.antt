@@ -4,7 +4,7 @@ use Rattle.lists.specs.Lists.{insert, sort}
 use Rattle.definitions.specs.Bits.{odd, to_bits, bits_of}
 use Rattle.definitions.specs.Parse.{field_onto, allowed, repeat_onto, counted}
 use Rattle.definitions.specs.Comparisons.{bytes_before}
-use Rattle.definitions.specs.Reading.{is_word_byte, word, sheet}
+use Rattle.definitions.specs.Reading.{is_first_byte, is_word_byte, word, sheet}
 use Rattle.definitions.specs.Checks.{resource_bytes, self_bytes, bad_fill, bad_words, names_twice, keys_twice, words_twice, annotations_twice, something_twice}
 use Rattle.definitions.specs.Map.{number_of, type_map_of}
 use Rattle.definitions.specs.Cases.{hex}
@@ -12,7 +12,7 @@ use Rattle.law_decoding.specs.Decoding.{Decoding, turned_back, whole, decoded}
 
 -- bytes and what they are decoded to
 unfoldable run : List ℕ → Decoding
-unfolding decoded insert sort odd to_bits bits_of field_onto allowed repeat_onto counted bytes_before is_word_byte word sheet bad_fill bad_words names_twice keys_twice words_twice annotations_twice something_twice number_of type_map_of
+unfolding decoded insert sort odd to_bits bits_of field_onto allowed repeat_onto counted bytes_before is_first_byte is_word_byte word sheet bad_fill bad_words names_twice keys_twice words_twice annotations_twice something_twice number_of type_map_of
 run bytes = decoded bytes
 
 -- the two words that every sheet has, and nothing else

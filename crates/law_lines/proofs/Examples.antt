@@ -5,7 +5,7 @@ use mathlib.Core.List.Memᴰ
 use mathlib.Core.List.Permᴰ
 use mathlib.Core.List.{List, [], ◌∷◌, head-eq_of_cons-eq}
 use Rattle.lists.specs.Lists.{In, repeats, each, set_of}
-use Rattle.lists.specs.Tests.{never}
+use Rattle.lists.specs.Tests.{never, cons-elim}
 use Rattle.lists.specs.Sorting.{Distinct}
 use Rattle.definitions.specs.Records.{Name, Resource, associate, nest_associate, Annotation, domain, resource, Mark, makelist_mark, derive_mark, TypeInfo, Sheet, Item, synthesized, extension}
 use Rattle.definitions.specs.Comparisons.{name_before, dom_before}
@@ -25,6 +25,7 @@ use Rattle.definitions.specs.SoFar.{bits_so_far}
 use Rattle.definitions.specs.LegalSchedule.{most_parents, most_marks}
 use Rattle.definitions.specs.Answer.{schedule, schedule_of}
 use Rattle.definitions.specs.Cases.{hex, run}
+use Rattle.law_orders.specs.Reach.{reached_before}
 use Rattle.law_orders.specs.Relisting.{with_parents, relist-parents}
 use Rattle.law_lines.specs.Statements.{Readable, line_map, Accepted, DeclaredFor, NoneIdentical, is_refused, any_refused}
 use Rattle.law_lines.specs.Ancestors.{ancestors-are}
@@ -37,6 +38,7 @@ use Rattle.law_lines.proofs.Refused.{refused-is-tested, accepted-is-tested, all-
 use Rattle.law_lines.specs.InOrder.{own-lists-by-class, one-source, one-part, not-both-ways, each-has-part, one-in-order, items-in-order, one_way, before-all-that-follow}
 use Rattle.law_lines.specs.Within.{Within, CountsWithin, ItemWithin, most_item_bits}
 use Rattle.law_lines.specs.Reading.{read-is-within}
+use Rattle.law_lines.specs.Numbered.{by-reach}
 use Rattle.law_lines.specs.Bounds.{items-at-most}
 use Rattle.law_lines.specs.Counts.{counts-are}
 use Rattle.law_lines.specs.Fields.{items-within}
@@ -259,6 +261,64 @@ classes-sorted = (items-in-order classes classes-readable classes-accepted).orde
 classes-by-name : (x y : Item) (g : OwnMaking classes two_classes 1 0 x) (h : OwnMaking classes two_classes 0 0 y)
     → g.from.word ≡ h.from.word → NamesBefore classes.words (parents_in x) (parents_in y) ↔ (name_before classes.words g.class h.class ≡ true)
 classes-by-name = own-lists-by-class classes classes-readable two_classes 1 0 0 0
+
+-- ---- hyphens
+
+-- `t` under `a-b` and `a` associates `a.f` and, apart from it, `a-b.f` and `g`; `a-b` nests `a-b.f`, `a` nests `a.f`
+abbrev type_t : TypeInfo
+type_t =
+    domain_type 6 ((1 ∷ []) ∷ a ∷ [])
+    (associate (record { word = 2; dom = 0 ∷ [] } ∷ []) ∷ associate (record { word = 2; dom = 1 ∷ [] } ∷ record { word = 3; dom = [] } ∷ []) ∷ [])
+
+abbrev hyphens : Sheet
+hyphens = record {
+  words = (97 ∷ []) ∷ (97 ∷ 45 ∷ 98 ∷ []) ∷ (102 ∷ []) ∷ (103 ∷ []) ∷ resource_bytes ∷ self_bytes ∷ (116 ∷ []) ∷ [];
+  types =
+      resource_type (0 ∷ 2 ∷ []) (derive_mark 1 ∷ [])
+      ∷ resource_type (1 ∷ 2 ∷ []) (derive_mark 2 ∷ [])
+      ∷ resource_type (3 ∷ []) []
+      ∷ domain_type 1 [] (nest_associate (record { word = 2; dom = 1 ∷ [] } ∷ []) ∷ [])
+      ∷ domain_type 0 [] (nest_associate (record { word = 2; dom = 0 ∷ [] } ∷ []) ∷ [])
+      ∷ type_t
+      ∷ [];
+  extensions = [];
+}
+
+hyphens-readable : Readable hyphens
+unfolding run
+hyphens-readable = record { words = refl; once = refl }
+
+hyphens-accepted : Accepted hyphens
+unfolding run any_refused is_refused
+hyphens-accepted = (accepted-is-tested hyphens hyphens-readable).0 refl
+
+-- own resources by the names of their classes, `a-b.f` before `a.f`; the inherited one has the marks of `a.f` before those of
+-- `a-b.f`, and the parents `a.f` before `a-b.f`
+hyphens-in-order : InOrder hyphens
+    (synthesized (6 ∷ []) 2 false ((1 ∷ 2 ∷ []) ∷ (4 ∷ []) ∷ []) (derive_mark 2 ∷ [])
+    ∷ synthesized (6 ∷ []) 2 false ((0 ∷ 2 ∷ []) ∷ (4 ∷ []) ∷ []) (derive_mark 1 ∷ [])
+    ∷ synthesized (6 ∷ []) 2 false ((0 ∷ 2 ∷ []) ∷ (1 ∷ 2 ∷ []) ∷ (4 ∷ []) ∷ []) (derive_mark 1 ∷ derive_mark 2 ∷ [])
+    ∷ extension (6 ∷ []) false false 2
+    ∷ synthesized (6 ∷ []) 3 false ((3 ∷ []) ∷ (4 ∷ []) ∷ []) []
+    ∷ extension (6 ∷ []) false false 3
+    ∷ [])
+unfolding run
+hyphens-in-order = (items-in-order hyphens hyphens-readable hyphens-accepted).ordered
+
+-- the sheet as bytes
+hyphens-read : sheet (bits_of (hex 65 0x1070b08d84b5882cc16743932b9b7bab931b291cd95b1982e8180204c00602030260030203300001000a10280800000a1028000601008004440a00480a02060000)) ≡ done hyphens (replicate 7 false)
+unfolding run
+hyphens-read = refl
+
+hyphens-within : Within hyphens
+hyphens-within = read-is-within (bits_of (hex 65 0x1070b08d84b5882cc16743932b9b7bab931b291cd95b1982e8180204c00602030260030203300001000a10280800000a1028000601008004440a00480a02060000)) (replicate 7 false) hyphens hyphens-read
+
+-- `a-b` before `a.f` by the numbers of the words and how far they reach, `a` reaching `a-b`
+hyphens-by-reach : name_before hyphens.words (1 ∷ []) (0 ∷ 2 ∷ []) ≡ reached_before hyphens.words (1 ∷ []) (0 ∷ 2 ∷ [])
+hyphens-by-reach =
+    by-reach hyphens hyphens-readable hyphens-within (1 ∷ []) (0 ∷ 2 ∷ [])
+    (record { least = omega arith; most = omega arith; below = λ w i. cons-elim i (λ e. omega arith) (λ j. absurd (Memᴰ.not-nil j)) })
+    (record { least = omega arith; most = omega arith; below = λ w i. cons-elim i (λ e. omega arith) (λ j. cons-elim j (λ e. omega arith) (λ k. absurd (Memᴰ.not-nil k))) })
 
 -- ---- bounds
 

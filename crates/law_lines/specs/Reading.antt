@@ -1,13 +1,13 @@
 -- A sheet that was read is within the limits: what each parser yields.
-use Rattle.std.specs.Prelude.{Bool, true, false, ◌&&◌, ◌||◌, List, [], ◌∷◌, ◌++◌, ◌≡◌, refl, ℕ, zero, suc, ◌+◌, ◌*◌, ◌^◌, ◌≤◌, ◌<◌, eqb, ltb, leb, length, get_or}
+use Rattle.std.specs.Prelude.{Bool, true, false, ◌&&◌, ◌||◌, List, [], ◌∷◌, ◌++◌, ◌≡◌, refl, ℕ, zero, suc, ◌+◌, ◌-◌, ◌*◌, ◌^◌, ◌≤◌, ◌<◌, eqb, ltb, leb, length, get_or}
 use mathlib.Core.List.Memᴰ
 use Rattle.std.proofs.Common.{⊎_elim, sym, ap, subst, zero-le, pow-suc, arith, leb-true, ltb-true, eqb-true, length-append}
 use Rattle.lists.specs.Lists.{In}
-use Rattle.lists.specs.Tests.{never, and_left, and_right, or_cases, cons-elim}
-use Rattle.definitions.specs.Parse.{Fault, not_allowed, Parsed, done, refused, Parser, next, ◌>>=◌, pure, refuse, choose, field_onto, field, allowed, between, flag, repeat_onto, counted}
+use Rattle.lists.specs.Tests.{never, and_left, and_right, or_cases, or_left, cons-elim}
+use Rattle.definitions.specs.Parse.{Fault, not_allowed, Parsed, done, refused, Parser, next, ◌>>=◌, pure, refuse, choose, field_onto, field, allowed, between, flag, repeat_onto, repeat, counted}
 use Rattle.definitions.specs.Records.{make_list, associate, nest_associate, alias, inherit, derive, no_derive, Annotation, makelist_mark, derive_mark}
-use Rattle.definitions.specs.Comparisons.{dot}
-use Rattle.definitions.specs.Reading.{is_word_byte, word, word_field, word_if_flag, name, associated, associated_list, kinds, annotation, mark, variant, type_info, extension, sheet}
+use Rattle.definitions.specs.Comparisons.{dot, hyphen}
+use Rattle.definitions.specs.Reading.{is_first_byte, is_word_byte, word, word_field, word_if_flag, name, associated, associated_list, kinds, annotation, mark, variant, type_info, extension, sheet}
 use Rattle.bits.specs.ReadLaws.{is_done}
 use Rattle.law_lines.specs.Statements.{ReadIsWithin}
 use Rattle.law_lines.specs.Within.{WordWithin, WordsWithin, NameWithin, ResourceWithin, AnnotationWithin, MarkWithin, TypeWithin, ExtensionWithin, Within}
@@ -105,9 +105,9 @@ counted_is n least most m P h =
 
 -- ---- the sheet, bit by bit
 
-byte-is : (b : ℕ) → is_word_byte b ≡ true → dot < b
-unfolding is_word_byte
-byte-is b e =
+first-is : (b : ℕ) → is_first_byte b ≡ true → dot < b
+unfolding is_first_byte
+first-is b e =
     ⊎_elim
     (λ h. let l = leb-true 65 b (and_left (leb 65 b) (leb b 90) h) in omega arith)
     (λ h.
@@ -121,11 +121,24 @@ byte-is b e =
     (or_cases (leb 97 b && leb b 122) ((leb 48 b && leb b 57) || eqb b 95) h))
     (or_cases (leb 65 b && leb b 90) ((leb 97 b && leb b 122) || ((leb 48 b && leb b 57) || eqb b 95)) e)
 
+byte-is : (b : ℕ) → is_word_byte b ≡ true → (hyphen ≤ b) × (b ≡ dot → ⊥)
+unfolding is_word_byte
+byte-is b e =
+    ⊎_elim
+    (λ h. let l = first-is b h in (omega arith, λ d. omega arith))
+    (λ h. let q = eqb-true b hyphen h in (omega arith, λ d. omega arith))
+    (or_cases (is_first_byte b) (eqb b hyphen) e)
+
 word-is : Yields word WordWithin
-unfolding word
-word-is bs rest w e =
-    let h = counted_is 5 1 31 (allowed 8 is_word_byte) (λ b. is_word_byte b ≡ true) (allowed-is 8 is_word_byte) bs rest w e in
-    record { filled = h.low; above = λ b i. byte-is b (h.every b i) }
+unfolding word is_word_byte
+word-is =
+    yields-bind (between 5 1 31) _ (λ n. Unit {0}) _ (yields-any (between 5 1 31)) (λ n _.
+    yields-bind (allowed 8 is_first_byte) _ (λ b. is_first_byte b ≡ true) _ (allowed-is 8 is_first_byte) (λ b h.
+    yields-bind (repeat (allowed 8 is_word_byte) (n - 1)) _ (Listed (λ c. is_word_byte c ≡ true) (length {A = ℕ} [] + (n - 1))) _
+    (repeat-is (allowed 8 is_word_byte) (λ c. is_word_byte c ≡ true) (allowed-is 8 is_word_byte) [] (λ c i. absurd (Memᴰ.not-nil i)) (n - 1)) (λ bs l.
+    let each : (c : ℕ) → In c (b ∷ bs) → (hyphen ≤ c) × (c ≡ dot → ⊥) =
+    λ c i. cons-elim i (λ e. rw e (byte-is b (or_left (eqb b hyphen) h))) (λ j. byte-is c (l.every c j)) in
+    yields-pure WordWithin (b ∷ bs) (record { filled = omega arith; least = λ c i. (each c i).0; no_dot = λ c i. (each c i).1 }))))
 
 word-field-is : (W : ℕ) → Yields (word_field W) (λ w. w < W)
 unfolding word_field

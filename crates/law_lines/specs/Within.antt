@@ -1,8 +1,8 @@
 -- The limits of a sheet's fields (FORMAT 2), as facts about a sheet, and those of the items that follow (FORMAT 6). Nothing
 -- here computes.
-use Rattle.std.specs.Prelude.{List, ℕ, ◌+◌, ◌*◌, ◌≤◌, ◌<◌, length}
+use Rattle.std.specs.Prelude.{List, ◌≡◌, ℕ, ◌+◌, ◌*◌, ◌≤◌, ◌<◌, length}
 use Rattle.lists.specs.Lists.{In}
-use Rattle.definitions.specs.Comparisons.{dot}
+use Rattle.definitions.specs.Comparisons.{dot, hyphen}
 use Rattle.definitions.specs.Records.{Name, Resource, Annotation, Mark, makelist_mark, derive_mark, TypeInfo, Extension, Sheet, Item, synthesized, extension}
 use Rattle.definitions.specs.Checks.{resources_of}
 use Rattle.definitions.specs.Map.{type_map_of, line_type_of, line_map_of}
@@ -10,10 +10,11 @@ use Rattle.definitions.specs.Items.{ancestors, own_classes, doms_above, parents_
 use Rattle.definitions.specs.LegalSchedule.{most_names, most_items, most_parents, most_parent_words, most_marks}
 use Rattle.definitions.specs.Packing.{item_count_bits}
 
--- a word has a byte, and none that is the dot or below it (FORMAT 1.1, 1.4)
+-- a word has a byte, and none that is the dot or below the hyphen (FORMAT 1.1, 1.4)
 pub record WordWithin (w : List ℕ) : Type 0 where
   pub filled : 1 ≤ length w
-  pub above : (b : ℕ) → In b w → dot < b
+  pub least : (b : ℕ) → In b w → hyphen ≤ b
+  pub no_dot : (b : ℕ) → In b w → b ≡ dot → ⊥
 
 -- a list of a to b words, each below W (FORMAT 2.5)
 pub record WordsWithin (W a b : ℕ) (n : List ℕ) : Type 0 where

@@ -1,22 +1,23 @@
 -- For each theorem a concrete sheet, or two, that meet what it asks: no hypothesis here is empty.
-use Rattle.std.specs.Prelude.{true, false, List, [], ◌∷◌, map, ◌≡◌, refl, ℕ, ltb}
-use Rattle.std.proofs.Common.{true≢false, sym, arith, ltb-true}
+use Rattle.std.specs.Prelude.{true, false, List, [], ◌∷◌, map, ◌≡◌, refl, ℕ, eqb, ltb, leb}
+use Rattle.std.proofs.Common.{true≢false, sym, arith, eq-eqb, ltb-true, leb-true}
 use mathlib.Core.List.Memᴰ
 use mathlib.Core.List.Permᴰ
-use Rattle.lists.specs.Lists.{null, all, list_before}
-use Rattle.lists.specs.Tests.{any-not, all_in}
+use Rattle.lists.specs.Lists.{null, any, all, list_before}
+use Rattle.lists.specs.Tests.{never, any-not, all_in}
 use Rattle.lists.specs.Sorting.{ascends-sorted}
 use Rattle.lists.specs.Lexicographic.{list-strict}
 use Rattle.definitions.specs.Records.{Name, TypeInfo, Sheet, Row}
-use Rattle.definitions.specs.Comparisons.{name_before, bytes_before, dot, spelled}
+use Rattle.definitions.specs.Comparisons.{name_before, bytes_before, dot, hyphen, spelled}
 use Rattle.definitions.specs.Map.{type_map_of, line_map_of}
 use Rattle.definitions.specs.Order.{last_pass, inherits_self, has_order, organize_type_map}
 use Rattle.definitions.specs.OrderRows.{find_cycles_or_bad_types, order_rows}
 use Rattle.definitions.specs.Ancestry.{IsSelf, HasOrder, IsOrder}
 use Rattle.definitions.specs.Relisted.{end, and, Relisted}
 use Rattle.definitions.specs.Cases.{run}
-use Rattle.law_orders.specs.Statements.{AboveDot, Worded, WellNamed, Reaches, start, onward, CycleDiagnosis}
-use Rattle.law_orders.proofs.Spelling.{spelling-is-word-order, spelling-is-one-name}
+use Rattle.law_orders.specs.Reach.{reach, NoHyphen, reached_before}
+use Rattle.law_orders.specs.Statements.{DotFree, AboveDot, Worded, WellNamed, Reaches, start, onward, CycleDiagnosis}
+use Rattle.law_orders.proofs.Spelling.{spelling-is-word-order, spelling-is-one-name, above-dot-free, no-hyphen-no-reach, spelling-decides, reached-order}
 use Rattle.law_orders.specs.Self.{self-is}
 use Rattle.law_orders.proofs.Order.{order-exists, order-is-by-round, order-is-one, order-is-names}
 use Rattle.law_orders.specs.Diagnosis.{waiting-has-row, placed-has-no-row, refusal-has-row}
@@ -51,12 +52,68 @@ unfolding name_before bytes_before
 words-order-is = (refl, refl)
 
 words-one : (n : Name) → Worded words n → spelled words n ≡ 97 ∷ 46 ∷ 97 ∷ 48 ∷ [] → n ≡ 0 ∷ 1 ∷ []
-words-one n h e = spelling-is-one-name words words-above-dot n (0 ∷ 1 ∷ []) h (omega arith, (omega arith, tt)) e
+words-one n h e = spelling-is-one-name words (above-dot-free words words-above-dot) n (0 ∷ 1 ∷ []) h (omega arith, (omega arith, tt)) e
 
--- with a byte below the dot the two orders part: of the words `a`, `a-`, the name `a-` is spelled before `a.a`
-below-dot : (name_before ((97 ∷ []) ∷ (97 ∷ 45 ∷ []) ∷ []) (1 ∷ []) (0 ∷ 0 ∷ []) ≡ true) × (list_before (1 ∷ []) (0 ∷ 0 ∷ []) ≡ false)
+words-no-hyphen : NoHyphen words
+words-no-hyphen w i b j e =
+    let l = ltb-true dot b (all_in (ltb dot) (all_in (all (ltb dot)) {l = words} refl i) j) in
+    absurd (omega arith)
+
+words-reach : reach words 0 ≡ 0
+words-reach = no-hyphen-no-reach words words-no-hyphen 0
+
+-- the words `a`, `a-`, `a--`, `a-b`, `a0`, `a_`, `c`: the three behind `a` go on with a hyphen, and so does `a--` behind `a-`
+abbrev hyphens : List (List ℕ)
+hyphens = (97 ∷ []) ∷ (97 ∷ 45 ∷ []) ∷ (97 ∷ 45 ∷ 45 ∷ []) ∷ (97 ∷ 45 ∷ 98 ∷ []) ∷ (97 ∷ 48 ∷ []) ∷ (97 ∷ 95 ∷ []) ∷ (99 ∷ []) ∷ []
+
+hyphens-dot-free : DotFree hyphens
+unfolding bytes_before
+hyphens-dot-free = record {
+  ascend = ascends-sorted list-strict hyphens refl;
+  filled = λ w i. any-not null {l = hyphens} refl i;
+  least = λ w i b j. leb-true hyphen b (all_in (leb hyphen) (all_in (all (leb hyphen)) {l = hyphens} refl i) j);
+  no_dot = λ w i b j e. never (eq-eqb b dot e) (any-not (λ b. eqb b dot) (any-not (any (λ b. eqb b dot)) {l = hyphens} refl i) j);
+}
+
+-- how far they reach
+hyphens-reach : map (reach hyphens) (0 ∷ 1 ∷ 2 ∷ 3 ∷ 4 ∷ 5 ∷ 6 ∷ []) ≡ 3 ∷ 2 ∷ 2 ∷ 3 ∷ 4 ∷ 5 ∷ 6 ∷ []
+unfolding reach
+hyphens-reach = refl
+
+-- of each pair the first name is spelled before the second one, and not the other way round
+abbrev AllBefore : List (List ℕ) → List (Name × Name) → Type 0
+AllBefore ws [] = Unit {0}
+AllBefore ws (p ∷ l) = (name_before ws p.0 p.1 ≡ true) × ((name_before ws p.1 p.0 ≡ false) × AllBefore ws l)
+
+-- `a` before `a-`, `a-b` before `a.c`, `a-b.c` before `a.c`, `a.c` before `a0`, `a--` before `a-.c`, `a-.c` before `a-b`,
+-- `a.a` before `a.a-b`
+hyphens-order : AllBefore hyphens
+    (
+    ((0 ∷ []), (1 ∷ []))
+    ∷ ((3 ∷ []), (0 ∷ 6 ∷ []))
+    ∷ ((3 ∷ 6 ∷ []), (0 ∷ 6 ∷ []))
+    ∷ ((0 ∷ 6 ∷ []), (4 ∷ []))
+    ∷ ((2 ∷ []), (1 ∷ 6 ∷ []))
+    ∷ ((1 ∷ 6 ∷ []), (3 ∷ []))
+    ∷ ((0 ∷ 0 ∷ []), (0 ∷ 3 ∷ []))
+    ∷ []
+    )
 unfolding name_before bytes_before
-below-dot = (refl, refl)
+hyphens-order = (refl, (refl, (refl, (refl, (refl, (refl, (refl, (refl, (refl, (refl, (refl, (refl, (refl, (refl, tt))))))))))))))
+
+-- so by the law as well, where the word numbers alone would say the contrary
+hyphens-by-reach : name_before hyphens (3 ∷ []) (0 ∷ 6 ∷ []) ≡ reached_before hyphens (3 ∷ []) (0 ∷ 6 ∷ [])
+hyphens-by-reach = reached-order hyphens hyphens-dot-free (3 ∷ []) (0 ∷ 6 ∷ []) (omega arith, tt) (omega arith, omega arith)
+
+hyphens-part : (reached_before hyphens (3 ∷ []) (0 ∷ 6 ∷ []) ≡ true) × (list_before (3 ∷ []) (0 ∷ 6 ∷ []) ≡ false)
+unfolding reach
+hyphens-part = (refl, refl)
+
+hyphens-one : (n : Name) → Worded hyphens n → spelled hyphens n ≡ 97 ∷ 45 ∷ 46 ∷ 99 ∷ [] → n ≡ 1 ∷ 6 ∷ []
+hyphens-one n h e = spelling-is-one-name hyphens hyphens-dot-free n (1 ∷ 6 ∷ []) h (omega arith, (omega arith, tt)) e
+
+hyphens-decide : name_before hyphens (3 ∷ []) (0 ∷ 6 ∷ []) ≡ bytes_before (97 ∷ 45 ∷ 98 ∷ []) (97 ∷ 46 ∷ 99 ∷ [])
+hyphens-decide = spelling-decides hyphens hyphens-dot-free (3 ∷ []) (0 ∷ 6 ∷ []) (omega arith, tt) (omega arith, (omega arith, tt))
 
 -- ---- the order
 

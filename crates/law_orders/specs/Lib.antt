@@ -1,5 +1,6 @@
 pub mod Comparisons
 pub mod Passes
+pub mod Reach
 pub mod Statements
 pub mod Self
 pub mod Rounds

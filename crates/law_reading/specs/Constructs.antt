@@ -2,26 +2,28 @@
 use Rattle.std.proofs.Math.Bool.{Bool, true, false}
 use Rattle.std.specs.Prelude.{◌&&◌, ◌||◌, ◌≡◌, refl, eqb, leb, length, get_or}
 use mathlib.Core.List.{List, [], ◌∷◌, ◌++◌, append-nil}
-use Rattle.std.proofs.Common.{⊎_elim}
-use Prim.Native.Nat.{ℕ, zero, suc, ◌≤◌, ◌<◌}
+use Rattle.std.proofs.Common.{⊎_elim, ap}
+use Prim.Native.Nat.{ℕ, zero, suc, ◌-◌, ◌≤◌, ◌<◌}
 use native.Mathlib.Omega.{arith}
 use borrow.Author.Tests.{lt-ltb, ltb-true, le-leb, leb-true, eq-eqb, eqb-true}
 use Rattle.std.proofs.Math.Dec.{ltb}
+use Rattle.lists.specs.Lists.{each}
 use Rattle.lists.specs.Tests.{and_left, and_right, and_both, or_cases, or_left, or_right}
 use Rattle.definitions.specs.Bits.{to_bits}
 use Rattle.definitions.specs.Records.{Name, make_list, associate, nest_associate, alias, inherit, derive, no_derive, Annotation, Variant, domain, resource, other, Mark, makelist_mark, derive_mark, TypeInfo, Sheet}
+use Rattle.definitions.specs.Comparisons.{hyphen}
 use Rattle.definitions.specs.Parse.{not_allowed, ◌>>=◌, pure, refuse, choose, field, allowed, counted}
-use Rattle.definitions.specs.Reading.{is_word_byte, word, word_field, word_if_flag, name, associated, associated_list, kinds, annotation, mark, variant, type_info, extension, sheet}
+use Rattle.definitions.specs.Reading.{is_first_byte, is_word_byte, word, word_field, word_if_flag, name, associated, associated_list, kinds, annotation, mark, variant, type_info, extension, sheet}
 use Rattle.definitions.specs.Packing.{counted_bits, word_if_flag_bits, name_bits, mark_bits}
-use Rattle.definitions.specs.Legal.{Counted, LegalByte, upper, lower, digit, underscore, LegalWord, LegalWordIfAny, LegalName, LegalResource, LegalResources, LegalAnnotation, LegalMark, LegalType, LegalExtension, WithinLimits}
+use Rattle.definitions.specs.Legal.{Every, Counted, LegalFirst, upper, lower, digit, underscore, LegalByte, begins, joins, LegalWord, LegalWordIfAny, LegalName, LegalResource, LegalResources, LegalAnnotation, LegalMark, LegalType, LegalExtension, WithinLimits}
 use Rattle.definitions.specs.Encoding.{word_bits, resource_bits, content_bits, annotation_bits, variant_bits, type_bits, extension_bits, sheet_bits}
-use Rattle.law_reading.specs.Parsers.{Reads, Only, Exact, Codes, reads-pure, reads_end, reads-next, reads-last, only-pure, only-refuse, only-choose, only_next, only-last, field_codes, allowed-codes, codes_same, flag-codes, counted-codes}
+use Rattle.law_reading.specs.Parsers.{Reads, Only, Exact, Codes, reads-pure, reads_end, reads-next, reads-last, only-pure, only-refuse, only-choose, only_next, only-last, field_codes, allowed-codes, codes_same, between-codes, flag-codes, repeat-codes, counted-codes}
 
 -- ---- words
 
-byte-legal : (b : ℕ) → is_word_byte b ≡ true → LegalByte b
-unfolding is_word_byte
-byte-legal b e =
+first-legal : (b : ℕ) → is_first_byte b ≡ true → LegalFirst b
+unfolding is_first_byte
+first-legal b e =
     ⊎_elim
     (λ h. upper (leb-true 65 b (and_left (leb 65 b) (leb b 90) h)) (leb-true b 90 (and_right (leb 65 b) (leb b 90) h)))
     (λ e.
@@ -35,23 +37,66 @@ byte-legal b e =
     (or_cases (leb 97 b && leb b 122) ((leb 48 b && leb b 57) || eqb b 95) e))
     (or_cases (leb 65 b && leb b 90) ((leb 97 b && leb b 122) || ((leb 48 b && leb b 57) || eqb b 95)) e)
 
+legal-first : (b : ℕ) → LegalFirst b → is_first_byte b ≡ true
+unfolding is_first_byte
+legal-first b (upper h k) = or_left ((leb 97 b && leb b 122) || ((leb 48 b && leb b 57) || eqb b 95)) (and_both (le-leb 65 b h) (le-leb b 90 k))
+legal-first b (lower h k) = or_right (leb 65 b && leb b 90) (or_left ((leb 48 b && leb b 57) || eqb b 95) (and_both (le-leb 97 b h) (le-leb b 122 k)))
+legal-first b (digit h k) = or_right (leb 65 b && leb b 90) (or_right (leb 97 b && leb b 122) (or_left (eqb b 95) (and_both (le-leb 48 b h) (le-leb b 57 k))))
+legal-first b (underscore e) = or_right (leb 65 b && leb b 90) (or_right (leb 97 b && leb b 122) (or_right (leb 48 b && leb b 57) (eq-eqb b 95 e)))
+
+first_small : (b : ℕ) → LegalFirst b → b < 256
+first_small b (upper h k) = omega arith
+first_small b (lower h k) = omega arith
+first_small b (digit h k) = omega arith
+first_small b (underscore e) = omega arith
+
+byte-legal : (b : ℕ) → is_word_byte b ≡ true → LegalByte b
+unfolding is_word_byte
+byte-legal b e = ⊎_elim (λ h. begins (first-legal b h)) (λ h. joins (eqb-true b hyphen h)) (or_cases (is_first_byte b) (eqb b hyphen) e)
+
 legal-byte : (b : ℕ) → LegalByte b → is_word_byte b ≡ true
 unfolding is_word_byte
-legal-byte b (upper h k) = or_left ((leb 97 b && leb b 122) || ((leb 48 b && leb b 57) || eqb b 95)) (and_both (le-leb 65 b h) (le-leb b 90 k))
-legal-byte b (lower h k) = or_right (leb 65 b && leb b 90) (or_left ((leb 48 b && leb b 57) || eqb b 95) (and_both (le-leb 97 b h) (le-leb b 122 k)))
-legal-byte b (digit h k) = or_right (leb 65 b && leb b 90) (or_right (leb 97 b && leb b 122) (or_left (eqb b 95) (and_both (le-leb 48 b h) (le-leb b 57 k))))
-legal-byte b (underscore e) = or_right (leb 65 b && leb b 90) (or_right (leb 97 b && leb b 122) (or_right (leb 48 b && leb b 57) (eq-eqb b 95 e)))
+legal-byte b (begins h) = or_left (eqb b hyphen) (legal-first b h)
+legal-byte b (joins e) = or_right (is_first_byte b) (eq-eqb b hyphen e)
 
 byte_small : (b : ℕ) → LegalByte b → b < 256
-byte_small b (upper h k) = omega arith
-byte_small b (lower h k) = omega arith
-byte_small b (digit h k) = omega arith
-byte_small b (underscore e) = omega arith
+byte_small b (begins h) = first_small b h
+byte_small b (joins e) = omega arith
+
+first-codes : Codes (allowed 8 is_first_byte) (to_bits 8) LegalFirst
+first-codes = codes_same LegalFirst (λ b h. first-legal b h.1) (λ b h. (first_small b h, legal-first b h)) (allowed-codes 8 is_first_byte)
+
+byte-codes : Codes (allowed 8 is_word_byte) (to_bits 8) LegalByte
+byte-codes = codes_same LegalByte (λ b h. byte-legal b h.1) (λ b h. (byte_small b h, legal-byte b h)) (allowed-codes 8 is_word_byte)
 
 pub word-codes : Codes word word_bits LegalWord
 unfolding word word_bits
-word-codes =
-    counted-codes (codes_same LegalByte (λ b h. byte-legal b h.1) (λ b h. (byte_small b h, legal-byte b h)) (allowed-codes 8 is_word_byte)) 5 1 31 (omega arith)
+word-codes = record { back = back; only = only }
+  where
+    back : (w : List ℕ) → LegalWord w → Reads word w (word_bits w)
+    back [] h = absurd h
+    back (b ∷ w) h =
+        let few = h.1.few in
+        reads-next (between-codes 5 1 31 (omega arith)) _ (suc (length w)) (b ∷ w) (to_bits 8 b ++ each (to_bits 8) w) (omega arith, omega arith)
+        (reads-next first-codes _ b (b ∷ w) (each (to_bits 8) w) h.0
+        (reads-last (repeat-codes byte-codes (suc (length w) - 1)) (λ bs. b ∷ bs) w (omega arith, h.1.every)))
+
+    written : (n b : ℕ) (w : List ℕ) → (1 ≤ n) × (n ≤ 31) → LegalFirst b → (length w ≡ n - 1) × Every LegalByte w
+        → Exact word_bits LegalWord (b ∷ w) (to_bits 5 n ++ (to_bits 8 b ++ each (to_bits 8) w))
+    written n b w k h t =
+        let e : n ≡ suc (length w) = omega (arith, k.0, t.0) in (
+          ap (λ (m : ℕ). to_bits 5 m ++ (to_bits 8 b ++ each (to_bits 8) w)) e,
+          (h, record { enough = omega arith; few = omega (arith, k.1); every = t.1 }),
+        )
+
+    only : Only word (Exact word_bits LegalWord)
+    only =
+        only_next (between-codes 5 1 31 (omega arith)) _ (Exact word_bits LegalWord)
+        (λ n k.
+        only_next first-codes _ (λ w ys. Exact word_bits LegalWord w (to_bits 5 n ++ ys))
+        (λ b h.
+        only-last (repeat-codes byte-codes (n - 1)) (λ bs. b ∷ bs) (λ w ys. Exact word_bits LegalWord w (to_bits 5 n ++ (to_bits 8 b ++ ys)))
+        (λ w t. written n b w k h t)))
 
 -- ---- marks and variants
 

@@ -1,5 +1,5 @@
 -- Maps on which the theorems are tried. The smallest is legal by hand; that the others are, because they are read: proofs/Examples.antt.
-use Rattle.std.specs.Prelude.{true, false, List, [], ◌∷◌, ◌++◌, map, ◌≡◌, refl, ℕ, zero, suc, ◌+◌, ◌/◌, ◌%◌, replicate}
+use Rattle.std.specs.Prelude.{true, false, List, [], ◌∷◌, ◌++◌, map, ◌≡◌, refl, ℕ, zero, suc, ◌+◌, ◌/◌, ◌%◌, ◌≤◌, replicate}
 use mathlib.Core.List.Memᴰ
 use Rattle.std.proofs.Common.{ap, arith}
 use Rattle.lists.specs.Tests.{cons-elim}
@@ -7,9 +7,9 @@ use Rattle.definitions.specs.Bits.{odd, to_bits, bits_of, num, pack_to, pack}
 use Rattle.definitions.specs.Parse.{done, field_onto, allowed, repeat_onto, counted}
 use Rattle.definitions.specs.Records.{Resource, TypeInfo, Extension, make_list, associate, nest_associate, alias, inherit, derive, no_derive, domain, resource, other, makelist_mark, derive_mark, Sheet}
 use Rattle.definitions.specs.Comparisons.{bytes_before}
-use Rattle.definitions.specs.Reading.{is_word_byte, word, word_field, word_if_flag, name, associated, associated_list, kinds, annotation, mark, variant, type_info, extension, sheet}
+use Rattle.definitions.specs.Reading.{is_first_byte, is_word_byte, word, word_field, word_if_flag, name, associated, associated_list, kinds, annotation, mark, variant, type_info, extension, sheet}
 use Rattle.definitions.specs.Checks.{resource_bytes, self_bytes}
-use Rattle.definitions.specs.Legal.{lower, LegalWord, Legal}
+use Rattle.definitions.specs.Legal.{lower, LegalByte, begins, LegalWord, Legal}
 use Rattle.definitions.specs.Packing.{name_bits, mark_bits}
 use Rattle.definitions.specs.Encoding.{word_bits, resource_bits, content_bits, annotation_bits, variant_bits, type_bits, extension_bits, sheet_bits, encode}
 use Rattle.definitions.specs.Cases.{hex}
@@ -20,22 +20,31 @@ use Rattle.law_reading.specs.Packed.{fill}
 abbrev pub alone : Sheet
 alone = record { words = resource_bytes ∷ self_bytes ∷ []; types = []; extensions = [] }
 
+letter : {b : ℕ} → 97 ≤ b → b ≤ 122 → LegalByte b
+letter h k = begins (lower h k)
+
 resource-word : LegalWord resource_bytes
-resource-word = record {
-  enough = omega arith;
-  few = omega arith;
-  every = (
-    lower (omega arith) (omega arith),
-    (lower (omega arith) (omega arith), (lower (omega arith) (omega arith), (lower (omega arith) (omega arith), (lower (omega arith) (omega arith), (lower (omega arith) (omega arith), (lower (omega arith) (omega arith), (lower (omega arith) (omega arith), tt))))))),
-  );
-}
+resource-word = (
+  lower (omega arith) (omega arith),
+  record {
+    enough = omega arith;
+    few = omega arith;
+    every = (
+      letter (omega arith) (omega arith),
+      (letter (omega arith) (omega arith), (letter (omega arith) (omega arith), (letter (omega arith) (omega arith), (letter (omega arith) (omega arith), (letter (omega arith) (omega arith), (letter (omega arith) (omega arith), tt)))))),
+    );
+  },
+)
 
 self-word : LegalWord self_bytes
-self-word = record {
-  enough = omega arith;
-  few = omega arith;
-  every = (lower (omega arith) (omega arith), (lower (omega arith) (omega arith), (lower (omega arith) (omega arith), (lower (omega arith) (omega arith), tt))));
-}
+self-word = (
+  lower (omega arith) (omega arith),
+  record {
+    enough = omega arith;
+    few = omega arith;
+    every = (letter (omega arith) (omega arith), (letter (omega arith) (omega arith), (letter (omega arith) (omega arith), tt)));
+  },
+)
 
 pub alone-legal : Legal alone
 unfolding bytes_before
@@ -93,14 +102,14 @@ abbrev pub ReadBack : Sheet → Type 0
 ReadBack s = sheet (bits_of (encode s)) ≡ done s (replicate (fill (sheet_bits s)) false)
 
 pub worked-read : ReadBack worked
-unfolding odd to_bits bits_of num pack_to pack name_bits mark_bits word_bits resource_bits content_bits annotation_bits variant_bits type_bits extension_bits sheet_bits encode field_onto allowed repeat_onto counted is_word_byte word word_field word_if_flag name associated associated_list kinds annotation mark variant type_info extension sheet
+unfolding odd to_bits bits_of num pack_to pack name_bits mark_bits word_bits resource_bits content_bits annotation_bits variant_bits type_bits extension_bits sheet_bits encode field_onto allowed repeat_onto counted is_first_byte is_word_byte word word_field word_if_flag name associated associated_list kinds annotation mark variant type_info extension sheet
 worked-read = refl
 
--- ---- every construct: each kind, a two-word type, each variant, both marks, an extension
+-- ---- every construct: a word with hyphens, each kind, a two-word type, each variant, both marks, an extension
 
 abbrev pub everything : Sheet
 everything = record {
-  words = (65 ∷ 95 ∷ 57 ∷ []) ∷ (97 ∷ []) ∷ (98 ∷ []) ∷ resource_bytes ∷ self_bytes ∷ [];
+  words = (65 ∷ 45 ∷ 95 ∷ 57 ∷ 45 ∷ []) ∷ (97 ∷ []) ∷ (98 ∷ []) ∷ resource_bytes ∷ self_bytes ∷ [];
   types =
       record {
         name = 1 ∷ [];
@@ -129,7 +138,7 @@ everything = record {
 }
 
 pub everything-read : ReadBack everything
-unfolding odd to_bits bits_of num pack_to pack name_bits mark_bits word_bits resource_bits content_bits annotation_bits variant_bits type_bits extension_bits sheet_bits encode field_onto allowed repeat_onto counted is_word_byte word word_field word_if_flag name associated associated_list kinds annotation mark variant type_info extension sheet
+unfolding odd to_bits bits_of num pack_to pack name_bits mark_bits word_bits resource_bits content_bits annotation_bits variant_bits type_bits extension_bits sheet_bits encode field_onto allowed repeat_onto counted is_first_byte is_word_byte word word_field word_if_flag name associated associated_list kinds annotation mark variant type_info extension sheet
 everything-read = refl
 
 -- ---- every count at its limit: 200 words, one of 31 bytes; 64 types, one with 8 parents, 12 annotations and 7 marks; 32
@@ -177,5 +186,5 @@ at_limits = record {
 }
 
 pub at_limits-read : ReadBack at_limits
-unfolding odd to_bits bits_of num pack_to pack name_bits mark_bits word_bits resource_bits content_bits annotation_bits variant_bits type_bits extension_bits sheet_bits encode field_onto allowed repeat_onto counted is_word_byte word word_field word_if_flag name associated associated_list kinds annotation mark variant type_info extension sheet
+unfolding odd to_bits bits_of num pack_to pack name_bits mark_bits word_bits resource_bits content_bits annotation_bits variant_bits type_bits extension_bits sheet_bits encode field_onto allowed repeat_onto counted is_first_byte is_word_byte word word_field word_if_flag name associated associated_list kinds annotation mark variant type_info extension sheet
 at_limits-read = refl

@@ -2,7 +2,7 @@
 use Rattle.std.specs.Prelude.{Bool, true, false, ◌&&◌, ◌≡◌, leb, length}
 use mathlib.Core.List.{List, [], ◌∷◌, ◌++◌, append_assoc, append-nil}
 use Rattle.std.proofs.Math.Path.{refl, sym, ap}
-use Rattle.std.proofs.Common.{ap₂, ◌∙◌, mod-eq_of_lt, zero-mul, zero-add, one-add, arith, le-leb, leb-true, length-append}
+use Rattle.std.proofs.Common.{ap₂, ◌∙◌, subst, mod-eq_of_lt, zero-mul, zero-add, one-add, arith, le-leb, leb-true, length-append}
 use Prim.Native.Nat.{ℕ, zero, suc, ◌+◌, ◌*◌, ◌/◌, ◌%◌, ◌^◌, ◌≤◌, ◌<◌}
 use Rattle.std.proofs.Math.Nat.{pow-succ'}
 use Rattle.std.proofs.Math.Arith.{digits_lt}
@@ -210,6 +210,17 @@ module _ {A : Type 0} {m : Parser A} {enc : A → List Bool} {P : A → Type 0} 
       only-more (repeat_onto (xs ++ (x ∷ [])) m n) (OntoList (xs ++ (x ∷ [])) n) (λ l bits. OntoList xs (suc n) l (enc x ++ bits))
       (λ l bits t. (x ∷ t.0, t.1 ∙ Seq.append_snoc xs x t.0, ap suc t.2, (p, t.3), ap (λ k. enc x ++ k) t.4))
       (only-repeat n (xs ++ (x ∷ []))))
+
+  -- n entries
+  pub repeat-codes : (n : ℕ) → Codes (repeat m n) (each enc) (λ l. (length l ≡ n) × Every P l)
+  unfolding OntoList
+  repeat-codes n = record {
+    back = λ l q. subst (λ k. Reads (repeat m k) l (each enc l)) q.0 (reads-repeat [] l q.1);
+    only =
+        only-more (repeat m n) (OntoList [] n) (Exact (each enc) (λ l. (length l ≡ n) × Every P l))
+        (λ l bits t. rw (t.1, t.4) (refl, (t.2, t.3)))
+        (only-repeat n []);
+  }
 
   -- a count, and directly behind it so many entries (FORMAT 2.3)
   pub counted-codes : (n least most : ℕ) → most < 2 ^ n → Codes (counted n least most m) (counted_bits n enc) (Counted least most P)

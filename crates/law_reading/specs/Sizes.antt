@@ -6,7 +6,7 @@ use Rattle.definitions.specs.Bits.{to_bits}
 use Rattle.definitions.specs.Records.{Name, Resource, make_list, associate, nest_associate, alias, inherit, derive, no_derive, Annotation, Variant, domain, resource, other, Mark, makelist_mark, derive_mark, TypeInfo, Extension, Sheet}
 use Rattle.definitions.specs.Checks.{kind_of}
 use Rattle.definitions.specs.Packing.{counted_bits, word_if_flag_bits, name_bits, mark_bits}
-use Rattle.definitions.specs.Legal.{Every, Counted, LegalByte, LegalWord, LegalWordIfAny, LegalName, LegalResource, LegalResources, LegalAnnotation, LegalMark, LegalType, LegalExtension, WithinLimits}
+use Rattle.definitions.specs.Legal.{Every, Counted, LegalWord, LegalWordIfAny, LegalName, LegalResource, LegalResources, LegalAnnotation, LegalMark, LegalType, LegalExtension, WithinLimits}
 use Rattle.definitions.specs.Encoding.{word_bits, resource_bits, content_bits, annotation_bits, variant_bits, type_bits, extension_bits, sheet_bits}
 use Rattle.bits.specs.NumberLaws.{length-to_bits}
 
@@ -32,9 +32,17 @@ counted-size n least most f P k h l c = rw (length-append (to_bits n (length l))
 field-size : (P : ℕ → Type 0) (n v : ℕ) → P v → length (to_bits n v) ≤ n
 field-size P n v p = omega (arith, length-to_bits n v)
 
+any-every : (l : List ℕ) → Every (λ v. Unit {0}) l
+any-every [] = tt
+any-every (x ∷ l) = (tt, any-every l)
+
 word_size : (w : List ℕ) → LegalWord w → length (word_bits w) ≤ 253
 unfolding word_bits
-word_size w h = counted-size 5 1 31 (to_bits 8) LegalByte 8 (field-size LegalByte 8) w h
+word_size [] h = absurd h
+word_size (b ∷ w) h =
+    let few = h.1.few in
+    counted-size 5 1 31 (to_bits 8) (λ v. Unit {0}) 8 (λ v u. field-size (λ v. Unit {0}) 8 v u) (b ∷ w)
+    (record { enough = omega arith; few = omega arith; every = any-every (b ∷ w) })
 
 flagged-size : (W : ℕ) (l : List ℕ) → LegalWordIfAny W l → length (word_if_flag_bits l) ≤ 9
 flagged-size W [] h = omega arith

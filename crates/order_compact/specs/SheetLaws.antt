@@ -19,7 +19,7 @@ use Rattle.order_parents.specs.SheetLaws.{ByName, key-within, type-within, rows-
 use Rattle.order_compact.specs.Compact.{Drafts}
 use Rattle.order_compact.specs.Reading.{Drawn}
 
-module _ (s : Sheet) (bs : List Bool) (d : Draft) (entries : List Entry) (n : ℕ) (r : Drafted s bs d n) (en : Entered d entries n) (o : ByName s bs d entries n) where
+module _ (s : Sheet) (bs : List Bool) (d : Draft) (entries : List Entry) (n : ℕ) (r : Drafted s bs d n) (en : Entered s.words d entries n) (o : ByName s bs d entries n) where
   pub names_of : (a : ℕ) → a < n → (type_at (type_map_of s) a).name ≡ name_of_key (key_at d (row_of entries a))
   unfolding type_in
   names_of a h = ap (λ (T : TypeInfo). T.name) (row-at s bs d entries n r en o a h)

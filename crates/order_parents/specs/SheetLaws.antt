@@ -145,7 +145,7 @@ looks-of s t key w l k = record {
 
 -- ---- the draft
 
-module _ (s : Sheet) (bs : List Bool) (d : Draft) (entries : List Entry) (n : ℕ) (r : Drafted s bs d n) (en : Entered d entries n) (o : ByName s bs d entries n) where
+module _ (s : Sheet) (bs : List Bool) (d : Draft) (entries : List Entry) (n : ℕ) (r : Drafted s bs d n) (en : Entered s.words d entries n) (o : ByName s bs d entries n) where
   abbrev row_type : Entry → TypeInfo
   row_type e = type_in (length s.words) bs d e.row
 
@@ -177,7 +177,7 @@ module _ (s : Sheet) (bs : List Bool) (d : Draft) (entries : List Entry) (n : �
   prepared-of w = record {
     few = r.few;
     keys = λ a h. record {
-      place = omega (arith, row-below d entries n r.few en a h, r.few);
+      place = omega (arith, row-below s.words d entries n r.few en a h, r.few);
       keys = λ k l. let e = key-at w a k h l in omega (arith, e.first, w.words);
     };
   }

@@ -1,24 +1,39 @@
 -- Laws of the decoder: the lists that were read are those of a sheet, and the tests behind them.
-use Rattle.std.specs.Prelude.{Bool, true, false, List, ◌≡◌, refl, ℕ, ◌≤◌, length, drop, Ok, Err}
-use Rattle.std.proofs.Common.{sym, ap, ◌∙◌, arith}
+use Rattle.std.specs.Prelude.{Bool, true, false, List, ◌≡◌, refl, ℕ, ◌≤◌, ◌<◌, length, drop, Ok, Err}
+use Rattle.std.proofs.Common.{sym, ap, ◌∙◌, subst, arith}
+use Rattle.lists.specs.Lists.{In}
+use Rattle.lists.specs.Sorting.{ascends-sorted}
+use Rattle.lists.specs.Tabulating.{tabulate-in}
 use Rattle.definitions.specs.Bits.{bits_of}
 use Rattle.definitions.specs.Parse.{Parsed, done, refused}
 use Rattle.definitions.specs.Reading.{sheet}
 use Rattle.definitions.specs.Checks.{resource_bytes, self_bytes, bad_fill, bad_words, something_twice}
 use Rattle.definitions.specs.Map.{number_of}
 use Rattle.definitions.specs.Records.{Sheet}
+use Rattle.definitions.specs.Legal.{LegalType}
 use Rattle.definitions.specs.Answer as rules
 use Rattle.definitions.specs.Answer.{sheet_fault}
 use Rattle.fields.specs.declared.Fault.{Fault}
 use Rattle.fields.specs.Fields.{fault_of}
 use Rattle.law_decoding.specs.Decoding.{turned_back, decoded}
+use Rattle.law_orders.specs.Comparisons.{bytes-strict}
+use Rattle.law_orders.specs.Reach.{NoHyphen}
+use Rattle.law_orders.specs.Self.{words-ascend}
+use Rattle.law_orders.proofs.Spelling.{every_in, not_null}
+use Rattle.law_lines.specs.Within.{Within}
+use Rattle.law_lines.specs.Reading.{read-is-within}
+use Rattle.law_decoding.specs.ReadLaws.{limits, few_words}
 use Rattle.law_decoding.specs.DecodingLaws.{was_read, not-read, seven, five, six}
 use Rattle.sheet_words.specs.Words.{Telling, telling_of}
 use Rattle.catalogue.specs.declared.Catalogue.{Catalogue}
 use Rattle.sheet_draft.specs.declared.Draft.{Draft}
 use Rattle.sheet_draft.specs.declared.entry.Entry.{Entry}
-use Rattle.sheet_draft.specs.Draft.{types_in}
+use Rattle.sheet_keys.specs.Keys.{name_of_key}
+use Rattle.sheet_reach.specs.Reach.{Reaches, LegalKey}
+use Rattle.sheet_reach.specs.declared.Reach.{Reach}
+use Rattle.sheet_draft.specs.Draft.{key_at, type_in, types_in}
 use Rattle.sheet_draft.specs.Drafted.{Entered}
+use Rattle.sheet_order.specs.Entries.{KeysReach, Orders}
 use Rattle.sheet_extensions.specs.Records.{records_in}
 use Rattle.sheet_decode.specs.Lists.{Seen, seen, of_lists, Kept}
 use Rattle.answers.specs.declared.Refusal.{Refusal}
@@ -96,8 +111,8 @@ module _ (bytes : List ℕ) (d : Draft) (t : Catalogue) (l : Lists) (h : Listed 
       pub twice-back : something_twice h.s ≡ true → decoded bytes ≡ turned_back 6
       twice-back c = was_read bytes h.s rest h.read ∙ six h.s rest f (sym h.bad ∙ g) c
 
-      pub passes : something_twice h.s ≡ false → length bytes ≤ 40960 → (entries : List Entry) → Entered d entries l.read.count → Kept (bits_of bytes) d l.read → Whole bytes d entries t l.read
-      passes c short entries en k = record {
+      pub passes : something_twice h.s ≡ false → length bytes ≤ 40960 → (entries : List Entry) → Entered h.s.words d entries l.read.count → Kept (bits_of bytes) d l.read → (l.read.hyphens ≡ false → NoHyphen h.s.words) → Whole bytes d entries t l.read
+      passes c short entries en k plain = record {
         s = h.s;
         holds = record { rest = rest; short = short; read = h.read; fill = f; words = sym h.bad ∙ g; once = c };
         drafted = record {
@@ -110,4 +125,39 @@ module _ (bytes : List ℕ) (d : Draft) (t : Catalogue) (l : Lists) (h : Listed 
         width = h.width;
         resource = h.resource;
         self = h.own;
+        plain = plain;
       }
+
+-- ---- the order by name
+
+-- what it rests on, where words are not refused
+module _ (bytes : List ℕ) (d : Draft) (t : Catalogue) (l : Lists) (h : Listed bytes d t l) (few : l.read.count ≤ 64) where
+  key-legal : (i : ℕ) → i < l.read.count → LegalKey h.s.words (key_at d i)
+  unfolding types_in type_in
+  key-legal i b =
+      let e : LegalType (length h.s.words) (type_in l.read.width (bits_of bytes) d i) =
+      every_in (LegalType (length h.s.words)) (limits (bits_of bytes) h.s rest h.read).types.every
+      (subst (In (type_in l.read.width (bits_of bytes) d i)) h.types (tabulate-in (type_in l.read.width (bits_of bytes) d) l.read.count i b)) in
+      e.name
+    where
+      rest : List Bool
+      rest = drop l.at (bits_of bytes)
+
+  pub keys-reach : KeysReach d l.read.count
+  unfolding name_of_key
+  keys-reach i b = omega (arith, (key-legal i b).0, few_words (bits_of bytes) h.s (drop l.at (bits_of bytes)) h.read)
+
+  pub orders : l.bad ≡ false → (r : Reach) → Reaches h.s.words r → Orders h.s.words r d l.read.count
+  orders g r reaches = record {
+    words = record {
+      ascend = ascends-sorted bytes-strict h.s.words (words-ascend h.s.words (sym h.bad ∙ g));
+      filled = λ w i. not_null w (within.word w i).filled;
+      least = λ w i. (within.word w i).least;
+      no_dot = λ w i. (within.word w i).no_dot;
+    };
+    reaches = reaches;
+    keys = key-legal;
+  }
+    where
+      within : Within h.s
+      within = read-is-within (bits_of bytes) (drop l.at (bits_of bytes)) h.s h.read

@@ -1,11 +1,12 @@
 -- What the decoder answers.
-use Rattle.std.specs.Prelude.{List, ◌≡◌, ℕ, ◌≤◌, length, Result, MatchResult}
+use Rattle.std.specs.Prelude.{false, List, ◌≡◌, ℕ, ◌≤◌, length, Result, MatchResult}
 use Rattle.definitions.specs.Bits.{bits_of}
 use Rattle.definitions.specs.Checks.{resource_bytes, self_bytes}
 use Rattle.definitions.specs.Map.{number_of}
 use Rattle.definitions.specs.Records.{Sheet}
 use Rattle.definitions.specs.Relisted.{Holds}
 use Rattle.law_decoding.specs.Decoding.{turned_back, decoded}
+use Rattle.law_orders.specs.Reach.{NoHyphen}
 use Rattle.catalogue.specs.declared.Catalogue.{Catalogue}
 use Rattle.sheet_draft.specs.declared.Decoding.{Decoding}
 use Rattle.sheet_draft.specs.declared.Draft.{Draft}
@@ -28,11 +29,12 @@ pub record Whole (bytes : List ℕ) (d : Draft) (entries : List Entry) (t : Cata
   pub holds : Holds bytes s
   pub drafted : Drafted s (bits_of bytes) d r.count
   pub notes : NotesRead (length s.words) (bits_of bytes) d r.count
-  pub entered : Entered d entries r.count
+  pub entered : Entered s.words d entries r.count
   pub extensions : Extensions s t r.extensions
   pub width : r.width ≡ length s.words
   pub resource : r.resource ≡ number_of resource_bytes s.words
   pub self : r.own ≡ number_of self_bytes s.words
+  pub plain : r.hyphens ≡ false → NoHyphen s.words
 
 -- The refusal has the number of the first test that holds of the bytes, and nothing comes with it.
 pub record Back (bytes : List ℕ) (e : Refusal) : Type 0 where

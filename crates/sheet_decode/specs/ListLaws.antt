@@ -1,11 +1,11 @@
 -- Laws of the lists: each is read behind the one before.
 use Rattle.std.specs.Prelude.{Bool, List, ◌≡◌, refl, ℕ, length, drop, Ok, Err}
 use Rattle.std.proofs.Math.Path.{sym}
-use Rattle.std.proofs.Common.{ap, ◌∙◌}
+use Rattle.std.proofs.Common.{ap, ◌∙◌, arith}
 use Rattle.definitions.specs.Parse as parse
 use Rattle.definitions.specs.Parse.{Parsed, done, refused, next, ◌>>=◌, pure, counted}
 use Rattle.definitions.specs.Reading.{word, type_info, extension, sheet}
-use Rattle.definitions.specs.Records.{TypeInfo, Extension}
+use Rattle.definitions.specs.Records.{TypeInfo, Extension, Sheet}
 use Rattle.bits.specs.declared.Cursor.{Cursor}
 use Rattle.fields.specs.declared.Fault.{Fault}
 use Rattle.fields.specs.Fields.{fault_of}
@@ -71,3 +71,30 @@ module _ (w : Telling) (cs : List Bool) where
         done (record { telling = w; types = ts; extensions = es }) left ≡ records w cs
     unfolding records
     records-read es left f = sym (rw (← e, ← f))
+
+-- ---- the words of the sheet
+
+module _ (bs : List Bool) (c : Cursor) (e : of_opening bs (Ok c) ≡ version bs) where
+  -- they are those that are read behind the version
+  pub words_are : (s : Sheet) (rest : List Bool) → sheet bs ≡ done s rest → (left : List Bool) × (counted 8 2 200 word (drop c.at bs) ≡ done s.words left)
+  unfolding lists
+  words_are s rest q = counting (counted 8 2 200 word (drop c.at bs)) refl (sym (sheet-parts bs ∙ rw (← e)) ∙ q)
+    where
+      Words : List (List ℕ) → Type 0
+      Words ws = ws ≡ s.words
+
+      ends : (ws : List (List ℕ)) (ts : List TypeInfo) (x : Parsed (List Extension)) →
+          next x (λ es. pure (record { words = ws; types = ts; extensions = es })) ≡ done s rest → Words ws
+      ends ws ts (done es r) f = let z : record { words = ws; types = ts; extensions = es } ≡ s = cc in ap (λ (t : Sheet). t.words) z
+      ends ws ts (refused r) f = let z : ◌≡◌ {A = ℕ} 0 1 = cc in absurd (omega arith)
+
+      types : (ws : List (List ℕ)) (x : Parsed (List TypeInfo)) →
+          next x (λ ts. counted 6 0 32 (extension (length ws)) >>= λ es. pure (record { words = ws; types = ts; extensions = es })) ≡ done s rest → Words ws
+      types ws (done ts r) f = ends ws ts (counted 6 0 32 (extension (length ws)) r) f
+      types ws (refused r) f = let z : ◌≡◌ {A = ℕ} 0 1 = cc in absurd (omega arith)
+
+      counting : (x : Parsed (List (List ℕ))) → counted 8 2 200 word (drop c.at bs) ≡ x →
+          next x (λ ws. counted 7 0 64 (type_info (length ws)) >>= λ ts. counted 6 0 32 (extension (length ws)) >>= λ es. pure (record { words = ws; types = ts; extensions = es })) ≡ done s rest
+          → (left : List Bool) × (counted 8 2 200 word (drop c.at bs) ≡ done s.words left)
+      counting (done ws r) p f = (r, p ∙ ap (λ (l : List (List ℕ)). done l r) (types ws (counted 7 0 64 (type_info (length ws)) r) f))
+      counting (refused r) p f = let z : ◌≡◌ {A = ℕ} 0 1 = cc in absurd (omega arith)

@@ -1,7 +1,7 @@
 -- What the decoder reads: the lists of a sheet, of the words no more than is asked later.
-use Rattle.std.specs.Prelude.{Bool, List, ◌≤◌, drop, Result, Ok, Err}
+use Rattle.std.specs.Prelude.{Bool, List, ◌≡◌, ◌≤◌, drop, Result, Ok, Err}
 use Rattle.definitions.specs.Parse.{Parsed, done, refused, Parser, next, ◌>>=◌, pure, counted}
-use Rattle.definitions.specs.Reading.{type_info, extension}
+use Rattle.definitions.specs.Reading.{type_info, extension, sheet}
 use Rattle.definitions.specs.Records.{TypeInfo, Extension, Sheet}
 use Rattle.fields.specs.declared.Fault.{Fault}
 use Rattle.fields.specs.Fields.{fault_of}
@@ -11,6 +11,8 @@ use Rattle.sheet_draft.specs.declared.Draft.{Draft}
 use Rattle.sheet_draft.specs.Draft.{types_in}
 use Rattle.sheet_types.specs.Rows.{NotesRead}
 use Rattle.sheet_extensions.specs.Records.{records_in}
+use Rattle.sheet_reach.specs.Reach.{Reaches}
+use Rattle.sheet_reach.specs.declared.Reach.{Reach}
 use Rattle.sheet_words.specs.Words.{Telling, telling_of}
 use Rattle.sheet_words.specs.declared.WordsRead.{WordsRead}
 use Rattle.sheet_decode.specs.declared.Lists.{Lists}
@@ -54,3 +56,7 @@ pub record Kept (bs : List Bool) (d : Draft) (n : Decoding) : Type 0 where
   pub count : n.count ≤ 64
   pub extensions : n.extensions ≤ 32
   pub notes : NotesRead n.width bs d n.count
+
+-- How far the words of the sheet in the bits reach (FORMAT 1.4).
+abbrev pub WordsReached : List Bool → Reach → Type 0
+WordsReached bs r = (s : Sheet) (rest : List Bool) → sheet bs ≡ done s rest → Reaches s.words r

@@ -12,15 +12,15 @@ use Rattle.sheet_draft.specs.declared.entry.Entry.{Entry}
 use Rattle.sheet_draft.specs.Draft.{key_at}
 use Rattle.sheet_draft.specs.Drafted.{entry_at, no_entry, entry_before, entries_of, Entered}
 
-module _ (d : Draft) (entries : List Entry) (n : ℕ) (few : n ≤ 64) (en : Entered d entries n) (a : ℕ) (h : a < n) where
+module _ (ws : List (List ℕ)) (d : Draft) (entries : List Entry) (n : ℕ) (few : n ≤ 64) (en : Entered ws d entries n) (a : ℕ) (h : a < n) where
   entry-is : (i : ℕ) × (i < n) × (get_or entries a no_entry ≡ entry_at d i)
   unfolding entries_of
   entry-is =
       let l : length (take n entries) ≡ n = length-take-le n entries (omega (arith, en.long)) in
       let x : In (get_or (take n entries) a no_entry) (take n entries) = get_d-in (take n entries) no_entry a (omega (arith, l)) in
-      let y : In (get_or entries a no_entry) (sort entry_before (entries_of d n)) =
+      let y : In (get_or entries a no_entry) (sort (entry_before ws) (entries_of d n)) =
       subst (λ (k : List Entry). In (get_or entries a no_entry) k) en.sorted (subst (λ (e : Entry). In e (take n entries)) (get_or-take n entries a no_entry h) x) in
-      tabulate-of (entry_at d) n ((sort-is entry_before (entries_of d n) (get_or entries a no_entry)).0 y)
+      tabulate-of (entry_at d) n ((sort-is (entry_before ws) (entries_of d n) (get_or entries a no_entry)).0 y)
 
   pub row-below : (get_or entries a no_entry).row < n
   row-below = let e = ap (λ (x : Entry). x.row) entry-is.2 in omega (arith, e, entry-is.1)

@@ -9,7 +9,8 @@ mod entry;
 
 pub use entry::Entry;
 
-// How many words, types and extension records a sheet has, and the numbers of its words `resource` and `self`.
+// How many words, types and extension records a sheet has, the numbers of its words `resource` and `self`, and whether a word has a
+// hyphen.
 #[derive(Clone, Copy)]
 pub struct Decoding {
     pub width: usize,
@@ -17,6 +18,7 @@ pub struct Decoding {
     pub extensions: usize,
     pub resource: u8,
     pub own: u8,
+    pub hyphens: bool,
 }
 
 // What was read of a type.

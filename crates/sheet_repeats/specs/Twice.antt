@@ -7,9 +7,12 @@ use Rattle.sheet_draft.specs.declared.Decoding.{Decoding}
 use Rattle.sheet_draft.specs.declared.Draft.{Draft}
 use Rattle.sheet_draft.specs.declared.entry.Entry.{Entry}
 use Rattle.sheet_draft.specs.Draft.{types_in}
-use Rattle.sheet_draft.specs.Drafted.{entry_before}
 use Rattle.catalogue.specs.declared.Catalogue.{Catalogue}
 use Rattle.catalogue.specs.Layout.{extension_key_at}
+
+-- Two entries have two keys.
+abbrev pub apart : Entry → Entry → Bool
+apart e f = not (eqb e.key f.key)
 
 -- The keys of the first n extension records (FORMAT 2.10).
 unfoldable pub keys_in : Catalogue → ℕ → List ℕ
@@ -24,5 +27,5 @@ pub record Few (n : Decoding) : Type 0 where
 -- Two neighbours in name order have one name, two extension records one key, or a type repeats something (FORMAT 2.12).
 abbrev pub twice_in : Decoding → List Bool → Draft → List Entry → Catalogue → Bool
 twice_in n bs d entries t =
-    not (ascends entry_before (take n.count entries))
+    not (ascends apart (take n.count entries))
     || (repeats eqb (keys_in t n.extensions) || any type_repeats (types_in n.width bs d n.count))

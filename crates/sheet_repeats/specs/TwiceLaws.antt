@@ -6,18 +6,21 @@ use mathlib.Core.List.Memᴰ
 use mathlib.Core.List.Permᴰ
 use mathlib.Core.List.{List, [], ◌∷◌, map}
 use Rattle.std.proofs.Math.Path.{sym, ap, ap₂}
-use Rattle.std.proofs.Common.{◌∙◌, subst, eq-eqb, ne_eqb, eqb-true, lt-ltb, ltb-true}
+use Rattle.std.proofs.Common.{◌∙◌, subst, eq-eqb, ne_eqb, eqb-true}
 use native.Mathlib.Omega.{arith}
 use Rattle.std.proofs.lemmas.Bool.{eqb-false}
 use Rattle.std.proofs.Math.Dec.{eqb}
 use Rattle.std.proofs.Math.ListN.{get_or}
-use Rattle.lists.specs.Lists.{In, Sorted, any, repeats, ascends, sort, same_list}
-use Rattle.lists.specs.Tests.{by, never, same_test, and_left, and_right, and_both, or-false-both, any_none, cons-elim}
+use Rattle.lists.specs.Lists.{In, Sorted, any, repeats, ascends, insert, sort, same_list}
+use Rattle.lists.specs.Tests.{by, never, not_so, same_test, and_left, and_right, and_both, or-false-both, any_none, cons-elim}
 use Rattle.lists.specs.Places.{any_step, any-end, repeats-step, repeats-end}
 use Rattle.lists.specs.Sorting.{sorted-imp, sorted-ascends, repeats-not, perm-sorted, sort-perm}
 use Rattle.lists.specs.Appending.{repeats-map, repeats-alike}
 use Rattle.lists.specs.Tabulating.{tabulate, map-tabulate, length-tabulate, get_d_tabulate, tabulate-of}
-use Rattle.definitions.specs.Comparisons.{same_name}
+use Rattle.lists.specs.Strict.{Strict, asymmetric, total}
+use Rattle.lists.specs.Lexicographic.{numbers-same}
+use Rattle.definitions.specs.Comparisons.{same_name, name_before}
+use Rattle.law_orders.specs.Comparisons.{name-strict}
 use Rattle.definitions.specs.Checks.{something_twice}
 use Rattle.definitions.specs.Records as records
 use Rattle.sheet_same.specs.RangeLaws.{any-range}
@@ -30,12 +33,10 @@ use Rattle.sheet_draft.specs.declared.Draft.{Draft}
 use Rattle.sheet_draft.specs.declared.entry.Entry.{Entry}
 use Rattle.sheet_draft.specs.Draft.{key_at, place_at, notes_of, notes_at, type_in, types_in}
 use Rattle.sheet_draft.specs.Drafted.{no_entry, entry_at, entry_before, entries_of, Entered}
-use Rattle.sheet_order.specs.Entries.{UpTo}
-use Rattle.sheet_order.specs.EntryLaws.{up-sort}
 use Rattle.catalogue.specs.declared.Catalogue.{Catalogue}
 use Rattle.catalogue.specs.Layout.{extension_key_at}
 use Rattle.sheet_extensions.specs.Records.{record_in, records_in}
-use Rattle.sheet_repeats.specs.Twice.{keys_in, twice_in}
+use Rattle.sheet_repeats.specs.Twice.{apart, keys_in, twice_in}
 
 -- ---- lists
 
@@ -87,60 +88,113 @@ same_entry e f = eqb e.key f.key
 abbrev Apart : Entry → Entry → Type 0
 Apart x y = same_entry x y ≡ false
 
--- a list that ascends from each entry to the next has no key twice
-ascends-apart : (l : List Entry) → ascends entry_before l ≡ true → Sorted (λ x y. x.key < y.key) l
-ascends-apart [] e = tt
-ascends-apart (x ∷ []) e = (λ y i. absurd (Memᴰ.not-nil i), tt)
-ascends-apart (x ∷ y ∷ l) e =
-    let p : x.key < y.key = ltb-true x.key y.key (and_left (entry_before x y) (ascends entry_before (y ∷ l)) e) in
-    let s = ascends-apart (y ∷ l) (and_right (entry_before x y) (ascends entry_before (y ∷ l)) e) in
-    (λ z i. cons-elim i (λ q. subst (λ (w : Entry). x.key < w.key) (sym q) p) (λ j. let r : y.key < z.key = s.0 z j in omega (arith, p, r)), s)
+-- a key is that of its name
+key-named : (k l : ℕ) → name_of_key k ≡ name_of_key l → k ≡ l
+key-named k l e = eqb-true k l (sym (same_key k l) ∙ numbers-same e)
 
--- neighbours of the sorted list decide
-neighbours : (l : List Entry) → not (ascends entry_before (sort entry_before l)) ≡ repeats same_entry l
-neighbours l =
-    by (repeats same_entry l)
-    (λ e.
-    by (ascends entry_before (sort entry_before l))
-    (λ a. never e (not-repeats same_entry l (perm-sorted Apart flip (Permᴰ.symm (sort-perm entry_before l))
-    (sorted-imp (sort entry_before l) (λ x y i j h. ne_eqb x.key y.key (λ q. omega (arith, q, h))) (ascends-apart (sort entry_before l) a)))))
-    (λ a. rw (a, e)))
-    (λ e.
-    let s = perm-sorted Apart flip (sort-perm entry_before l) (repeats-not same_entry l e) in
-    rw (e, sorted-ascends entry_before (sort entry_before l) (up (sort entry_before l) (up-sort l) s)))
-  where
-    flip : (x y : Entry) → Apart x y → Apart y x
-    flip x y h = ne_eqb y.key x.key (λ q. eqb-false x.key y.key h (sym q))
+-- of two entries in name order the second does not come before the first
+abbrev Behind : List (List ℕ) → Entry → Entry → Type 0
+Behind ws x y = entry_before ws y x ≡ false
 
-    up : (k : List Entry) → Sorted UpTo k → Sorted Apart k → Sorted (λ x y. entry_before x y ≡ true) k
-    up [] u v = tt
-    up (x ∷ k) u v = (
-      λ y i. let a : x.key ≤ y.key = u.0 y i in lt-ltb x.key y.key (omega (arith, a, eqb-false x.key y.key (v.0 y i))),
-      up k u.1 v.1,
-    )
+module _ (ws : List (List ℕ)) where
+  abbrev before : Entry → Entry → Bool
+  before = entry_before ws
+
+  strict : Strict (name_before ws)
+  strict = name-strict ws
+
+  insert-of : (x : Entry) (l : List Entry) {z : Entry} → In z (insert before x l) → In z (x ∷ l)
+  unfolding insert
+  insert-of x [] i = i
+  insert-of x (y ∷ l) i =
+      by (before x y)
+      (λ b. rw b at i)
+      (λ b.
+      cons-elim (rw b at i)
+      (λ q. Memᴰ.tail (Memᴰ.head q))
+      (λ j. cons-elim (insert-of x l j) (λ q. Memᴰ.head q) (λ k. Memᴰ.tail (Memᴰ.tail k))))
+
+  -- what comes before something does not come behind what is not before it
+  behind-more : (x y z : Entry) → before x y ≡ true → Behind ws y z → Behind ws x z
+  behind-more x y z p q =
+      not_so (λ e. never (strict.transitive (name_of_key z.key) (name_of_key x.key) (name_of_key y.key) e p) q)
+
+  behind-insert : (x : Entry) (l : List Entry) → Sorted (Behind ws) l → Sorted (Behind ws) (insert before x l)
+  unfolding insert
+  behind-insert x [] s = (λ y i. absurd (Memᴰ.not-nil i), tt)
+  behind-insert x (y ∷ l) s =
+      by (before x y)
+      (λ b.
+      rw b (
+        λ z i. cons-elim i
+            (λ e. subst (Behind ws x) (sym e) (not_so (λ f. asymmetric strict (name_of_key x.key) (name_of_key y.key) b f)))
+            (λ j. behind-more x y z b (s.0 z j)),
+        s,
+      ))
+      (λ b. rw b (λ z i. cons-elim (insert-of x l i) (λ e. subst (Behind ws y) (sym e) b) (s.0 z), behind-insert x l s.1))
+
+  behind-sort : (l : List Entry) → Sorted (Behind ws) (sort before l)
+  unfolding sort
+  behind-sort [] = tt
+  behind-sort (x ∷ l) = behind-insert x (sort before l) (behind-sort l)
+
+  -- entries in name order of which no two neighbours have one key have no key twice
+  apart-all : (l : List Entry) → Sorted (Behind ws) l → ascends apart l ≡ true → Sorted (λ x y. before x y ≡ true) l
+  apart-all [] s e = tt
+  apart-all (x ∷ []) s e = (λ y i. absurd (Memᴰ.not-nil i), tt)
+  apart-all (x ∷ y ∷ l) s e =
+      let r = apart-all (y ∷ l) s.1 (and_right (apart x y) (ascends apart (y ∷ l)) e) in
+      let n = and_left (apart x y) (ascends apart (y ∷ l)) e in
+      let p : before x y ≡ true =
+      total strict (name_of_key y.key) (name_of_key x.key) (s.0 y (Memᴰ.head refl))
+      (λ q. never n (rw (eq-eqb x.key y.key (sym (key-named y.key x.key q))) refl)) in (
+        λ z i. cons-elim i (λ q. subst (λ (w : Entry). before x w ≡ true) (sym q) p)
+            (λ j. strict.transitive (name_of_key x.key) (name_of_key y.key) (name_of_key z.key) p (r.0 z j)),
+        r,
+      )
+
+  before-apart : (x y : Entry) → before x y ≡ true → Apart x y
+  before-apart x y p =
+      not_so (λ e. never p (rw (eqb-true x.key y.key e) (strict.irreflexive (name_of_key y.key))))
+
+  -- neighbours of the sorted list decide
+  neighbours : (l : List Entry) → not (ascends apart (sort before l)) ≡ repeats same_entry l
+  neighbours l =
+      by (repeats same_entry l)
+      (λ e.
+      by (ascends apart (sort before l))
+      (λ a. never e (not-repeats same_entry l (perm-sorted Apart flip (Permᴰ.symm (sort-perm before l))
+      (sorted-imp (sort before l) (λ x y i j h. before-apart x y h) (apart-all (sort before l) (behind-sort l) a)))))
+      (λ a. rw (a, e)))
+      (λ e.
+      let s = perm-sorted Apart flip (sort-perm before l) (repeats-not same_entry l e) in
+      rw (e, sorted-ascends apart (sort before l) (sorted-imp (sort before l) (λ x y i j h. ap not h) s)))
+    where
+      flip : (x y : Entry) → Apart x y → Apart y x
+      flip x y h = ne_eqb y.key x.key (λ q. eqb-false x.key y.key h (sym q))
 
 behind : (k : ℕ) → suc k + 1 ≡ suc (k + 1)
 behind k = omega arith
 
 -- what the library's test of neighbours answers
-pub neighbours-ascend : (l : List Entry) (r : Bool) → IsAllAdjacentAnswer (λ x y b. b ≡ entry_before x y) l r → r ≡ ascends entry_before l
+pub neighbours-ascend : (l : List Entry) (r : Bool) → IsAllAdjacentAnswer (λ x y b. b ≡ apart x y) l r → r ≡ ascends apart l
 neighbours-ascend l true h = sym (up l h)
   where
-    up : (l : List Entry) → ((k : ℕ) (d : Entry) → k + 1 < length l → true ≡ entry_before (get_or l k d) (get_or l (k + 1) d)) → ascends entry_before l ≡ true
+    up : (l : List Entry) → ((k : ℕ) (d : Entry) → k + 1 < length l → true ≡ apart (get_or l k d) (get_or l (k + 1) d)) → ascends apart l ≡ true
     up [] h = refl
     up (x ∷ []) h = refl
     up (x ∷ y ∷ l) h =
         and_both (sym (h 0 x (omega arith)))
-        (up (y ∷ l) (λ k d q. h (suc k) d (omega arith) ∙ ap (λ j. entry_before (get_or (y ∷ l) k d) (get_or (x ∷ y ∷ l) j d)) (behind k)))
+        (up (y ∷ l) (λ k d q. h (suc k) d (omega arith) ∙ ap (λ j. apart (get_or (y ∷ l) k d) (get_or (x ∷ y ∷ l) j d)) (behind k)))
 neighbours-ascend l false h = sym (down l h.0 h.1 (h.2 no_entry))
   where
-    down : (l : List Entry) (k : ℕ) → k + 1 < length l → false ≡ entry_before (get_or l k no_entry) (get_or l (k + 1) no_entry) → ascends entry_before l ≡ false
+    down : (l : List Entry) (k : ℕ) → k + 1 < length l → false ≡ apart (get_or l k no_entry) (get_or l (k + 1) no_entry) → ascends apart l ≡ false
     down [] k q e = absurd (omega arith)
     down (x ∷ []) k q e = absurd (omega arith)
-    down (x ∷ y ∷ l) zero q e = ap (λ b. b && ascends entry_before (y ∷ l)) (sym e)
+    down (x ∷ y ∷ l) zero q e = ap (λ b. b && ascends apart (y ∷ l)) (sym e)
     down (x ∷ y ∷ l) (suc k) q e =
-        let s = e ∙ ap (λ j. entry_before (get_or (y ∷ l) k no_entry) (get_or (x ∷ y ∷ l) j no_entry)) (behind k) in
-        ap (λ b. entry_before x y && b) (down (y ∷ l) k (omega arith) s) ∙ and-false (entry_before x y)
+        let s = e ∙ ap (λ j. apart (get_or (y ∷ l) k no_entry) (get_or (x ∷ y ∷ l) j no_entry)) (behind k) in
+        ap (λ b. apart x y && b) (down (y ∷ l) k (omega arith) s) ∙ and-false (apart x y)
 
 module _ (W : ℕ) (bs : List Bool) (d : Draft) (n : ℕ) where
   as-entries : types_in W bs d n ≡ map (λ (e : Entry). type_in W bs d e.row) (entries_of d n)
@@ -154,11 +208,11 @@ module _ (W : ℕ) (bs : List Bool) (d : Draft) (n : ℕ) where
       subst (λ (x : Entry). key_at d x.row ≡ x.key) (sym r.2) refl
 
   -- two types have one name exactly if two neighbours do
-  pub names-twice : (entries : List Entry) → Entered d entries n → not (ascends entry_before (take n entries)) ≡ repeats same_type_name (types_in W bs d n)
+  pub names-twice : (ws : List (List ℕ)) (entries : List Entry) → Entered ws d entries n → not (ascends apart (take n entries)) ≡ repeats same_type_name (types_in W bs d n)
   unfolding type_in
-  names-twice entries en =
-      ap (λ (l : List Entry). not (ascends entry_before l)) en.sorted
-      ∙ neighbours (entries_of d n)
+  names-twice ws entries en =
+      ap (λ (l : List Entry). not (ascends apart l)) en.sorted
+      ∙ neighbours ws (entries_of d n)
       ∙ sym (ap (repeats same_type_name) as-entries
       ∙ repeats-map same_type_name (λ (e : Entry). type_in W bs d e.row) (entries_of d n)
       ∙ repeats-same _ same_entry (entries_of d n)
@@ -248,7 +302,7 @@ types-repeat W bs d n =
 
 -- ---- refusal 6
 
-pub twice-is : (s : records.Sheet) (bs : List Bool) (d : Draft) (entries : List Entry) (t : Catalogue) (n : Decoding) → n.count ≤ 64 → Entered d entries n.count → n.width ≡ length s.words
+pub twice-is : (s : records.Sheet) (bs : List Bool) (d : Draft) (entries : List Entry) (t : Catalogue) (n : Decoding) → n.count ≤ 64 → Entered s.words d entries n.count → n.width ≡ length s.words
     → types_in n.width bs d n.count ≡ s.types → records_in t n.extensions ≡ s.extensions → twice_in n bs d entries t ≡ something_twice s
 twice-is s bs d entries t n few en w ts es =
-    rw (names-twice n.width bs d n.count entries en, keys-twice t n.extensions, ts, es) (sym (something-twice s))
+    rw (names-twice n.width bs d n.count s.words entries en, keys-twice t n.extensions, ts, es) (sym (something-twice s))

@@ -8,22 +8,21 @@ ghost use Rattle.bits.specs.Reading.{Addressable};
 ghost use Rattle.fields.specs.Fields.{bits_in};
 ghost use Rattle.sheet_same.specs.Repeats.{type_repeats};
 ghost use Rattle.sheet_draft.specs.Draft.{types_in};
-ghost use Rattle.sheet_draft.specs.Drafted.{entry_before};
 ghost use Rattle.sheet_types.specs.Rows.{NotesRead};
-ghost use Rattle.sheet_repeats.specs.Twice.{keys_in, Few, twice_in};
+ghost use Rattle.sheet_repeats.specs.Twice.{apart, keys_in, Few, twice_in};
 
 use catalogue::Catalogue;
 use fields::Sheet;
 use sheet_draft::{Draft, Entry};
 use sheet_order::ByName;
 
-// Whether two of the first n entries, which ascend, have one key: two neighbours have then.
+// Whether two of the first n entries, which stand in name order, have one key: two neighbours have then.
 // No `ByName`: with one, the proof did not find how long the array is that it lends.
 fn has_name_twice(entries: &[Entry; 64], n: usize) -> bool
     requires { n ≤ 64 }
-    ensures { result ≡ not (ascends entry_before (take n entries.now)) }
+    ensures { result ≡ not (ascends apart (take n entries.now)) }
 {
-    !entries[..n].is_sorted_by(|a, b| a.key < b.key)
+    !entries[..n].is_sorted_by(|a, b| a.key != b.key)
 }
 
 // Whether a key is that of one of the n extension records, from a place on.

@@ -5,3 +5,4 @@ pub mod MarkLaws
 pub mod HeadLaws
 pub mod WordLaws
 pub mod WordsLaws
+pub mod ReachingLaws

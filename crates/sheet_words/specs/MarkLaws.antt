@@ -14,10 +14,10 @@ use Rattle.std.proofs.Math.Pow
 use Rattle.lists.specs.Lists.{all}
 use Rattle.lists.specs.Tests.{by, and_left, and_right}
 use Rattle.definitions.specs.Bits.{num, to_bits, pack_to}
-use Rattle.definitions.specs.Reading.{is_word_byte}
+use Rattle.definitions.specs.Reading.{is_first_byte, is_word_byte}
 use Rattle.bits.specs.NumberLaws.{num-lt, num-split, num-to_bits, length-pack_to}
-use Rattle.sheet_words.specs.Bytes.{spelt, six, marks}
-use Rattle.sheet_words.specs.ByteLaws.{letter-small}
+use Rattle.sheet_words.specs.Bytes.{may_stand, spelt, six, marks, hyphens}
+use Rattle.sheet_words.specs.ByteLaws.{may-small}
 
 -- ---- a test of each number below n
 
@@ -106,9 +106,31 @@ mark b =
     (bit_xor (b + 33) (b + 32)))
     128
 
-mark-is : (b : ℕ) → b < 128 → mark b ≡ cond (is_word_byte b) 128 0
-unfolding is_word_byte
-mark-is b h = eqb-true (mark b) (cond (is_word_byte b) 128 0) (below (λ b. eqb (mark b) (cond (is_word_byte b) 128 0)) 128 b refl h)
+-- the top bit of a byte that passes a test
+abbrev flag : (ℕ → Bool) → ℕ → ℕ
+flag ok b = cond (ok b) 128 0
+
+mark-is : (b : ℕ) → b < 128 → mark b ≡ flag is_first_byte b
+unfolding is_first_byte
+mark-is b h = eqb-true (mark b) (flag is_first_byte b) (below (λ b. eqb (mark b) (flag is_first_byte b)) 128 b refl h)
+
+-- whether a byte is the hyphen
+abbrev is_hyphen : ℕ → Bool
+is_hyphen b = eqb b 45
+
+hyphen-is : (b : ℕ) → b < 128 → bit_and (bit_xor (b + 83) (b + 82)) 128 ≡ flag is_hyphen b
+hyphen-is b h =
+    eqb-true (bit_and (bit_xor (b + 83) (b + 82)) 128) (flag is_hyphen b)
+    (below (λ b. eqb (bit_and (bit_xor (b + 83) (b + 82)) 128) (flag is_hyphen b)) 128 b refl h)
+
+both-are : (b : ℕ) → b < 128 → bit_xor (flag is_first_byte b) (flag is_hyphen b) ≡ flag is_word_byte b
+unfolding is_first_byte is_word_byte
+both-are b h =
+    eqb-true (bit_xor (flag is_first_byte b) (flag is_hyphen b)) (flag is_word_byte b)
+    (below (λ b. eqb (bit_xor (flag is_first_byte b) (flag is_hyphen b)) (flag is_word_byte b)) 128 b refl h)
+
+flag-small : (ok : ℕ → Bool) (b : ℕ) → flag ok b < 256
+flag-small ok b = by (ok b) (λ e. rw e (omega arith)) (λ e. rw e (omega arith))
 
 top-is : (b : ℕ) → b < 256 → eqb (bit_and b 128) 0 ≡ ltb b 128
 top-is b h = by (ltb b 128)
@@ -117,10 +139,6 @@ top-is b h = by (ltb b 128)
     let e : 128 + (b - 128) ≡ b = omega (arith, ltb-false b 128 t) in
     let f = below (λ k. eqb (bit_and (128 + k) 128) 128) 128 (b - 128) refl (omega (arith, ltb-false b 128 t)) in
     rw e at (eqb-true (bit_and (128 + (b - 128)) 128) 128 f) in rw q (sym t))
-
--- what one byte gives: its top bit where it may stand in a word
-abbrev flag : ℕ → ℕ
-flag b = cond (is_word_byte b) 128 0
 
 module _ (l : List ℕ) (n : length l ≡ 6) where
   six-is : (c : ℕ) → six c ≡ num_by (λ b. c) l
@@ -145,7 +163,7 @@ module _ (l : List ℕ) (n : length l ≡ 6) where
     fold : bit_or (num_by (λ b. b) l) (six 32) ≡ num_by (λ b. bit_or b 32) l
     fold = ap (bit_or (num_by (λ b. b) l)) (six-is 32) ∙ by-op 128 bit_or or_block refl (λ b. b) (λ b. 32) (λ b h. omega arith) (λ b h. omega arith) l u
 
-    pub marks-are : marks (num_by (λ b. b) l) ≡ num_by flag l
+    pub marks-are : marks (num_by (λ b. b) l) ≡ num_by (flag is_first_byte) l
     unfolding marks
     marks-are =
         let v = num_by (λ b. b) l in
@@ -171,7 +189,24 @@ module _ (l : List ℕ) (n : length l ≡ 6) where
         ∙ ap (λ (x : ℕ). bit_and x (six 128)) (xor-by (λ b. bit_xor (la b) (ld b)) le hab hc)
         ∙ ap (bit_and (num_by (λ b. bit_xor (bit_xor (la b) (ld b)) (le b)) l)) (six-is 128)
         ∙ by-op 128 bit_and and_block refl (λ b. bit_xor (bit_xor (la b) (ld b)) (le b)) (λ b. 128) habc (λ b h. omega arith) l u
-        ∙ by-same mark flag 128 mark-is l u
+        ∙ by-same mark (flag is_first_byte) 128 mark-is l u
+
+    hyphens-are : hyphens (num_by (λ b. b) l) ≡ num_by (flag is_hyphen) l
+    unfolding hyphens
+    hyphens-are =
+        let h : (c : ℕ) → c ≤ 128 → (b : ℕ) → b < 128 → b + c < 256 = λ c h b k. small c b h k in
+        ap (λ (x : ℕ). bit_and x (six 128))
+        (ap₂ bit_xor (add_six (λ b. b) 83) (add_six (λ b. b) 82) ∙ xor-by (λ b. b + 83) (λ b. b + 82) (h 83 (omega arith)) (h 82 (omega arith)))
+        ∙ ap (bit_and (num_by (λ b. bit_xor (b + 83) (b + 82)) l)) (six-is 128)
+        ∙ by-op 128 bit_and and_block refl (λ b. bit_xor (b + 83) (b + 82)) (λ b. 128)
+        (xor-small (λ b. b + 83) (λ b. b + 82) (h 83 (omega arith)) (h 82 (omega arith))) (λ b h. omega arith) l u
+        ∙ by-same (λ b. bit_and (bit_xor (b + 83) (b + 82)) 128) (flag is_hyphen) 128 hyphen-is l u
+
+    pub both-marks : bit_xor (marks (num_by (λ b. b) l)) (hyphens (num_by (λ b. b) l)) ≡ num_by (flag is_word_byte) l
+    both-marks =
+        ap₂ bit_xor marks-are hyphens-are
+        ∙ xor-by (flag is_first_byte) (flag is_hyphen) (λ b h. flag-small is_first_byte b) (λ b h. flag-small is_hyphen b)
+        ∙ by-same (λ b. bit_xor (flag is_first_byte b) (flag is_hyphen b)) (flag is_word_byte) 128 both-are l u
 
   -- whether all are below 128
   pub tops_are : under 256 l ≡ true → eqb (bit_and (num_by (λ b. b) l) (six 128)) 0 ≡ under 128 l
@@ -188,34 +223,32 @@ module _ (l : List ℕ) (n : length l ≡ 6) where
 
 -- ---- the bytes of a number
 
-flag-lt : (l : List ℕ) → num_by flag l < 2 ^ (8 * length l)
-flag-lt [] = omega arith
-flag-lt (x ∷ l) =
-    let a : flag x < 256 = by (is_word_byte x) (λ e. rw e (omega arith)) (λ e. rw e (omega arith)) in
-    rw (← eight-more (length l)) (digits_lt a (flag-lt l))
+module _ (ok : ℕ → Bool) where
+  flag-lt : (l : List ℕ) → num_by (flag ok) l < 2 ^ (8 * length l)
+  flag-lt [] = omega arith
+  flag-lt (x ∷ l) = rw (← eight-more (length l)) (digits_lt (flag-small ok x) (flag-lt l))
 
--- all may stand in a word exactly if all top bits are there
-flags-all : (l : List ℕ) → eqb (num_by flag l) (num_by (λ b. 128) l) ≡ all is_word_byte l
-flags-all [] = refl
-flags-all (x ∷ l) =
-    let P = 2 ^ (8 * length l) in
-    let r = num_by flag l in
-    let s = num_by (λ b. 128) l in
-    by (is_word_byte x)
-    (λ e. rw e (same (128 * P) r s ∙ flags-all l))
-    (λ e. let z : 0 * P ≡ 0 = zero-mul P in rw e (ne_eqb (0 * P + r) (128 * P + s) (λ q. omega (arith, q, z, flag-lt l))))
-  where
-    same : (a r s : ℕ) → eqb (a + r) (a + s) ≡ eqb r s
-    same a r s =
-        by (eqb r s)
-        (λ e. eq-eqb (a + r) (a + s) (ap (λ (k : ℕ). a + k) (eqb-true r s e)) ∙ sym e)
-        (λ e. ne_eqb (a + r) (a + s) (λ q. eqb-false r s e (omega arith)) ∙ sym e)
+  -- all pass the test exactly if all top bits are there
+  flags-all : (l : List ℕ) → eqb (num_by (flag ok) l) (num_by (λ b. 128) l) ≡ all ok l
+  flags-all [] = refl
+  flags-all (x ∷ l) =
+      let P = 2 ^ (8 * length l) in
+      let r = num_by (flag ok) l in
+      let s = num_by (λ b. 128) l in
+      by (ok x)
+      (λ e. rw e (same (128 * P) r s ∙ flags-all l))
+      (λ e. let z : 0 * P ≡ 0 = zero-mul P in rw e (ne_eqb (0 * P + r) (128 * P + s) (λ q. omega (arith, q, z, flag-lt l))))
+    where
+      same : (a r s : ℕ) → eqb (a + r) (a + s) ≡ eqb r s
+      same a r s =
+          by (eqb r s)
+          (λ e. eq-eqb (a + r) (a + s) (ap (λ (k : ℕ). a + k) (eqb-true r s e)) ∙ sym e)
+          (λ e. ne_eqb (a + r) (a + s) (λ q. eqb-false r s e (omega arith)) ∙ sym e)
 
--- letters are below 128
-letters-under : (l : List ℕ) → all is_word_byte l ≡ true → under 128 l ≡ true
-letters-under [] e = refl
-letters-under (x ∷ l) e =
-    rw (lt-ltb x 128 (letter-small x (and_left (is_word_byte x) (all is_word_byte l) e)).1) (letters-under l (and_right (is_word_byte x) (all is_word_byte l) e))
+  -- where what passes is below 128, so are all that pass
+  letters-under : ((b : ℕ) → ok b ≡ true → b < 128) → (l : List ℕ) → all ok l ≡ true → under 128 l ≡ true
+  letters-under h [] e = refl
+  letters-under h (x ∷ l) e = rw (lt-ltb x 128 (h x (and_left (ok x) (all ok l) e))) (letters-under h l (and_right (ok x) (all ok l) e))
 
 bytes-under : (n : ℕ) (bs : List Bool) → under 256 (pack_to n bs) ≡ true
 unfolding pack_to
@@ -270,19 +303,29 @@ module _ (n v : ℕ) (few : n ≤ 6) (most : v < 2 ^ (8 * n)) where
       ∙ tops_are L L-six (under-zeros 256 (6 - n) M (omega arith) ∙ bytes-under n (to_bits (8 * n) v))
       ∙ under-zeros 128 (6 - n) M (omega arith)
 
-  pub spelt-no : (bit_and v 141289400074368 ≡ 0 → ⊥) → false ≡ spelt n v
+  pub spelt-no : (inner : Bool) → (bit_and v 141289400074368 ≡ 0 → ⊥) → false ≡ spelt (may_stand inner) n v
   unfolding spelt
-  spelt-no h =
-      by (all is_word_byte M)
-      (λ e. absurd (h (eqb-true (bit_and v 141289400074368) 0 (tops ∙ letters-under M e))))
+  spelt-no inner h =
+      by (all (may_stand inner) M)
+      (λ e. absurd (h (eqb-true (bit_and v 141289400074368) 0 (tops ∙ letters-under (may_stand inner) (may-small inner) M e))))
       (λ e. sym e)
 
-  pub spelt_is : bit_and v 141289400074368 ≡ 0 → eqb (marks v) (141289400074368 / 2 ^ (48 - 8 * n)) ≡ spelt n v
-  unfolding spelt is_word_byte
-  spelt_is h =
-      let u : under 128 M ≡ true = sym tops ∙ eq-eqb (bit_and v 141289400074368) 0 h in
-      let m : marks v ≡ num_by flag M =
-      ap marks (sym L-is) ∙ marks-are L L-six (under-zeros 128 (6 - n) M (omega arith) ∙ u) ∙ by-zeros flag refl (6 - n) M in
-      let t : 141289400074368 / 2 ^ (48 - 8 * n) ≡ num_by (λ b. 128) M =
-      tops-of n few ∙ ap (λ (k : ℕ). num_by (λ b. 128) (replicate k 0)) (sym (length-pack_to n (to_bits (8 * n) v))) ∙ sym (by-const 128 M) in
-      ap₂ eqb m t ∙ flags-all M
+  -- f makes of six bytes the top bit of each that passes the test
+  module _ (ok : ℕ → Bool) (none : flag ok 0 ≡ 0) (f : ℕ → ℕ) (made : (l : List ℕ) → length l ≡ 6 → under 128 l ≡ true → f (num_by (λ b. b) l) ≡ num_by (flag ok) l) where
+    spelt_by : bit_and v 141289400074368 ≡ 0 → eqb (f v) (141289400074368 / 2 ^ (48 - 8 * n)) ≡ spelt ok n v
+    unfolding spelt
+    spelt_by h =
+        let u : under 128 M ≡ true = sym tops ∙ eq-eqb (bit_and v 141289400074368) 0 h in
+        let m : f v ≡ num_by (flag ok) M =
+        ap f (sym L-is) ∙ made L L-six (under-zeros 128 (6 - n) M (omega arith) ∙ u) ∙ by-zeros (flag ok) none (6 - n) M in
+        let t : 141289400074368 / 2 ^ (48 - 8 * n) ≡ num_by (λ b. 128) M =
+        tops-of n few ∙ ap (λ (k : ℕ). num_by (λ b. 128) (replicate k 0)) (sym (length-pack_to n (to_bits (8 * n) v))) ∙ sym (by-const 128 M) in
+        ap₂ eqb m t ∙ flags-all ok M
+
+  pub plain_is : bit_and v 141289400074368 ≡ 0 → eqb (marks v) (141289400074368 / 2 ^ (48 - 8 * n)) ≡ spelt is_first_byte n v
+  unfolding is_first_byte
+  plain_is h = spelt_by is_first_byte refl marks marks-are h
+
+  pub inner-is : bit_and v 141289400074368 ≡ 0 → eqb (bit_xor (marks v) (hyphens v)) (141289400074368 / 2 ^ (48 - 8 * n)) ≡ spelt is_word_byte n v
+  unfolding is_first_byte is_word_byte
+  inner-is h = spelt_by is_word_byte refl (λ x. bit_xor (marks x) (hyphens x)) both-marks h

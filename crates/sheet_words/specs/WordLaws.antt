@@ -1,8 +1,8 @@
 -- Laws of one word: its bytes tested, its head, two words compared.
-use Rattle.std.specs.Prelude.{Bool, true, false, ◌&&◌, ◌||◌, cond, List, [], ◌∷◌, ◌≡◌, ℕ, ◌+◌, ◌*◌, ◌-◌, ◌/◌, ◌%◌, ◌^◌, ◌≤◌, ◌<◌, eqb, ltb, length, drop, Ok}
-use Rattle.std.proofs.Math.Bool.{and-false}
+use Rattle.std.specs.Prelude.{Bool, true, false, ◌&&◌, ◌||◌, cond, List, [], ◌∷◌, ◌≡◌, ℕ, zero, suc, ◌+◌, ◌*◌, ◌-◌, ◌/◌, ◌%◌, ◌^◌, ◌≤◌, ◌<◌, eqb, ltb, length, drop, Ok}
+use Rattle.std.proofs.Math.Bool.{and-false, and-true}
 use Rattle.std.proofs.Math.Path.{refl}
-use Rattle.std.proofs.Common.{sym, ap, ap₂, ◌∙◌, arith, eq-eqb, ne_eqb, length-drop}
+use Rattle.std.proofs.Common.{sym, ap, ap₂, ◌∙◌, sub-one, arith, eq-eqb, ne_eqb, length-drop}
 use Rattle.std.proofs.Math.Pow
 use Rattle.std.proofs.Math.Seq
 use Rattle.lists.specs.Lists.{all, same_list, list_before}
@@ -11,43 +11,61 @@ use Rattle.lists.specs.Places.{drop-end, before-step, before-right, before-left}
 use Rattle.definitions.specs.Bits.{num, pack_to}
 use Rattle.definitions.specs.Checks.{resource_bytes, self_bytes}
 use Rattle.definitions.specs.Comparisons.{bytes_before}
-use Rattle.definitions.specs.Parse.{done, refused, allowed, repeat, past, not_allowed}
-use Rattle.definitions.specs.Reading.{is_word_byte, word}
+use Rattle.definitions.specs.Parse.{done, refused, past, not_allowed}
+use Rattle.definitions.specs.Reading.{is_first_byte, is_word_byte, word}
 use Rattle.bits.specs.NumberLaws.{num-lt, num-split, length-pack_to}
 use Rattle.sheet_window.specs.WindowLaws.{split}
-use Rattle.fields.specs.FieldLaws.{counted-in}
-use Rattle.sheet_words.specs.Bytes.{spelt, head_of}
-use Rattle.sheet_words.specs.Words.{bits_in, bytes_of, Spelled, Begun, Named}
-use Rattle.sheet_words.specs.ByteLaws.{bytes-split, bytes_drop, byte-is, bytes-num, bytes-in, bytes_past, word_some}
+use Rattle.sheet_words.specs.Bytes.{is_word, spelt, head_of}
+use Rattle.sheet_words.specs.Words.{bits_in, bytes_of, word_bytes, Spelled, Begun, Named}
+use Rattle.sheet_words.specs.ByteLaws.{bytes-split, bytes_drop, byte-is, bytes-num, plain-word, word-some, word-in, word_past, word_some}
 use Rattle.sheet_words.specs.HeadLaws.{good-drop, head-less, head_more, head-same, same-split, same-short, head_few}
 use Rattle.sheet_words.specs.declared.spelt.Spelt.{Spelt}
 use Rattle.sheet_words.specs.declared.Found.{Found}
 
 -- ---- bytes tested six at a time
 
-pub text-last : (bs : List Bool) (p n v : ℕ) → v ≡ num (8 * n) (drop p bs) → spelt n v ≡ all is_word_byte (pack_to n (drop p bs))
-unfolding spelt
-text-last bs p n v e = rw e (ap (all is_word_byte) (bytes-num n (drop p bs)))
+module _ (ok : ℕ → Bool) where
+  pub text-last : (bs : List Bool) (p n v : ℕ) → v ≡ num (8 * n) (drop p bs) → spelt ok n v ≡ all ok (pack_to n (drop p bs))
+  unfolding spelt
+  text-last bs p n v e = rw e (ap (all ok) (bytes-num n (drop p bs)))
 
-six-more : (bs : List Bool) (p n v : ℕ) → 6 ≤ n → v ≡ num 48 (drop p bs) →
-    all is_word_byte (pack_to n (drop p bs)) ≡ (spelt 6 v && all is_word_byte (pack_to (n - 6) (drop (p + 48) bs)))
-six-more bs p n v h e =
-    let k : n ≡ 6 + (n - 6) = omega arith in
-    ap (λ (j : ℕ). all is_word_byte (pack_to j (drop p bs))) k
-    ∙ ap (all is_word_byte) (bytes-split 6 (n - 6) (drop p bs))
-    ∙ all_append is_word_byte (pack_to 6 (drop p bs)) (pack_to (n - 6) (drop 48 (drop p bs)))
-    ∙ ap₂ (λ (x : Bool) (l : List Bool). x && all is_word_byte (pack_to (n - 6) l)) (sym (text-last bs p 6 v e)) (Seq.drop-drop 48 p bs)
+  six-more : (bs : List Bool) (p n v : ℕ) → 6 ≤ n → v ≡ num 48 (drop p bs) →
+      all ok (pack_to n (drop p bs)) ≡ (spelt ok 6 v && all ok (pack_to (n - 6) (drop (p + 48) bs)))
+  six-more bs p n v h e =
+      let k : n ≡ 6 + (n - 6) = omega arith in
+      ap (λ (j : ℕ). all ok (pack_to j (drop p bs))) k
+      ∙ ap (all ok) (bytes-split 6 (n - 6) (drop p bs))
+      ∙ all_append ok (pack_to 6 (drop p bs)) (pack_to (n - 6) (drop 48 (drop p bs)))
+      ∙ ap₂ (λ (x : Bool) (l : List Bool). x && all ok (pack_to (n - 6) l)) (sym (text-last bs p 6 v e)) (Seq.drop-drop 48 p bs)
 
-pub text-six : (bs : List Bool) (p n v : ℕ) → 6 ≤ n → v ≡ num 48 (drop p bs) → spelt 6 v ≡ true →
-    all is_word_byte (pack_to n (drop p bs)) ≡ all is_word_byte (pack_to (n - 6) (drop (p + 48) bs))
-text-six bs p n v h e t = six-more bs p n v h e ∙ rw t refl
+  pub text-six : (bs : List Bool) (p n v : ℕ) → 6 ≤ n → v ≡ num 48 (drop p bs) → spelt ok 6 v ≡ true →
+      all ok (pack_to n (drop p bs)) ≡ all ok (pack_to (n - 6) (drop (p + 48) bs))
+  text-six bs p n v h e t = six-more bs p n v h e ∙ rw t refl
 
-pub text-not : (bs : List Bool) (p n v : ℕ) → 6 ≤ n → v ≡ num 48 (drop p bs) → spelt 6 v ≡ false → all is_word_byte (pack_to n (drop p bs)) ≡ false
-text-not bs p n v h e t = six-more bs p n v h e ∙ rw t refl
+  pub text-not : (bs : List Bool) (p n v : ℕ) → 6 ≤ n → v ≡ num 48 (drop p bs) → spelt ok 6 v ≡ false → all ok (pack_to n (drop p bs)) ≡ false
+  text-not bs p n v h e t = six-more bs p n v h e ∙ rw t refl
 
-pub text-none : (n : ℕ) (bs : List Bool) → n ≡ 0 → all is_word_byte (pack_to n bs) ≡ true
+  pub text-none : (n : ℕ) (bs : List Bool) → n ≡ 0 → all ok (pack_to n bs) ≡ true
+  unfolding pack_to
+  text-none n bs e = rw e refl
+
+-- ---- the bytes of a word
+
+pub word-none : (n : ℕ) (bs : List Bool) → n ≡ 0 → is_word (pack_to n bs) ≡ true
 unfolding pack_to
-text-none n bs e = rw e refl
+word-none n bs e = rw e refl
+
+first-byte : (bs : List Bool) → all is_first_byte (pack_to 1 bs) ≡ (is_first_byte (num 8 bs) && true)
+unfolding pack_to
+first-byte bs = refl
+
+-- by the first and those behind it
+pub word-split : (bs : List Bool) (p n : ℕ) → 0 < n →
+    is_word (pack_to n (drop p bs)) ≡ (all is_first_byte (pack_to 1 (drop p bs)) && all is_word_byte (pack_to (n - 1) (drop (p + 8) bs)))
+unfolding pack_to
+word-split bs p zero h = absurd (omega arith)
+word-split bs p (suc m) h =
+    rw (first-byte (drop p bs), and-true (is_first_byte (num 8 (drop p bs))), sub-one (suc m), Seq.drop-drop 8 p bs) refl
 
 -- ---- heads
 
@@ -72,37 +90,37 @@ short-value n x bs h e =
 
 -- ---- the parser's answer
 
-module _ (bs : List Bool) (q n : ℕ) where
-  pub text-past : length bs - q < 8 * n → q ≤ length bs →
-      refused (cond (all is_word_byte (pack_to ((length bs - q) / 8) (drop q bs))) past not_allowed) ≡ repeat (allowed 8 is_word_byte) n (drop q bs)
-  text-past h l =
-      let e : length (drop q bs) ≡ length bs - q = length-drop q bs in
-      sym (bytes_past is_word_byte n [] (drop q bs) (omega arith) ∙ ap (λ (k : ℕ). refused (cond (all is_word_byte (pack_to (k / 8) (drop q bs))) past not_allowed)) e)
+module _ (bs : List Bool) (q n : ℕ) (some : 0 < n) (inside : q + 8 * n ≤ length bs) where
+  pub text-bad : is_word (pack_to n (drop q bs)) ≡ false → refused not_allowed ≡ word_bytes n (drop q bs)
+  text-bad t = sym (word-in n (drop q bs) some (omega (arith, length-drop q bs)) ∙ rw t refl)
 
-  module _ (inside : q + 8 * n ≤ length bs) where
-    pub text-bad : all is_word_byte (pack_to n (drop q bs)) ≡ false → refused not_allowed ≡ repeat (allowed 8 is_word_byte) n (drop q bs)
-    text-bad t = sym (bytes-in is_word_byte n [] (drop q bs) (omega (arith, length-drop q bs)) ∙ rw t refl)
+  pub text-good : is_word (pack_to n (drop q bs)) ≡ true → done (pack_to n (drop q bs)) (drop (q + 8 * n) bs) ≡ word_bytes n (drop q bs)
+  text-good t = sym (word-in n (drop q bs) some (omega (arith, length-drop q bs)) ∙ rw (t, Seq.drop-drop (8 * n) q bs) refl)
 
-    pub text-good : all is_word_byte (pack_to n (drop q bs)) ≡ true → done (pack_to n (drop q bs)) (drop (q + 8 * n) bs) ≡ repeat (allowed 8 is_word_byte) n (drop q bs)
-    text-good t = sym (bytes-in is_word_byte n [] (drop q bs) (omega (arith, length-drop q bs)) ∙ rw (t, Seq.drop-drop (8 * n) q bs) refl)
+  -- bytes without a hyphen
+  pub text-plain : all is_first_byte (pack_to n (drop q bs)) ≡ true → done (pack_to n (drop q bs)) (drop (q + 8 * n) bs) ≡ word_bytes n (drop q bs)
+  text-plain t = text-good (plain-word (pack_to n (drop q bs)) t)
 
 -- the bytes that are there of those that pass the end
 module _ (bs : List Bool) (q n k : ℕ) (some : k ≡ (length bs - q) / 8) (less : k < n) (from : q ≤ length bs) where
-  pub past-good : all is_word_byte (pack_to k (drop q bs)) ≡ true → refused past ≡ repeat (allowed 8 is_word_byte) n (drop q bs)
-  past-good t =
-      ap (λ (b : Bool). refused (cond b past not_allowed)) (sym (sym (ap (λ (j : ℕ). all is_word_byte (pack_to j (drop q bs))) some) ∙ t))
-      ∙ text-past bs q n (omega (arith, some, less)) from
+  text-past : (b : Bool) → is_word (pack_to k (drop q bs)) ≡ b → refused (cond b past not_allowed) ≡ word_bytes n (drop q bs)
+  text-past b t =
+      let e : length (drop q bs) ≡ length bs - q = length-drop q bs in
+      let f : length (drop q bs) / 8 ≡ k = omega (arith, e, some) in
+      sym (word_past n (drop q bs) (omega (arith, e, some, less)) ∙ ap (λ (j : ℕ). refused (cond (is_word (pack_to j (drop q bs))) past not_allowed)) f
+      ∙ ap (λ (x : Bool). refused (cond x past not_allowed)) t)
 
-  pub past-bad : all is_word_byte (pack_to k (drop q bs)) ≡ false → refused not_allowed ≡ repeat (allowed 8 is_word_byte) n (drop q bs)
-  past-bad t =
-      ap (λ (b : Bool). refused (cond b past not_allowed)) (sym (sym (ap (λ (j : ℕ). all is_word_byte (pack_to j (drop q bs))) some) ∙ t))
-      ∙ text-past bs q n (omega (arith, some, less)) from
+  pub past-good : is_word (pack_to k (drop q bs)) ≡ true → refused past ≡ word_bytes n (drop q bs)
+  past-good t = text-past true t
+
+  pub past-bad : is_word (pack_to k (drop q bs)) ≡ false → refused not_allowed ≡ word_bytes n (drop q bs)
+  past-bad t = text-past false t
 
 -- a word that was read is not empty
 pub word-long : (bs : List Bool) (p : ℕ) (w : Spelt) → Spelled bs p (Ok w) → 0 < w.count
-unfolding word
 word-long bs p w t =
-    omega (arith, (counted-in 5 1 31 (allowed 8 is_word_byte) (drop p bs) (bytes_of w) _ (sym t)).0, length-pack_to w.count (drop w.at (bits_in w.source)))
+    let e : length (bytes_of w) ≡ w.count = length-pack_to w.count (drop w.at (bits_in w.source)) in
+    omega (arith, e, word-some (drop p bs) (bytes_of w) _ (sym t))
 
 -- a length and the 48 bits behind it, out of 53 bits that are there
 pub begun-is : (bs : List Bool) (p w : ℕ) → p + 53 ≤ length bs → w ≡ num 53 (drop p bs) → 0 < w / 281474976710656 →
@@ -117,7 +135,7 @@ begun-is bs p w l e s =
     }
 
 -- a word that is begun is what the parser gives of its bytes
-pub begun-word : (bs : List Bool) (p n x : ℕ) → Begun bs p n x → repeat (allowed 8 is_word_byte) n (drop (p + 5) bs) ≡ word (drop p bs)
+pub begun-word : (bs : List Bool) (p n x : ℕ) → Begun bs p n x → word_bytes n (drop (p + 5) bs) ≡ word (drop p bs)
 begun-word bs p n x h = word_some bs p n (omega (arith, h.there)) h.length-is h.some
 
 pub begun-few : (bs : List Bool) (p n x : ℕ) → Begun bs p n x → n ≤ 31
@@ -165,7 +183,7 @@ module _ (bs cs : List Bool) (p q n m i : ℕ) where
 
 module _ (w : Spelt) where
   class-good : all is_word_byte resource_bytes ≡ true
-  unfolding is_word_byte
+  unfolding is_first_byte is_word_byte
   class-good = refl
 
   class-head : head_of 6 resource_bytes ≡ 125780053947762
@@ -186,7 +204,7 @@ module _ (w : Spelt) where
       sym (split-class ∙ rw d (and-false (eqb 125780053947762 w.head)))
 
   rest-good : all is_word_byte (99 ∷ 101 ∷ []) ≡ true
-  unfolding is_word_byte
+  unfolding is_first_byte is_word_byte
   rest-good = refl
 
   rest-head : head_of 6 (99 ∷ 101 ∷ []) ≡ 109285442846720
@@ -203,7 +221,7 @@ module _ (w : Spelt) where
       ∙ sym (split-class ∙ rw (eq-eqb 125780053947762 w.head (sym e)) refl)
 
   self-good : all is_word_byte self_bytes ≡ true
-  unfolding is_word_byte
+  unfolding is_first_byte is_word_byte
   self-good = refl
 
   self-head : head_of 6 self_bytes ≡ 126879447515136
@@ -214,8 +232,8 @@ module _ (w : Spelt) where
   self-test = ap₂ eqb w.held.first (sym self-head) ∙ same-short 6 self_bytes (bytes_of w) (omega arith) self-good w.held.good
 
   -- a word that begins with another letter is neither
-  pub neither-is : (w.head / 2199023255552 ≡ 57 → ⊥) → (t : Found) (u : Bool) (i n : ℕ) → Named t u w i n (record { up = u; resource = t.resource; own = t.own })
+  pub neither-is : (w.head / 2199023255552 ≡ 57 → ⊥) → (t : Found) (u : Bool) (i n : ℕ) → Named t u w i n (record { up = u; plain = t.plain && w.plain; resource = t.resource; own = t.own })
   neither-is m t u i n =
       let a : same_list eqb resource_bytes (bytes_of w) ≡ false = sym (class-no (λ e. m (omega (arith, e)))) in
       let b : same_list eqb self_bytes (bytes_of w) ≡ false = sym self-test ∙ ne_eqb w.head 126879447515136 (λ e. m (omega (arith, e))) in
-      record { rising = refl; class = rw a refl; self = rw b refl }
+      record { rising = refl; plain = refl; class = rw a refl; self = rw b refl }

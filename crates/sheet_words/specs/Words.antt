@@ -1,15 +1,18 @@
 -- What the answers about the words of a sheet mean, for the bits bs of the sheet.
 use mathlib.Core.Bool.{Bool, ◌&&◌, cond}
-use Rattle.std.specs.Prelude.{List, ◌≡◌, ℕ, ◌+◌, ◌*◌, ◌≤◌, ◌<◌, eqb, length, drop, Result, Ok, Err}
+use Rattle.std.specs.Prelude.{List, ◌∷◌, ◌≡◌, ℕ, ◌+◌, ◌-◌, ◌*◌, ◌≤◌, ◌<◌, eqb, length, drop, get_or, Result, Ok, Err}
 use Rattle.lists.specs.Lists.{same_list}
 use Rattle.definitions.specs.Bits.{bits_of, num, pack_to}
 use Rattle.definitions.specs.Checks.{resource_bytes, self_bytes, bad_words}
 use Rattle.definitions.specs.Comparisons.{bytes_before}
 use Rattle.definitions.specs.Map.{number_of}
-use Rattle.definitions.specs.Parse.{Parsed, done, refused, next, pure}
-use Rattle.definitions.specs.Reading.{word}
+use Rattle.definitions.specs.Parse.{Parsed, done, refused, Parser, next, ◌>>=◌, pure, allowed, repeat}
+use Rattle.definitions.specs.Reading.{is_first_byte, is_word_byte, word}
 use Rattle.fields.specs.declared.Fault.{Fault}
 use Rattle.fields.specs.Fields.{fault_of}
+use Rattle.law_orders.specs.Reach.{reach}
+use Rattle.sheet_reach.specs.declared.Reach.{Reach}
+use Rattle.sheet_reach.specs.Reach.{Reaches}
 use Rattle.sheet_words.specs.declared.spelt.Source.{Source}
 use Rattle.sheet_words.specs.declared.spelt.Spelt.{Spelt}
 use Rattle.sheet_words.specs.declared.Found.{Found}
@@ -24,6 +27,13 @@ bits_in s = bits_of s.bytes.now
 -- The bytes of a word, where they stand in the sheet (FORMAT 2.4).
 abbrev pub bytes_of : Spelt → List ℕ
 bytes_of w = pack_to w.count (drop w.at (bits_in w.source))
+
+-- The n bytes of a word, the first of which is none that stands behind it only (FORMAT 2.4).
+abbrev pub word_bytes : ℕ → Parser (List ℕ)
+word_bytes n = do
+  b ← allowed 8 is_first_byte
+  bs ← repeat (allowed 8 is_word_byte) (n - 1)
+  pure (b ∷ bs)
 
 -- A word as the definitions' parser gives it (FORMAT 2.4).
 abbrev pub of_spelt : List Bool → Result Spelt Fault → Parsed (List ℕ)
@@ -46,6 +56,7 @@ pub record Begun (bs : List Bool) (p n x : ℕ) : Type 0 where
 -- The places with the i-th of n words (FORMAT 1.2).
 pub record Named (t : Found) (u : Bool) (w : Spelt) (i n : ℕ) (r : Found) : Type 0 where
   pub rising : r.up ≡ u
+  pub plain : r.plain ≡ (t.plain && w.plain)
   pub class : r.resource ≡ cond (same_list eqb resource_bytes (bytes_of w) && eqb t.resource n) i t.resource
   pub self : r.own ≡ cond (same_list eqb self_bytes (bytes_of w) && eqb t.own n) i t.own
 
@@ -72,3 +83,13 @@ told x = next x (λ ws. pure (telling_of ws))
 abbrev pub of_words_read : List Bool → Result WordsRead Fault → Parsed Telling
 of_words_read bs (Ok r) = done (record { count = r.count; bad = r.bad; resource = r.resource; own = r.own }) (drop r.at bs)
 of_words_read bs (Err r) = refused (fault_of r)
+
+-- ---- how far they reach
+
+-- The first n numbers are the reach of the words.
+abbrev pub EachReach : List (List ℕ) → ℕ → List ℕ → Type 0
+EachReach ws n last = (w : ℕ) → w < n → get_or last w 0 ≡ reach ws w
+
+-- Of the words that a parser gives it has the reach.
+abbrev pub Reached : Parsed (List (List ℕ)) → Reach → Type 0
+Reached x r = (ws : List (List ℕ)) (rest : List Bool) → x ≡ done ws rest → Reaches ws r

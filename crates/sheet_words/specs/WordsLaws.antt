@@ -1,18 +1,19 @@
 -- Laws of what is found word by word.
-use mathlib.Core.Bool.{Bool, true, false, ◌&&◌, ◌||◌, not, cond, or-false}
+use mathlib.Core.Bool.{Bool, true, false, ◌&&◌, ◌||◌, not, cond, and-true, or-false}
 use Rattle.std.specs.Prelude.{List, [], ◌∷◌, ◌++◌, ◌≡◌, refl, ℕ, zero, suc, ◌≤◌, ◌<◌, leb, length, drop}
 use Rattle.std.proofs.Common.{sym, ap, ◌∙◌, arith}
 use Rattle.std.proofs.Math.Path.{ap₂}
 use borrow.Author.Tests.{eq-eqb, ne_eqb, eqb-true, eqb-false}
 use Rattle.std.proofs.Math.Dec.{eqb}
-use Rattle.lists.specs.Lists.{any, ascends, same_list, place_of}
+use Rattle.lists.specs.Lists.{all, any, ascends, same_list, place_of}
 use Rattle.lists.specs.Tests.{by}
-use Rattle.lists.specs.Appending.{any_append}
+use Rattle.lists.specs.Appending.{all_append, any_append}
 use Rattle.lists.specs.Places.{place-lt, place_none, place-le}
 use Rattle.definitions.specs.Bits.{pack_to}
 use Rattle.definitions.specs.Checks.{resource_bytes, self_bytes, bad_words}
 use Rattle.definitions.specs.Comparisons.{bytes_before}
 use Rattle.definitions.specs.Map.{number_of}
+use Rattle.definitions.specs.Reading.{is_first_byte}
 use Rattle.definitions.specs.Parse as parse
 use Rattle.definitions.specs.Parse.{Parsed, done, refused, next, pure, allowed, repeat_onto}
 use Rattle.sheet_words.specs.Words.{bits_in, bytes_of, With, Telling, telling_of, told}
@@ -32,7 +33,7 @@ last_more d (x ∷ l) w = last_more x l w
 
 ascends-more : {A : Type 0} (f : A → A → Bool) (d : A) (l : List A) (w : A) → f d w ≡ true → ascends f (l ++ (w ∷ [])) ≡ (ascends f l && f (last_or d l) w)
 ascends-more f d [] w e = sym e
-ascends-more f d (x ∷ []) w e = mathlib.Core.Bool.and-true (f x w)
+ascends-more f d (x ∷ []) w e = and-true (f x w)
 ascends-more f d (x ∷ y ∷ l) w e =
     ap (λ (b : Bool). f x y && b) (ascends-more f d (y ∷ l) w e) ∙ assoc (f x y) (ascends f (y ∷ l)) (f (last_or y l) w)
   where
@@ -71,6 +72,7 @@ placed-all f n l e =
 
 pub record Seen (n : ℕ) (ws : List (List ℕ)) (v : Spelt) (t : Found) : Type 0 where
   pub rising : t.up ≡ ascends bytes_before ws
+  pub plain : t.plain ≡ all (all is_first_byte) ws
   pub before : bytes_of v ≡ last_or [] ws
   pub class : t.resource ≡ placed (same_list eqb resource_bytes) n ws
   pub self : t.own ≡ placed (same_list eqb self_bytes) n ws
@@ -81,9 +83,10 @@ unfolding bytes_before pack_to
 some_bytes zero bs h = absurd (omega arith)
 some_bytes (suc k) bs h = refl
 
-pub seen_none : (n : ℕ) (v : Spelt) → bytes_of v ≡ [] → Seen n [] v (record { up = true; resource = n; own = n })
+pub seen_none : (n : ℕ) (v : Spelt) → bytes_of v ≡ [] → Seen n [] v (record { up = true; plain = true; resource = n; own = n })
 seen_none n v e = record {
   rising = refl;
+  plain = refl;
   before = e;
   class = refl;
   self = refl;
@@ -96,6 +99,10 @@ seen_more n i ws v w t r s some e l g = record {
       g.rising
       ∙ ap₂ (λ (a : Bool) (b : List ℕ). a && bytes_before b (bytes_of w)) s.rising s.before
       ∙ sym (ascends-more bytes_before [] ws (bytes_of w) (some_bytes w.count (drop w.at (bits_in w.source)) some));
+  plain =
+      g.plain
+      ∙ ap₂ ◌&&◌ s.plain (w.held.kind ∙ sym (and-true (all is_first_byte (bytes_of w))))
+      ∙ sym (all_append (all is_first_byte) ws (bytes_of w ∷ []));
   before = sym (last_more [] ws (bytes_of w));
   class =
       g.class

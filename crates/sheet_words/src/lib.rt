@@ -6,16 +6,18 @@ ghost use Rattle.lists.specs.Lists.{all, same_list, list_before};
 ghost use Rattle.definitions.specs.Bits.{bits_of, pack_to};
 ghost use Rattle.definitions.specs.Checks.{resource_bytes};
 ghost use Rattle.definitions.specs.Comparisons.{bytes_before};
-ghost use Rattle.definitions.specs.Parse.{allowed, repeat, counted};
-ghost use Rattle.definitions.specs.Reading.{is_word_byte, word};
+ghost use Rattle.definitions.specs.Parse.{counted, repeat};
+ghost use Rattle.definitions.specs.Reading.{word};
 ghost use Rattle.bits.specs.Reading.{Addressable};
-ghost use Rattle.sheet_words.specs.Bytes.{head_of, spelt, marks};
-ghost use Rattle.sheet_words.specs.Words.{bits_in, bytes_of, of_spelt, Spelled, Begun, Named, With, told, of_words_read};
+ghost use Rattle.sheet_words.specs.Bytes.{head_of, may_stand, is_word, spelt, marks, hyphens};
+ghost use Rattle.sheet_words.specs.Words.{bits_in, bytes_of, word_bytes, of_spelt, Spelled, Begun, Named, With, told, of_words_read, Reached};
 
+mod reaching;
 mod spelt;
 
 use bits::Cursor;
 use fields::Fault;
+use sheet_reach::Reach;
 use spelt::{Source, Spelt};
 use std::cmp::Ordering;
 
@@ -39,11 +41,12 @@ const SELF: u64 = 0x7365_6c66_0000;
 // The first seven bits of a head that begins with r or s, which differ in the eighth alone.
 const R_OR_S: u64 = 57;
 
-// Whether the words so far ascend, and the numbers of `resource` and `self`. No Option: for a word that is missing the law's own
+// Whether the words so far ascend, whether none has a hyphen, and the numbers of `resource` and `self`. No Option: for a word that is missing the law's own
 // number is the count of all words (`number_of` of the definitions), and that stands here for one that is not found yet.
 #[derive(Clone, Copy)]
 pub struct Found {
     pub up: bool,
+    pub plain: bool,
     pub resource: usize,
     pub own: usize,
 }
@@ -59,7 +62,7 @@ pub struct WordsRead {
     pub own: u8,
 }
 
-// Of six bytes below 128, the top bit of each that may stand in a word. A capital is made small; a byte is in a range where only
+// Of six bytes below 128, the top bit of each that a word may begin with. A capital is made small; a byte is in a range where only
 // one of two sums has the top bit: with 31, which is 128 less `a`, and with 5, which is 127 less `z`; for digits and `_` likewise.
 fn marked(v: u64) -> u64
     requires { v < 2 ^ 48 }
@@ -72,24 +75,36 @@ fn marked(v: u64) -> u64
     (letter ^ digit ^ line) & TOPS
 }
 
-// Whether the n bytes of a number may all stand in a word (FORMAT 1.1).
-fn is_spelt(v: u64, n: usize) -> bool
+// The same of the hyphens alone.
+fn hyphened(v: u64) -> u64
+    requires { v < 2 ^ 48 }
+    ensures { result ≡ hyphens v }
+{
+    ((v + EACH * 83) ^ (v + EACH * 82)) & TOPS
+}
+
+// Whether a word may begin with each of the n bytes of a number; with `inner`, whether each may stand behind its first (FORMAT 1.1).
+fn is_spelt(v: u64, n: usize, inner: bool) -> bool
     requires { (n ≤ 6) × (v < 2 ^ (8 * n)) }
-    ensures { result ≡ spelt n v }
+    ensures { result ≡ spelt (may_stand inner) n v }
 {
     if v & TOPS == 0 {
-        return marked(v) == TOPS >> (48 - 8 * n);
+        let all = TOPS >> (48 - 8 * n);
+        if inner {
+            return marked(v) ^ hyphened(v) == all;
+        }
+        return marked(v) == all;
     }
     false
 }
 
 // The same of n bytes from a place on.
-fn is_text(s: Source, at: usize, n: usize) -> bool
+fn is_text(s: Source, at: usize, n: usize, inner: bool) -> bool
     requires { at + 8 * n ≤ 8 * length s.bytes.now }
-    ensures { result ≡ all is_word_byte (pack_to n (drop at (bits_in s.entry))) }
+    ensures { result ≡ all (may_stand inner) (pack_to n (drop at (bits_in s.entry))) }
 {
     for i in 0..n / 6 {
-        if !is_spelt(sheet_window::wide(s.bytes, at + 48 * i, 48), 6) {
+        if !is_spelt(sheet_window::wide(s.bytes, at + 48 * i, 48), 6, inner) {
             return false;
         }
     }
@@ -100,7 +115,22 @@ fn is_text(s: Source, at: usize, n: usize) -> bool
     is_spelt(
         sheet_window::wide(s.bytes, at + 8 * (n - left), 8 * left),
         left,
+        inner,
     )
+}
+
+// Whether n bytes from a place on may stand in a word whose first byte is the first of them (FORMAT 1.1).
+fn is_word_at(s: Source, at: usize, n: usize) -> bool
+    requires { at + 8 * n ≤ 8 * length s.bytes.now }
+    ensures { result ≡ is_word (pack_to n (drop at (bits_in s.entry))) }
+{
+    if n == 0 {
+        return true;
+    }
+    if is_text(s, at, 1, false) {
+        return is_text(s, at + 8, n - 1, true);
+    }
+    false
 }
 
 // The first six of n bytes from a place on, as one number.
@@ -118,22 +148,23 @@ fn head_at(s: Source, at: usize, n: usize) -> u64
 
 // A word of n bytes from a place on. Where they pass the end, one that is there and not allowed is refused before.
 fn bytes_from(s: Source, at: usize, n: usize) -> Result<Spelt, Fault>
-    requires { (at ≤ 8 * length s.bytes.now) × (n ≤ 31) }
-    ensures { of_spelt (bits_in s.entry) result ≡ repeat (allowed 8 is_word_byte) n (drop at (bits_in s.entry)) }
+    requires { (at ≤ 8 * length s.bytes.now) × (0 < n) × (n ≤ 31) }
+    ensures { of_spelt (bits_in s.entry) result ≡ word_bytes n (drop at (bits_in s.entry)) }
 {
     let there = (s.bytes.len() * 8 - at) / 8;
     if there < n {
-        if is_text(s, at, there) {
+        if is_word_at(s, at, there) {
             return Err(Fault::Past);
         }
         return Err(Fault::NotAllowed);
     }
-    if is_text(s, at, n) {
+    if is_word_at(s, at, n) {
         return Ok(Spelt {
             source: s,
             at,
             count: n,
             head: head_at(s, at, n),
+            plain: is_text(s, at, n, false),
         });
     }
     Err(Fault::NotAllowed)
@@ -164,15 +195,16 @@ fn short_word(s: Source, at: usize, n: usize, x: u64) -> Result<Spelt, Fault>
 {
     let k = 48 - 8 * n;
     let v = x >> k;
-    if is_spelt(v, n) {
+    if is_spelt(v, n, false) {
         return Ok(Spelt {
             source: s,
             at: at + 5,
             count: n,
             head: v << k,
+            plain: true,
         });
     }
-    Err(Fault::NotAllowed)
+    bytes_from(s, at + 5, n)
 }
 
 // A word of more than six bytes, of which x has the first six.
@@ -184,18 +216,19 @@ fn long_word(s: Source, at: usize, n: usize, x: u64) -> Result<Spelt, Fault>
     if s.bytes.len() * 8 - q < 8 * n {
         return bytes_from(s, q, n);
     }
-    if is_spelt(x, 6) {
-        if is_text(s, q + 48, n - 6) {
+    if is_spelt(x, 6, false) {
+        if is_text(s, q + 48, n - 6, false) {
             return Ok(Spelt {
                 source: s,
                 at: q,
                 count: n,
                 head: x,
+                plain: true,
             });
         }
-        return Err(Fault::NotAllowed);
+        return bytes_from(s, q, n);
     }
-    Err(Fault::NotAllowed)
+    bytes_from(s, q, n)
 }
 
 // An entry of the word list: its length, 1 to 31, and so many bytes (FORMAT 2.4).
@@ -253,6 +286,13 @@ fn still_up(up: bool, a: Spelt, b: Spelt) -> bool
     up && is_before(a, b)
 }
 
+// Whether none has a hyphen with one more.
+fn still_plain(plain: bool, w: Spelt) -> bool
+    ensures { result ≡ (plain && w.entry.plain) }
+{
+    plain && w.plain
+}
+
 // Whether a word is `resource`: its first six bytes, and the two behind them.
 fn is_resource(w: Spelt) -> bool
     ensures { result ≡ same_list eqb resource_bytes (bytes_of w.entry) }
@@ -280,6 +320,7 @@ fn with_name(t: Found, up: bool, w: Spelt, i: usize, n: usize) -> Found
 {
     Found {
         up,
+        plain: still_plain(t.plain, w),
         resource: first_place(is_resource(w), t.resource, i, n),
         own: first_place(w.head == SELF, t.own, i, n),
     }
@@ -295,6 +336,7 @@ fn with_word(t: Found, last: Spelt, w: Spelt, i: usize, n: usize) -> Found
     }
     Found {
         up,
+        plain: still_plain(t.plain, w),
         resource: t.resource,
         own: t.own,
     }
@@ -317,18 +359,20 @@ fn no_word(s: Source) -> Spelt
         at: 0,
         count: 0,
         head: 0,
+        plain: true,
     }
 }
 
-// n words.
-fn read_each_word(s: Source, c: Cursor, n: usize) -> Result<WordsRead, Fault>
+// n words, and how far they reach.
+fn read_each_word(s: Source, c: Cursor, n: usize, reach: &mut Reach) -> Result<WordsRead, Fault>
     requires { n ≤ 200 }
-    ensures { (of_words_read (bits_in s.entry) result ≡ told (repeat word n (drop c.at (bits_in s.entry)))) × IfOk result (λ w. w.count ≤ 200) }
+    ensures { (of_words_read (bits_in s.entry) result ≡ told (repeat word n (drop c.at (bits_in s.entry)))) × IfOk result (λ w. (w.count ≤ 200) × Reached (repeat word n (drop c.at (bits_in s.entry))) reach.new) }
 {
     let mut at = c.at;
     let mut last = no_word(s);
     let mut t = Found {
         up: true,
+        plain: true,
         resource: n,
         own: n,
     };
@@ -338,6 +382,7 @@ fn read_each_word(s: Source, c: Cursor, n: usize) -> Result<WordsRead, Fault>
         at = w.at + 8 * w.count;
         last = w;
     }
+    reaching::fill(s, c.at, n, t.plain, reach);
     Ok(WordsRead {
         count: n,
         at,
@@ -347,11 +392,11 @@ fn read_each_word(s: Source, c: Cursor, n: usize) -> Result<WordsRead, Fault>
     })
 }
 
-// The word list, of 2 to 200 words (FORMAT 2.2), and what its spelling tells (FORMAT 1.2).
-pub fn read_words(s: &[u8], c: Cursor) -> Result<WordsRead, Fault>
+// The word list, of 2 to 200 words (FORMAT 2.2), what its spelling tells (FORMAT 1.2), and how far its words reach.
+pub fn read_words(s: &[u8], c: Cursor, reach: &mut Reach) -> Result<WordsRead, Fault>
     requires { Addressable s.now }
-    ensures { (of_words_read (bits_of s.now) result ≡ told (counted 8 2 200 word (drop c.at (bits_of s.now)))) × IfOk result (λ w. w.count ≤ 200) }
+    ensures { (of_words_read (bits_of s.now) result ≡ told (counted 8 2 200 word (drop c.at (bits_of s.now)))) × IfOk result (λ w. (w.count ≤ 200) × Reached (counted 8 2 200 word (drop c.at (bits_of s.now))) reach.new) }
 {
     let (n, next) = fields::read_between(s, c, 8, 2, 200)?;
-    read_each_word(Source { bytes: s }, next, n)
+    read_each_word(Source { bytes: s }, next, n, reach)
 }

@@ -9,12 +9,14 @@ pub struct Source<'a> {
     ghost addressable: { Addressable bytes.now },
 }
 
-// A word of count bytes that stand from bit `at` on; `head` is the first six of them as one number.
+// A word of count bytes that stand from bit `at` on; `head` is the first six of them as one number, and where it is plain none is a
+// hyphen.
 #[derive(Clone, Copy)]
 pub struct Spelt<'a> {
     pub source: Source<'a>,
     pub at: usize,
     pub count: usize,
     pub head: u64,
-    ghost held: { Held source.bytes.now at count head },
+    pub plain: bool,
+    ghost held: { Held source.bytes.now at count head plain },
 }

@@ -82,9 +82,9 @@ impl Reader<'_> {
     fn spelling(&mut self) -> Read<String> {
         let length = self.within(5, 1, 31)?;
         let mut out = String::new();
-        for _ in 0..length {
+        for at in 0..length {
             let byte = self.field(8)? as u8;
-            if !byte.is_ascii_alphanumeric() && byte != b'_' {
+            if !byte.is_ascii_alphanumeric() && byte != b'_' && (byte != b'-' || at == 0) {
                 return Err(4);
             }
             out.push(byte as char);

@@ -1,7 +1,8 @@
 use Rattle.std.proofs.lemmas.Result.{err_from_is_err_and}
-use Rattle.sheet_decode.specs.DecodeLaws.{listed, not_listed, back_as, fill-back, words_back, twice-back, passes}
+use Rattle.sheet_decode.specs.DecodeLaws.{listed, not_listed, back_as, fill-back, words_back, twice-back, passes, keys-reach, orders}
 use Rattle.sheet_repeats.specs.TwiceLaws.{twice-is}
 use Rattle.definitions.specs.Bits.{bits_of}
+use lib.ListN.{drop}
 use mathlib.Core.Path.{refl, sym, ◌∙◌}
 use Rattle.sheet_decode.proofs.decode.Goals as goal
 
@@ -28,9 +29,14 @@ returns-then-l c =
     let h = listed bytes x.new.d x.new.t l (rw c.in_ok-l.was at x.ensures.0) in
     back_as bytes _ 5 refl (words_back bytes x.new.d x.new.t l h (sym c.is_bad_fill.ensures ∙ c.if-is_bad_fill.false) c.if-l.true)
 
-pub order_by_key-requires : goal.order_by_key-requires
-order_by_key-requires c =
-    (rw c.in_ok-l.was at c.read_lists.ensures.1).count
+pub order_by_name-requires : goal.order_by_name-requires
+order_by_name-requires c =
+    let bytes = c.args.s.now in
+    let x = c.read_lists in
+    let l = c.in_ok-l.l in
+    let h = listed bytes x.new.d x.new.t l (rw c.in_ok-l.was at x.ensures.0) in
+    let k = rw c.in_ok-l.was at x.ensures.1 in
+    (k.0.count, keys-reach bytes x.new.d x.new.t l h k.0.count)
 
 pub returns-then-is_something_twice : goal.returns-then-is_something_twice
 returns-then-is_something_twice c =
@@ -40,9 +46,10 @@ returns-then-is_something_twice c =
     let d = x.new.d in
     let t = x.new.t in
     let h = listed bytes d t l (rw c.in_ok-l.was at x.ensures.0) in
-    let en = c.order_by_key.ensures in
-    let entries = c.order_by_key.new.entries in
-    let z = sym (c.is_something_twice.ensures ∙ twice-is h.s (bits_of bytes) d entries t l.read (rw c.in_ok-l.was at x.ensures.1).count en h.width h.types h.extensions) in
+    let k = rw c.in_ok-l.was at x.ensures.1 in
+    let en = c.order_by_name.ensures h.s.words (orders bytes d t l h k.0.count c.if-l.false x.new.reach (k.2 h.s (drop l.at (bits_of bytes)) h.read)) in
+    let entries = c.order_by_name.new.entries in
+    let z = sym (c.is_something_twice.ensures ∙ twice-is h.s (bits_of bytes) d entries t l.read k.0.count en h.width h.types h.extensions) in
     back_as bytes _ 6 refl
     (twice-back bytes d t l h (sym c.is_bad_fill.ensures ∙ c.if-is_bad_fill.false) c.if-l.false (z ∙ c.if-is_something_twice.true))
 
@@ -54,7 +61,8 @@ returns c =
     let d = x.new.d in
     let t = x.new.t in
     let h = listed bytes d t l (rw c.in_ok-l.was at x.ensures.0) in
-    let en = c.order_by_key.ensures in
-    let entries = c.order_by_key.new.entries in
-    let z = sym (c.is_something_twice.ensures ∙ twice-is h.s (bits_of bytes) d entries t l.read (rw c.in_ok-l.was at x.ensures.1).count en h.width h.types h.extensions) in
-    passes bytes d t l h (sym c.is_bad_fill.ensures ∙ c.if-is_bad_fill.false) c.if-l.false (z ∙ c.if-is_something_twice.false) c.requires entries en (rw c.in_ok-l.was at x.ensures.1)
+    let k = rw c.in_ok-l.was at x.ensures.1 in
+    let en = c.order_by_name.ensures h.s.words (orders bytes d t l h k.0.count c.if-l.false x.new.reach (k.2 h.s (drop l.at (bits_of bytes)) h.read)) in
+    let entries = c.order_by_name.new.entries in
+    let z = sym (c.is_something_twice.ensures ∙ twice-is h.s (bits_of bytes) d entries t l.read k.0.count en h.width h.types h.extensions) in
+    passes bytes d t l h (sym c.is_bad_fill.ensures ∙ c.if-is_bad_fill.false) c.if-l.false (z ∙ c.if-is_something_twice.false) c.requires entries en k.0 (λ q. (k.2 h.s (drop l.at (bits_of bytes)) h.read).none (sym k.1 ∙ q))

@@ -3,6 +3,7 @@ use Rattle.sheet_decode.specs.Lists.{telling_in}
 use Rattle.fields.specs.FieldLaws.{err_was}
 use Rattle.definitions.specs.Bits.{bits_of}
 use lib.ListN.{drop}
+use mathlib.Core.Path.{refl}
 use Rattle.sheet_decode.proofs.read_records.Goals as goal
 
 pub returns-in_err-types : goal.returns-in_err-types
@@ -37,5 +38,5 @@ returns c =
     let h = rw v.was at y.0 in
     let k = rw u.was at x.1 in (
       records-read (telling_in a.w) (drop a.w.at bs) _ (drop u.next.at bs) g _ (drop v.end.at bs) h,
-      record { width = c.requires.1; count = k.0; extensions = rw v.was at y.1; notes = k.1 },
+      (record { width = c.requires.1; count = k.0; extensions = rw v.was at y.1; notes = k.1 }, refl),
     )

@@ -1,11 +1,12 @@
 use mathlib.Core.List.{[], ◌∷◌, ◌++◌}
-use mathlib.Core.Path.{refl, sym, ap, ◌∙◌}
+use mathlib.Core.Path.{◌≡◌, refl, sym, ap, ◌∙◌}
 use Prim.Native.Nat.{◌+◌, ◌*◌}
 use native.Mathlib.Omega.{arith}
 use native.Mathlib.Nat.{sub-zero}
 use Rattle.fields.specs.FieldLaws.{err_was}
 use lib.ListN.{drop, length-append}
-use Rattle.definitions.specs.Reading.{word}
+use Rattle.lists.specs.Lists.{all}
+use Rattle.definitions.specs.Reading.{is_first_byte, word}
 use Rattle.fields.specs.ParseLaws.{repeat-none, repeat-next, repeat-refused}
 use Rattle.sheet_words.specs.Words.{bits_in, bytes_of, told}
 use Rattle.sheet_words.specs.WordLaws.{word-long}
@@ -54,5 +55,11 @@ returns c =
       end-told a.n i.invariant.0 i.last i.t i.invariant.2 (omega (arith, i.invariant.1)) _ (drop i.at bs) _
           (i.invariant.3 ∙ repeat-none i.invariant.0 word _ (drop i.at bs) (omega arith))
           c.is_bad.ensures,
-      c.requires,
+      (
+        c.requires,
+        λ ws rest e.
+            let q = sym (i.invariant.3 ∙ repeat-none i.invariant.0 word _ (drop i.at bs) (omega arith)) ∙ e in
+            let z : i.invariant.0 ≡ ws = cc in
+            c.fill.ensures ws rest e (i.invariant.2.plain ∙ ap (all (all is_first_byte)) z),
+      ),
     )

@@ -19,4 +19,5 @@ read_each_word-requires c =
 
 pub returns : goal.returns
 unfolding counted
-returns c = (rw (← c.read_between.ensures, c.in_ok-n.was) c.read_each_word.ensures.0, c.read_each_word.ensures.1)
+returns c =
+    (rw (← c.read_between.ensures, c.in_ok-n.was) c.read_each_word.ensures.0, rw (← c.read_between.ensures, c.in_ok-n.was) c.read_each_word.ensures.1)

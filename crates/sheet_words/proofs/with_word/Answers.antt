@@ -5,4 +5,4 @@ pub returns : goal.returns
 returns c =
     let a = c.args in
     let f = neither-is a.w c.if-w-eq-R_OR_S.false a.t c.still_up-up.result a.i a.n in
-    record { rising = c.still_up-up.ensures; class = f.class; self = f.self }
+    record { rising = c.still_up-up.ensures; plain = c.still_plain.ensures; class = f.class; self = f.self }
