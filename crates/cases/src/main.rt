@@ -8,6 +8,9 @@ use replaying::{Cases, Replayed};
 use std::io::{BufReader, BufWriter, Write};
 use std::{fmt, io};
 
+// The most bytes of a listing. The largest schedule stands in document_cases.
+const MOST: usize = 65536;
+
 // How many cases there are, how many of them agree, and how many of these are the Rust's untouched.
 #[derive(Clone, Copy)]
 struct Counts {
@@ -21,7 +24,7 @@ impl Counts {
         self.cases = self.cases.saturating_add(1);
         if replayed.agrees {
             self.agree = self.agree.saturating_add(1);
-            if replayed.name.len() == 1 {
+            if replayed.name.count == 1 {
                 self.untouched = self.untouched.saturating_add(1);
             }
         }
@@ -50,7 +53,7 @@ fn main(rt: HostRuntime) -> io::Result<()> {
         agree: 0,
         untouched: 0,
     };
-    for replayed in Cases::new(rt.alloc(), input).take(replaying::MANY) {
+    for replayed in Cases::new(rt.alloc(), input, MOST).take(replaying::MANY) {
         let replayed = replayed?;
         if !replayed.agrees {
             let place = counts.cases;
@@ -61,4 +64,49 @@ fn main(rt: HostRuntime) -> io::Result<()> {
     }
     write!(out, "{counts}")?;
     out.flush()
+}
+
+#[cfg(test)]
+mod tests {
+    use super::*;
+    use std::test::Fail;
+
+    // Whether the first case of an input agrees; None where there is none.
+    fn first(rt: &HostRuntime, input: &[u8]) -> Result<Option<bool>, Fail> {
+        match Cases::new(rt.alloc(), input, MOST).next() {
+            Some(replayed) => Ok(Some(replayed?.agrees)),
+            None => Ok(None),
+        }
+    }
+
+    // Each is a case of the order-only call without a sheet, which is refused with 3.
+    #[test]
+    fn runs_cases_within_limits(rt: HostRuntime) -> Result<(), Fail> {
+        // a sheet of ten bytes, of which none is there
+        let cut =
+            b"\x00\x03\x00\x00\x00\x00\x06\x00\x00\x0a\x00\x00\x00\x00\x00\x00\x00\x00\x01\x00";
+        assert!(rt; first(&rt, cut)? == Some(true));
+        // the longest slices, and each a byte longer
+        let long =
+            b"\x00\x03\x00\x00\x00\x00\x10\x00\x00\x00\x01\x00\x00\x00\x00\x00\x00\x00\x01\x00";
+        assert!(rt; first(&rt, long)? == Some(true));
+        let diagnosis =
+            b"\x00\x03\x00\x00\x00\x00\x10\x01\x00\x00\x01\x00\x00\x00\x00\x00\x00\x00\x01\x00";
+        assert!(rt; first(&rt, diagnosis)? == Some(false));
+        let listing =
+            b"\x00\x03\x00\x00\x00\x00\x10\x00\x00\x00\x01\x00\x01\x00\x00\x00\x00\x00\x01\x00";
+        assert!(rt; first(&rt, listing)? == Some(false));
+        Ok(())
+    }
+
+    // Acceptance, with one byte to be written more than a listing may have.
+    #[test]
+    fn ends_where_more_is_written(rt: HostRuntime) -> Result<(), Fail> {
+        let head =
+            b"\x00\x00\x00\x00\x00\x00\x06\x00\x00\x00\x00\x00\x00\x01\x00\x01\x00\x00\x01\x00";
+        let mut input = vec![in rt.alloc(); 0u8; MOST + 21]?;
+        input.as_mut_slice()[..20].copy_from_slice(head);
+        assert!(rt; first(&rt, input.as_slice())?.is_none());
+        Ok(())
+    }
 }

@@ -11,6 +11,10 @@ const LENT: u8 = 170;
 // Listings of every length are tried where the call writes no more bytes than these.
 const SMALL: usize = 255;
 
+// The most bytes of the records of a schedule, so that no case asks for more memory: those of 65,536 bytes have as many. Where
+// they are longer, the schedule is not read back.
+const RECORDS: usize = 1048576;
+
 // A call with its settings, its sheet, and what it must answer and write.
 #[derive(Clone, Copy)]
 pub(crate) struct Case<'a> {
@@ -90,7 +94,8 @@ impl Case<'_> {
     // Whether the schedule is read into records, and these are written as the same bytes (FORMAT 12.1).
     fn reads_back(&self, alloc: Global, lent: &mut [u8]) -> Result<bool, AllocError> {
         let w = text::width(self.sheet);
-        let room = self.written.len().saturating_mul(schedule_records::RECORDS);
+        let long = self.written.len().saturating_mul(schedule_records::RECORDS);
+        let room = long.min(RECORDS);
         let mut records = vec![in alloc; 0u8; room]?;
         let read = schedule_records::read_schedule(w, self.written, records.as_mut_slice());
         let Ok(n) = read else {

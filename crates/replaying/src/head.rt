@@ -1,9 +1,14 @@
 // The head of a stored case.
+ghost use Rattle.std.specs.Prelude.{◌≡◌, ◌&&◌, leb};
+
 use access::{Call, Settings};
 use answers::Parts;
 
 // A sheet of so many bytes stands for the one before it.
 pub(crate) const SAME_SHEET: usize = 65535;
+
+// The most bytes that are lent for a diagnosis, so that no case asks for more memory: 256 rows have 1,536.
+const DIAGNOSIS: usize = 4096;
 
 // Which call is run, with listings of which lengths, and what it must answer; the lengths of the name, the sheet, and the slices
 // that are lent; and how the call is set.
@@ -17,6 +22,15 @@ pub(crate) struct Head {
     pub(crate) listing: usize,
     pub(crate) diagnosis: usize,
     pub(crate) settings: Settings,
+}
+
+impl Head {
+    // Whether no longer slices are lent than a case may ask for; a listing has this many bytes at most.
+    pub(crate) fn is_within(&self, most: usize) -> bool
+        ensures { result ≡ (leb self.now.listing most && leb self.now.diagnosis 4096) }
+    {
+        self.listing <= most && self.diagnosis <= DIAGNOSIS
+    }
 }
 
 impl From<[u8; 20]> for Head {

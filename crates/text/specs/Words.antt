@@ -1,5 +1,5 @@
 -- What is read of the words of a sheet.
-use Rattle.std.specs.Prelude.{◌≡◌, ◌≤◌, ◌<◌, ℕ, List, Option, Some, None, cond, ltb, length, slice_index_or, string_bytes}
+use Rattle.std.specs.Prelude.{◌≡◌, ◌≤◌, ◌<◌, ℕ, List, [], Option, Some, None, cond, ltb, length, slice_index_or, string_bytes}
 use Rattle.std.specs.declared.string.String.{String}
 use Rattle.definitions.specs.Bits.{bits_of}
 use Rattle.bits.specs.declared.Cursor.{Cursor}
@@ -24,3 +24,9 @@ width_of sheet = value_at sheet 4 8
 abbrev pub IsWord : {A : Type 0} → List (String A) → ℕ → Word → Type 0
 IsWord {A} texts n (Text t) = (n < length texts) × ((d : String A) → t.now ≡ string_bytes (slice_index_or texts n d))
 IsWord {A} texts n (Number k) = (length texts ≤ n) × (k ≡ n)
+
+-- word n as it is printed: the bytes of its text; where there is none, nothing for a number below `spelled`, else the number
+abbrev pub IsPrinted : {A : Type 0} → List (String A) → ℕ → ℕ → Word → Type 0
+IsPrinted {A} texts spelled n (Text t) =
+    (n < length texts → (d : String A) → t.now ≡ string_bytes (slice_index_or texts n d)) × (length texts ≤ n → (n < spelled) × (t.now ≡ []))
+IsPrinted {A} texts spelled n (Number k) = (length texts ≤ n) × (spelled ≤ n) × (k ≡ n)

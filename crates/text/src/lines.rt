@@ -46,7 +46,7 @@ impl<'a> Records<'a> {
 
     fn word(&mut self) -> Word<'a> {
         let n = self.number();
-        self.words.word(n)
+        self.words.printed(n)
     }
 
     // A word, and where the flag behind it says so, a second one.

@@ -1,5 +1,6 @@
 // The lines of a refusal (FORMAT 9.4).
 use crate::words::{Name, Word, Words};
+use bits::byte_at;
 use emitting::{ABSENT, ROW};
 use std::fmt;
 
@@ -14,7 +15,8 @@ impl fmt::Display for Refused {
     }
 }
 
-// A diagnosis slice in the words of its sheet: how many rows were written into it, and whether there are more.
+// A diagnosis slice in the words of its sheet: how many rows were written into it, and whether there are more. A byte that the
+// slice lacks is 0.
 #[derive(Clone, Copy)]
 pub struct Diagnosis<'a> {
     pub words: &'a Words,
@@ -28,7 +30,7 @@ impl<'a> Diagnosis<'a> {
         if n == ABSENT {
             None
         } else {
-            Some(self.words.word(n as usize))
+            Some(self.words.printed(n as usize))
         }
     }
 
@@ -38,15 +40,21 @@ impl<'a> Diagnosis<'a> {
             second: self.word(second),
         }
     }
+
+    fn row(&self, i: usize) -> [u8; ROW] {
+        let at = i.saturating_mul(ROW);
+        let byte = |k: usize| byte_at(self.written, at.saturating_add(k));
+        [byte(0), byte(1), byte(2), byte(3), byte(4), byte(5)]
+    }
 }
 
 impl fmt::Display for Diagnosis<'_> {
     fn fmt<W: fmt::Write>(&self, f: &mut fmt::Formatter<W>) -> fmt::Result {
-        let (rows, _) = self.written.as_chunks::<ROW>();
-        for [kind, a, b, c, d, e] in rows.iter().take(self.rows) {
-            let subject = self.name(*a, *b);
-            let other = self.name(*c, *d);
-            let word = self.name(*e, ABSENT);
+        for i in 0..self.rows {
+            let [kind, a, b, c, d, e] = self.row(i);
+            let subject = self.name(a, b);
+            let other = self.name(c, d);
+            let word = self.name(e, ABSENT);
             writeln!(f, "D {kind} {subject} {other} {word}")?;
         }
         if self.more {

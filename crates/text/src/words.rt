@@ -1,6 +1,6 @@
 // The words of a sheet, and the names that are made of them.
 ghost use Rattle.std.specs.Prelude.{◌≡◌, ◌≤◌, [], IfOk, vec_len};
-ghost use Rattle.text.specs.Words.{value_at, width_of, IsWord};
+ghost use Rattle.text.specs.Words.{value_at, width_of, IsWord, IsPrinted};
 
 use bits::Cursor;
 use reader::Reader;
@@ -17,6 +17,9 @@ const VERSION: usize = 4;
 const WIDTH: usize = 8;
 
 const LENGTH: usize = 5;
+
+// The words that a byte can number.
+const NUMBERED: usize = 256;
 
 // A sheet whose fields are read one by one.
 #[derive(Drop)]
@@ -50,14 +53,16 @@ impl<'a> Fields<'a> {
         value
     }
 
-    // A word: its length, and so many bytes (FORMAT 2.4).
+    // A word: its length, and so many bytes (FORMAT 2.4). The next one begins behind them, also where the sheet lacks some.
     fn word(&mut self, alloc: Global) -> Result<String, AllocError> {
         let length = self.next(LENGTH);
+        let behind = self.reader.at.at.saturating_add(length.saturating_mul(8));
         let mut word = String::new(alloc);
         for _ in 0..length {
             let byte = self.next(8) % 256;
             word.push(char::from(byte as u8))?;
         }
+        self.reader.at = Cursor { at: behind };
         Ok(word)
     }
 }
@@ -69,11 +74,13 @@ pub fn width(sheet: &[u8]) -> usize
     Fields::new(sheet).next(WIDTH)
 }
 
-// The words that a schedule is made of, and W, their count.
+// The words that a schedule is made of, and W, their count. A number below `spelled` is never printed itself: past the last word
+// it is a text without letters.
 #[derive(Drop)]
 pub struct Words {
     width: usize,
     texts: Vec<String>,
+    spelled: usize,
 }
 
 impl Words {
@@ -81,6 +88,7 @@ impl Words {
     pub fn of_sheet(alloc: Global, sheet: &[u8]) -> Result<Words, AllocError>
         ensures width { IfOk result (λ w. w.width ≡ width_of sheet.now) }
         ensures words { IfOk result (λ w. vec_len w.texts ≡ w.width) }
+        ensures spelled { IfOk result (λ w. w.spelled ≡ 256) }
     {
         let mut fields = Fields::new(sheet);
         let width = fields.next(WIDTH);
@@ -88,16 +96,21 @@ impl Words {
         for _ in 0..width {
             texts.push(fields.word(alloc)?)?;
         }
-        Ok(Words { width, texts })
+        Ok(Words {
+            width,
+            texts,
+            spelled: NUMBERED,
+        })
     }
 
     // W words of which only the numbers are known.
     pub fn unknown(alloc: Global, width: usize) -> Words
-        ensures { (result.width ≡ width) × (result.texts.items ≡ []) }
+        ensures { (result.width ≡ width) × (result.texts.items ≡ []) × (result.spelled ≡ 0) }
     {
         Words {
             width,
             texts: Vec::new(alloc),
+            spelled: 0,
         }
     }
 
@@ -115,6 +128,16 @@ impl Words {
         match self.texts.get(n) {
             Some(text) => Word::Text(text.as_str()),
             None => Word::Number(n),
+        }
+    }
+
+    // Word n as it is printed: that a sheet lacks it is not told.
+    pub fn printed(&self, n: usize) -> Word<'_>
+        ensures { IsPrinted self.now.texts.items self.now.spelled n result }
+    {
+        match self.word(n) {
+            Word::Number(n) if n < self.spelled => Word::Text(""),
+            word => word,
         }
     }
 }
