@@ -1,7 +1,7 @@
 // A list of at most N items, in an array beside its count: fixed memory, and no heap.
 #![tactic(auto)]
 
-ghost use Rattle.std.specs.Prelude.{◌≡◌, ◌+◌, ◌<◌, ◌≤◌, [], ◌∷◌, ◌++◌, insert, length, set};
+ghost use Rattle.std.specs.Prelude.{◌≡◌, ◌+◌, ◌<◌, ◌≤◌, [], ◌∷◌, ◌++◌, insert, length, set, ⊤};
 
 use std::alloc::AllocError;
 
@@ -18,6 +18,11 @@ pub struct UpTo<T, const N: usize> {
 impl<T: Copy, const N: usize> Copy for UpTo<T, N> {}
 
 impl<T: Copy, const N: usize> Clone for UpTo<T, N> {
+    ghost is_clone = { λ x y. y ≡ x };
+
+    ghost is_infallible = { λ _. ⊤ };
+
+    // Equal to its source; it cannot fail.
     fn clone(&self) -> Result<Self, AllocError> {
         Ok(*self)
     }

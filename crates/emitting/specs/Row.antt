@@ -3,6 +3,7 @@ use Rattle.std.specs.Prelude.{List, [], ◌∷◌, ℕ}
 use Rattle.std.specs.Option.{unwrap_or}
 use Rattle.fields.specs.declared.Name.{Name}
 use Rattle.emitting.specs.declared.Row.{Row}
+use Rattle.emitting.specs.declared.RowBytes.{RowBytes}
 use Rattle.emitting.specs.declared.Kind.{Kind}
 use Rattle.emitting.specs.declared.Kind.TheVariants.{ListsSelf, ClosesCycle, UndeclaredParent, UndeclaredClass, NoResource, Duplicate}
 
@@ -25,3 +26,7 @@ other_of r = unwrap_or r.other no_name
 -- the six bytes of a row, in their order (FORMAT 8.1)
 abbrev pub bytes_of : Row → List ℕ
 bytes_of r = number_of r.kind ∷ r.subject.first ∷ r.subject.second ∷ (other_of r).first ∷ (other_of r).second ∷ unwrap_or r.word 255 ∷ []
+
+-- the six bytes of a row that may be any, in their order
+abbrev pub row_bytes : RowBytes → List ℕ
+row_bytes r = r.kind ∷ r.first ∷ r.second ∷ r.other_first ∷ r.other_second ∷ r.word ∷ []

@@ -1,9 +1,10 @@
 // Rows of a diagnosis written into a lent slice.
 #![tactic(auto)]
 
-ghost use Rattle.std.specs.Prelude.{true, ◌≡◌, ◌*◌, ◌≤◌, length};
+ghost use Rattle.std.specs.Prelude.{true, ◌≡◌, ◌+◌, ◌*◌, ◌≤◌, length};
+ghost use Rattle.std.proofs.Math.Seq.{sets};
 ghost use Rattle.emitting.specs.Emitting.{emit_bytes};
-ghost use Rattle.emitting.specs.Row.{bytes_of, number_of};
+ghost use Rattle.emitting.specs.Row.{bytes_of, row_bytes, number_of};
 
 use fields::Name;
 
@@ -41,6 +42,46 @@ pub const ROW: usize = 6;
 
 // What stands in a row for an absent word, and twice for an absent name (FORMAT 8.1).
 pub const ABSENT: u8 = 255;
+
+// A row as its six bytes, whatever they are: the kind, the subject, the other name, the resource word; 255 for an absent word
+// (FORMAT 8.1).
+#[derive(Clone, Copy)]
+pub struct RowBytes {
+    pub kind: u8,
+    pub first: u8,
+    pub second: u8,
+    pub other_first: u8,
+    pub other_second: u8,
+    pub word: u8,
+}
+
+// Writes the bytes of a row at place n.
+fn write_row(buf: &mut [u8], n: usize, row: RowBytes)
+    requires { 6 * n + 6 ≤ length buf.old }
+    ensures { buf.new ≡ sets buf.old (6 * n) (row_bytes row) }
+{
+    let at = ROW * n;
+    buf[at..at + ROW].copy_from_slice(&[
+        row.kind,
+        row.first,
+        row.second,
+        row.other_first,
+        row.other_second,
+        row.word,
+    ]);
+}
+
+// Writes a row at place n, if that is below the limit; the count then is n + 1, and stops one past the limit.
+pub fn put_row(buf: &mut [u8], limit: usize, n: usize, row: RowBytes) -> usize
+    requires { 6 * limit ≤ length buf.old }
+    ensures { (buf.new, result) ≡ emit_bytes limit (buf.old, n) (row_bytes row) }
+{
+    if n < limit {
+        write_row(buf, n, row);
+        return n + 1;
+    }
+    limit + 1
+}
 
 // How many rows were written, and whether there are more (FORMAT 8.2).
 #[derive(Clone, Copy)]
@@ -91,15 +132,15 @@ impl<'a> Writer<'a> {
             second: ABSENT,
         };
         let other = row.other.unwrap_or(absent);
-        let at = ROW * self.count;
-        self.buf[at..at + ROW].copy_from_slice(&[
-            u8::from(row.kind),
-            row.subject.first,
-            row.subject.second,
-            other.first,
-            other.second,
-            row.word.unwrap_or(ABSENT),
-        ]);
+        let bytes = RowBytes {
+            kind: u8::from(row.kind),
+            first: row.subject.first,
+            second: row.subject.second,
+            other_first: other.first,
+            other_second: other.second,
+            word: row.word.unwrap_or(ABSENT),
+        };
+        write_row(self.buf, self.count, bytes);
         self.count += 1;
     }
 

@@ -4,6 +4,7 @@ use Rattle.std.specs.List.{range_with_len, list_any, list_all}
 use Rattle.std.proofs.Math.Bool.{and-true}
 use Rattle.std.proofs.Common.{sym, ap, ap₂, subst, ◌∙◌, inl, inr, arith, eq-eqb, ne_eqb, eqb-true}
 use Rattle.std.proofs.lemmas.Bool.{eqb-false}
+use Rattle.std.proofs.lemmas.List.{length-map, get_or-map}
 use Rattle.lists.specs.Lists.{In, any, all, repeats, same_list, set_of}
 use Rattle.lists.specs.Tests.{by, same_test, and_left, and_right, and_both, any-in, any_of, all_in, all_of}
 use Rattle.lists.specs.Strict.{number-strict}
@@ -285,18 +286,34 @@ only-word a =
 pub annotation-of : (t : Annotations) (i : ℕ) (d : AnnotationOf Resource) → i < t.count → get_or (of_annotations t) i d ≡ annotation_of (get_or t.items i zero_annotation)
 annotation-of t i d h = ap (λ (l : List (AnnotationOf Resource)). get_or l i d) (annotations-places t) ∙ get_d-places annotation_of zero_annotation t.items t.count i d h
 
+-- tests of a list by its places, where g gives what stands at each
+module _ (l : List (AnnotationOf Resource)) (g : ℕ → AnnotationOf Resource) (n : ℕ) (d : AnnotationOf Resource) (long : length l ≡ n) (there : (i : ℕ) → i < n → get_or l i d ≡ g i) where
+  places-any : (f : AnnotationOf Resource → Bool) (from : ℕ) → list_any (λ j. f (g j)) (range_with_len from (n - from)) ≡ any f (drop from l)
+  places-any f from =
+      any-range
+      (λ j. f (g j))
+      (λ k. any f (drop k l))
+      n
+      (λ k h. any_step f l k d (omega (arith, long)) ∙ rw (there k h))
+      (λ k h. any-end f l k (omega (arith, long)))
+      from
+
+  places-twice : list_any (λ i. any (same_annotation (g i)) (drop (i + 1) l)) (range_with_len 0 (n - 0)) ≡ repeats same_annotation l
+  places-twice =
+      any-range
+      (λ i. any (same_annotation (g i)) (drop (i + 1) l))
+      (λ k. repeats same_annotation (drop k l))
+      n
+      (λ k h. repeats-step same_annotation l k d (omega (arith, long)) ∙ rw (there k h))
+      (λ k h. repeats-end same_annotation l k (omega (arith, long)))
+      0
+
 -- a test of the annotations from a place on
 pub annotations-any : (f : AnnotationOf Resource → Bool) (t : Annotations) (from : ℕ) →
     list_any (λ j. f (annotation_of (get_or t.items j zero_annotation))) (range_with_len from (t.count - from)) ≡ any f (drop from (of_annotations t))
 annotations-any f t from =
     let d = annotation_of zero_annotation in
-    any-range
-    (λ j. f (annotation_of (get_or t.items j zero_annotation)))
-    (λ k. any f (drop k (of_annotations t)))
-    t.count
-    (λ k h. any_step f (of_annotations t) k d (omega (arith, length-of_annotations t)) ∙ rw (annotation-of t k d h))
-    (λ k h. any-end f (of_annotations t) k (omega (arith, length-of_annotations t)))
-    from
+    places-any (of_annotations t) (λ j. annotation_of (get_or t.items j zero_annotation)) t.count d (length-of_annotations t) (λ i h. annotation-of t i d h) f from
 
 -- an annotation and those behind it
 pub annotations-twice : (t : Annotations) →
@@ -304,13 +321,21 @@ pub annotations-twice : (t : Annotations) →
     ≡ repeats same_annotation (of_annotations t)
 annotations-twice t =
     let d = annotation_of zero_annotation in
-    any-range
-    (λ i. any (same_annotation (annotation_of (get_or t.items i zero_annotation))) (drop (i + 1) (of_annotations t)))
-    (λ k. repeats same_annotation (drop k (of_annotations t)))
-    t.count
-    (λ k h. repeats-step same_annotation (of_annotations t) k d (omega (arith, length-of_annotations t)) ∙ rw (annotation-of t k d h))
-    (λ k h. repeats-end same_annotation (of_annotations t) k (omega (arith, length-of_annotations t)))
-    0
+    places-twice (of_annotations t) (λ i. annotation_of (get_or t.items i zero_annotation)) t.count d (length-of_annotations t) (λ i h. annotation-of t i d h)
+
+-- the same of a slice of any length
+pub slice-any : (f : AnnotationOf Resource → Bool) (l : List Annotation) (from : ℕ) →
+    list_any (λ j. f (annotation_of (get_or l j zero_annotation))) (range_with_len from (length l - from)) ≡ any f (drop from (map annotation_of l))
+slice-any f l from =
+    let d = annotation_of zero_annotation in
+    places-any (map annotation_of l) (λ j. annotation_of (get_or l j zero_annotation)) (length l) d (length-map l annotation_of) (λ i h. get_or-map annotation_of l i zero_annotation d h) f from
+
+pub slice-twice : (l : List Annotation) →
+    list_any (λ i. any (same_annotation (annotation_of (get_or l i zero_annotation))) (drop (i + 1) (map annotation_of l))) (range_with_len 0 (length l - 0))
+    ≡ repeats same_annotation (map annotation_of l)
+slice-twice l =
+    let d = annotation_of zero_annotation in
+    places-twice (map annotation_of l) (λ i. annotation_of (get_or l i zero_annotation)) (length l) d (length-map l annotation_of) (λ i h. get_or-map annotation_of l i zero_annotation d h)
 
 -- MakeList, whatever the rows
 pub no_rows : (words doms : List ℕ) → annotation_of (record { kind = MakeList; count = 0; words = words; doms = doms }) ≡ annotation_of zero_annotation

@@ -2,14 +2,14 @@
 // equal if they have the same words (FORMAT 2.12).
 #![tactic(auto)]
 
-ghost use Rattle.std.specs.Prelude.{◌&&◌, ◌≡◌, eqb, get_or, drop};
+ghost use Rattle.std.specs.Prelude.{◌&&◌, ◌≡◌, eqb, get_or, drop, map};
 ghost use Rattle.lists.specs.Lists.{any, all, repeats, same_list};
 ghost use Rattle.definitions.specs.Checks.{same_annotation};
-ghost use Rattle.sheet_records.specs.Annotations.{annotation_of, word_of_rows, zero_annotation, of_annotations};
+ghost use Rattle.sheet_records.specs.Annotations.{annotation_of, word_of_rows, zero_annotation};
 ghost use Rattle.sheet_same.specs.Repeats.{words_of, rows_of, row_at, repeats_word, same_content, repeats_in};
 
 use bits::byte_at;
-use sheet_records::{Annotation, Annotations, Kind};
+use sheet_records::{Annotation, Kind};
 
 // Whether w is among the words from place `from` on.
 fn has_word_from(a: &Annotation, w: u8, from: usize) -> bool
@@ -89,41 +89,42 @@ pub fn is_same_annotation(a: Annotation, b: Annotation) -> bool
     a.kind == b.kind && is_same_content(a.kind, &a, &b)
 }
 
-// The annotation at i; MakeList past the array.
+// The annotation at i; MakeList past the end.
 #[tactic(auto, using(crate::specs::RepeatLaws::no_rows))]
-fn annotation_at(t: &Annotations, i: usize) -> Annotation
-    ensures { annotation_of result ≡ annotation_of (get_or t.now.items i zero_annotation) }
+fn annotation_at(l: &[Annotation], i: usize) -> Annotation
+    ensures { annotation_of result ≡ annotation_of (get_or l.now i zero_annotation) }
 {
-    match t.items.get(i) {
+    match l.get(i) {
         Some(x) => *x,
         None => Annotation::BLANK,
     }
 }
 
 // Whether x is equal to one of the annotations from place `from` on.
-fn has_annotation_from(t: &Annotations, x: Annotation, from: usize) -> bool
-    ensures { result ≡ any (same_annotation (annotation_of x)) (drop from (of_annotations t.now)) }
+fn has_annotation_from(l: &[Annotation], x: Annotation, from: usize) -> bool
+    ensures { result ≡ any (same_annotation (annotation_of x)) (drop from (map annotation_of l.now)) }
 {
-    (from..t.count).any(|j| is_same_annotation(x, annotation_at(t, j)))
+    (from..l.len()).any(|j| is_same_annotation(x, annotation_at(l, j)))
 }
 
 // Whether two annotations of a type are equal.
-fn repeats_annotation(t: Annotations) -> bool
-    ensures { result ≡ repeats same_annotation (of_annotations t) }
+fn repeats_annotation(l: &[Annotation]) -> bool
+    ensures { result ≡ repeats same_annotation (map annotation_of l.now) }
 {
-    (0..t.count).any(|i| has_annotation_from(&t, annotation_at(&t, i), i + 1))
+    (0..l.len()).any(|i| has_annotation_from(l, annotation_at(l, i), i + 1))
 }
 
 // Whether a word stands twice within one of the associates.
-fn has_repeated_word(t: &Annotations) -> bool
-    ensures { result ≡ any repeats_word (of_annotations t.now) }
+fn has_repeated_word(l: &[Annotation]) -> bool
+    ensures { result ≡ any repeats_word (map annotation_of l.now) }
 {
-    (0..t.count).any(|i| repeats_word(annotation_at(t, i)))
+    (0..l.len()).any(|i| repeats_word(annotation_at(l, i)))
 }
 
-// Whether within a type a word stands twice in an associate, or an annotation twice.
-pub fn is_repeating(a: Annotations) -> bool
-    ensures { result ≡ repeats_in (of_annotations a) }
+// Whether within a type a word stands twice in an associate, or an annotation twice. There may be more annotations than a type
+// has room for.
+pub fn is_repeating(annotations: &[Annotation]) -> bool
+    ensures { result ≡ repeats_in (map annotation_of annotations.now) }
 {
-    has_repeated_word(&a) || repeats_annotation(a)
+    has_repeated_word(annotations) || repeats_annotation(annotations)
 }

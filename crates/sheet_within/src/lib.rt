@@ -22,7 +22,7 @@ fn is_repeating_by_value(s: Sheet, at: usize, single: bool) -> bool
     ensures { result ≡ repeats_in (notes_of (notes s.entry.words single (drop at (bits_in s.entry)))).annotations }
 {
     match sheet_records::read_annotations(s, Cursor { at }, single) {
-        Ok((annotations, _)) => sheet_same::is_repeating(annotations),
+        Ok((annotations, _)) => sheet_same::is_repeating(annotations.as_slice()),
         Err(_) => false,
     }
 }

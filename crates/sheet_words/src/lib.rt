@@ -18,7 +18,7 @@ mod spelt;
 use bits::Cursor;
 use fields::Fault;
 use sheet_reach::Reach;
-use spelt::{Source, Spelt};
+pub use spelt::{Source, Spelt};
 use std::cmp::Ordering;
 
 // A one in each of six bytes: its products have one byte six times.
