@@ -83,6 +83,11 @@ unfolding first_refusal reject accept
 few-rows i [] = omega arith
 few-rows i (r ∷ l) = by (r.holds tt) (λ e. rw (e, first_refusal) (omega arith)) (λ e. rw (e, first_refusal) (few-rows i l))
 
+-- no answer has more rows than its own limit, allowed or not
+pub rows-within-limit : (i : Input) → (outcome i).answer.rows ≤ i.settings.rows
+unfolding outcome refusals
+rows-within-limit i = few-rows i (refusals i)
+
 -- a refusal without rows names none
 no-rows : (i : Input) (n : ℕ) (test : Unit {0} → Bool) → (reject i (bare n test)).answer.rows ≤ most_rows
 unfolding reject

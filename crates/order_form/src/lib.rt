@@ -16,7 +16,7 @@ pub struct Parent {
 // The names and the parents of the types, in name order. Type t lists the first counts[t] of the eight parents in its place.
 // Columns: the walks along the parents read no name of a type. A listed parent is asked for by its place in the list, since what is
 // said of a listing, that it is the first to reach its parent or hands on, is a bit at that place.
-#[derive(Drop)]
+#[derive(Clone, Copy)]
 pub struct Parents {
     pub count: usize,
     pub self_word: u8,

@@ -1,6 +1,7 @@
 pub mod Rounds
 pub mod Organized
 pub mod StepLaws
+pub mod SetLaws
 pub mod StageLaws
 pub mod OrganizedLaws
 pub mod HoldsLaws

@@ -1,9 +1,9 @@
--- What stands after k rounds, and that each round adds what the definitions' round adds.
+-- What stands after k rounds, and that each round adds what a round over the sets adds.
 use Rattle.std.specs.Prelude.{Bool, ◌&&◌, ◌||◌, ◌≡◌, ℕ, suc, ◌+◌, ◌^◌, ◌≤◌, ◌<◌, min, get_or}
 use Rattle.std.proofs.Math.Bool.{true, false, not, and-false}
 use mathlib.Core.List.Memᴰ
 use mathlib.Core.List.{List, [], ◌∷◌, ◌++◌}
-use Rattle.std.proofs.Math.Path.{refl, sym, ap, subst}
+use Rattle.std.proofs.Math.Path.{refl, sym, ap}
 use Rattle.std.proofs.Common.{ap₂, ◌∙◌}
 use native.Mathlib.Omega.{arith}
 use borrow.Author.Tests.{eq-eqb, eqb-true, eqb-false, ltb-true, ltb-false, lt-ltb, le-ltb, not-true}
@@ -11,22 +11,19 @@ use Rattle.std.specs.Int.Bits.{bit_and}
 use Rattle.std.proofs.lemmas.Nat.{and_le_l}
 use Rattle.std.proofs.Math.Dec.{eqb, ltb}
 use Rattle.std.proofs.Math.ListN.{length, length-append}
-use Rattle.lists.specs.Lists.{In, any, all}
-use Rattle.lists.specs.Tests.{by, never, same_test, not_so, and_left, and_right, or_elim, or_right, any-in, any_of, any-not, any_none, all_in, all_of}
+use Rattle.lists.specs.Lists.{In, all}
+use Rattle.lists.specs.Tests.{by, never, same_test, not_so, and_left, and_right, any-in, any_of, any_none, all_in, all_of}
 use Rattle.lists.specs.Appending.{any_append}
 use Rattle.rows.specs.Rows.{has_bit}
 use Rattle.rows.specs.RowLaws.{bit-none}
 use Rattle.bitsets.specs.Bitsets.{members, less, first_bits}
 use Rattle.bitsets.specs.BitLaws.{bit-both, bit-less, bit-first, bit_past, some-bit, below_of, in-below, in_members, members-of, members-none, members-below}
-use Rattle.order_form.specs.Lists.{elem, elem-left, elem-right, elem-cases, any-tab-out, below, below-is, below-same}
-use Rattle.order_form.specs.Reading.{listed, self_in}
-use Rattle.order_form.specs.declared.Parent.{Parent}
-use Rattle.order_form.specs.Rounds.{settled, is_ready, free, next, round, placed, final, lists_self, count_most, rests, next-is}
-use Rattle.order_form.specs.declared.Parents.{Parents}
+use Rattle.order_form.specs.Lists.{elem, elem-left, elem-right, elem-cases, below, below-is, below-same}
 use Rattle.item_spread.specs.Spread.{United}
 use Rattle.catalogue.specs.Layout.{parents_at}
 use Rattle.catalogue.specs.declared.Catalogue.{Catalogue}
-use Rattle.order_rounds.specs.Rounds.{all_listed_in, AllPlaced, ReadyIn, ChildrenPut, SetsFor}
+use Rattle.order_rounds.specs.Rounds.{all_listed_in, AllPlaced, ReadyIn, ChildrenPut, set_free, set_next, set_placed, set_final, Sets}
+use Rattle.order_rounds.specs.SetLaws.{next-is, count_most, rests}
 
 -- a set with a number in it has a member
 pub some-member : (x : ℕ) → x < 2 ^ 64 → (x ≡ 0 → ⊥) → 0 < length (members x)
@@ -55,39 +52,14 @@ appended-placed out new types m a = record {
       ap (elem b) a ∙ elem-right b out (members types) (any-in (eqb b) (in_members types l h) (eq-eqb b b refl));
 }
 
-module _ (p : Parents) (t : Catalogue) (n : ℕ) where
+module _ (t : Catalogue) (n : ℕ) where
   -- after k rounds: the types placed, those that are ready now, and those that wait
   pub record Stage (k : ℕ) (out : List ℕ) (ready waiting : ℕ) : Type 0 where
-    pub taken : out ≡ placed p k
-    pub frees : (a : ℕ) → has_bit ready a ≡ (ltb a n && free p (placed p k) a)
-    pub waits : (a : ℕ) → has_bit waiting a ≡ (ltb a n && not (elem a (placed p k)))
+    pub taken : out ≡ set_placed t n k
+    pub frees : (a : ℕ) → has_bit ready a ≡ (ltb a n && set_free t (set_placed t n k) a)
+    pub waits : (a : ℕ) → has_bit waiting a ≡ (ltb a n && not (elem a (set_placed t n k)))
 
-  module _ (s : SetsFor p t n) where
-    self-not : (a : ℕ) → a < n → any (self_in p) (listed p a) ≡ false
-    unfolding lists_self
-    self-not a h = any-tab-out (listed p) (λ (l : List Parent). any (self_in p) l) p.count a s.no_self (omega (arith, s.count))
-
-    member-bit : (a b : ℕ) → a < n → has_bit (parents_at t a) b ≡ true → b < 64
-    member-bit a b h v = by (ltb b 64) (λ z. ltb-true b 64 z) (λ z. never v (bit_past 64 (parents_at t a) b (s.most a h) (ltb-false b 64 z)))
-
-    -- a type is ready exactly if its set of parents is placed
-    pub ready-is : (a : ℕ) → a < n → (out : List ℕ) → is_ready p out a ≡ all_listed_in (parents_at t a) out
-    unfolding is_ready all_listed_in
-    ready-is a h out =
-        same_test
-        (λ e.
-        all_of (λ b. elem b out) (members (parents_at t a))
-        (λ b i.
-        let x = any_of (λ (q : Parent). eqb q.place b) (listed p a) (sym (s.bits a b h) ∙ (members-of (parents_at t a) i).1) in
-        or_elim (self_in p x.0) (elem x.0.place out) (all_in (settled p out) e x.1)
-        (λ z. never z (any-not (self_in p) (self-not a h) x.1))
-        (λ z. subst (λ (y : ℕ). elem y out ≡ true) (eqb-true x.0.place b x.2) z)))
-        (λ e.
-        all_of (settled p out) (listed p a)
-        (λ q i.
-        let v : has_bit (parents_at t a) q.place ≡ true = s.bits a q.place h ∙ any-in (λ (r : Parent). eqb r.place q.place) i (eq-eqb q.place q.place refl) in
-        or_right (self_in p q) (all_in (λ b. elem b out) e (in_members (parents_at t a) (member-bit a q.place h v) v))))
-
+  module _ (s : Sets t n) where
     -- ---- round one
 
     no-parents : (x : ℕ) → x < 2 ^ 64 → all_listed_in x [] ≡ eqb x 0
@@ -102,7 +74,7 @@ module _ (p : Parents) (t : Catalogue) (n : ℕ) where
         some-fails (y ∷ l) q = refl
 
     pub stage-none : (out children : List ℕ) (r w : ℕ) → out ≡ [] → ChildrenPut t n children r → w ≡ first_bits n → Stage 0 out r w
-    unfolding placed free
+    unfolding set_placed set_free
     stage-none out children r w z q e = record {
       taken = z;
       frees = λ a.
@@ -110,7 +82,7 @@ module _ (p : Parents) (t : Catalogue) (n : ℕ) where
           ∙ by (ltb a n)
           (λ l.
           let h = ltb-true a n l in
-          ap (λ (b : Bool). ltb a n && b) (sym (ready-is a h [] ∙ no-parents (parents_at t a) (s.most a h))))
+          ap (λ (b : Bool). ltb a n && b) (sym (no-parents (parents_at t a) (s.most a h))))
           (λ l. rw l);
       waits = λ a.
           ap (λ (x : ℕ). has_bit x a) e
@@ -128,56 +100,53 @@ module _ (p : Parents) (t : Catalogue) (n : ℕ) where
 
     -- ---- a further round
 
-    pub next-members : (k : ℕ) (out : List ℕ) (ready waiting : ℕ) → Stage k out ready waiting → members ready ≡ next p (placed p k)
-    unfolding next
+    pub next-members : (k : ℕ) (out : List ℕ) (ready waiting : ℕ) → Stage k out ready waiting → members ready ≡ set_next t n (set_placed t n k)
+    unfolding set_next
     next-members k out ready waiting g =
         members-below ready n s.few (λ x h. g.frees x ∙ rw (le-ltb x n h))
-        ∙ below-same (has_bit ready) (free p (placed p k)) n (λ x h. g.frees x ∙ rw (lt-ltb x n h))
-        ∙ ap (below (free p (placed p k))) (sym s.count)
+        ∙ below-same (has_bit ready) (set_free t (set_placed t n k)) n (λ x h. g.frees x ∙ rw (lt-ltb x n h))
 
     -- there is room for it
     pub room : (k : ℕ) (out : List ℕ) (ready waiting : ℕ) → Stage k out ready waiting → length out + length (members ready) ≤ n
-    unfolding placed round
+    unfolding set_placed
     room k out ready waiting g =
         omega (
           arith,
           ap length g.taken,
           ap length (next-members k out ready waiting g),
-          length-append (placed p k) (next p (placed p k)),
-          count_most p (suc k),
-          s.count,
+          length-append (set_placed t n k) (set_next t n (set_placed t n k)),
+          count_most t n (suc k),
         )
 
-    next-below : (k b : ℕ) → elem b (next p (placed p k)) ≡ true → b < p.count
-    unfolding next
-    next-below k b y = (below-is (free p (placed p k)) p.count b y).0
+    next-below : (k b : ℕ) → elem b (set_next t n (set_placed t n k)) ≡ true → b < n
+    unfolding set_next
+    next-below k b y = (below-is (set_free t (set_placed t n k)) n b y).0
 
     -- a type that is ready, and was not placed in the last round, has a parent that was
-    one-was-last : (k ready : ℕ) → ((a : ℕ) → has_bit ready a ≡ (ltb a n && free p (placed p k) a)) → (a : ℕ) → a < n → not (elem a (placed p (suc k))) ≡ true
-        → all_listed_in (parents_at t a) (placed p (suc k)) ≡ true → eqb (bit_and (parents_at t a) ready) 0 ≡ false
-    unfolding placed round free all_listed_in
+    one-was-last : (k ready : ℕ) → ((a : ℕ) → has_bit ready a ≡ (ltb a n && set_free t (set_placed t n k) a)) → (a : ℕ) → a < n → not (elem a (set_placed t n (suc k))) ≡ true
+        → all_listed_in (parents_at t a) (set_placed t n (suc k)) ≡ true → eqb (bit_and (parents_at t a) ready) 0 ≡ false
+    unfolding set_placed set_free all_listed_in
     one-was-last k ready f a h w e =
         not_so (λ z.
-        let all-before : all (λ b. elem b (placed p k)) (members (parents_at t a)) ≡ true =
-        all_of (λ b. elem b (placed p k)) (members (parents_at t a))
+        let all-before : all (λ b. elem b (set_placed t n k)) (members (parents_at t a)) ≡ true =
+        all_of (λ b. elem b (set_placed t n k)) (members (parents_at t a))
         (λ b i.
-        elem-cases b (placed p k) (next p (placed p k)) (all_in (λ c. elem c (placed p k ++ next p (placed p k))) e i)
+        elem-cases b (set_placed t n k) (set_next t n (set_placed t n k)) (all_in (λ c. elem c (set_placed t n k ++ set_next t n (set_placed t n k))) e i)
         (λ y. y)
         (λ y.
         let m = members-of (parents_at t a) i in
-        let l : b < n = omega (arith, s.count, next-below k b y) in
-        let r : has_bit ready b ≡ true = f b ∙ rw (lt-ltb b n l) (sym (next-is p (placed p k) b (omega (arith, s.count))) ∙ y) in
+        let l = next-below k b y in
+        let r : has_bit ready b ≡ true = f b ∙ rw (lt-ltb b n l) (sym (next-is t n (set_placed t n k) b l) ∙ y) in
         never (bit-both (parents_at t a) ready b ∙ rw (m.1, r)) (ap (λ (x : ℕ). has_bit x b) (eqb-true _ _ z) ∙ bit-none b))) in
-        let now-ready : is_ready p (placed p k) a ≡ true = ready-is a h (placed p k) ∙ all-before in
-        by (elem a (placed p k))
-        (λ y. never (elem-left a (placed p k) (next p (placed p k)) y) (not-true _ w))
+        by (elem a (set_placed t n k))
+        (λ y. never (elem-left a (set_placed t n k) (set_next t n (set_placed t n k)) y) (not-true _ w))
         (λ y.
-        let c : elem a (next p (placed p k)) ≡ true = next-is p (placed p k) a (omega (arith, s.count)) ∙ rw (y, now-ready) in
-        never (elem-right a (placed p k) (next p (placed p k)) c) (not-true _ w)))
+        let c : elem a (set_next t n (set_placed t n k)) ≡ true = next-is t n (set_placed t n k) a h ∙ rw (y, all-before) in
+        never (elem-right a (set_placed t n k) (set_next t n (set_placed t n k)) c) (not-true _ w)))
 
-    elem-free : (k a : ℕ) → a < n → elem a (placed p (suc k)) ≡ (elem a (placed p k) || free p (placed p k) a)
-    unfolding placed round
-    elem-free k a h = any_append (eqb a) (placed p k) (next p (placed p k)) ∙ ap (λ (b : Bool). elem a (placed p k) || b) (next-is p (placed p k) a (omega (arith, s.count)))
+    elem-free : (k a : ℕ) → a < n → elem a (set_placed t n (suc k)) ≡ (elem a (set_placed t n k) || set_free t (set_placed t n k) a)
+    unfolding set_placed
+    elem-free k a h = any_append (eqb a) (set_placed t n k) (set_next t n (set_placed t n k)) ∙ ap (λ (b : Bool). elem a (set_placed t n k) || b) (next-is t n (set_placed t n k) a h)
 
     none-waits : (e f : Bool) → (not e && not f) ≡ not (e || f)
     none-waits true f = refl
@@ -218,27 +187,27 @@ module _ (p : Parents) (t : Catalogue) (n : ℕ) where
         (any_none (λ b. has_bit (get_or children b 0) a) (below (has_bit ready) 64)
         (λ b i. p.bits b a (below_of (has_bit ready) 64 i).0 ∙ ap (λ (d : Bool). d && has_bit (parents_at t a) b) l)))
 
-    placed-more : (k : ℕ) → placed p k ++ next p (placed p k) ≡ placed p (suc k)
-    unfolding placed round
+    placed-more : (k : ℕ) → set_placed t n k ++ set_next t n (set_placed t n k) ≡ set_placed t n (suc k)
+    unfolding set_placed
     placed-more k = refl
 
-    free-as : (k a : ℕ) → a < n → (not (elem a (placed p (suc k))) && all_listed_in (parents_at t a) (placed p (suc k))) ≡ free p (placed p (suc k)) a
-    unfolding free
-    free-as k a h = ap (λ (b : Bool). not (elem a (placed p (suc k))) && b) (sym (ready-is a h (placed p (suc k))))
+    free-as : (k a : ℕ) → (not (elem a (set_placed t n (suc k))) && all_listed_in (parents_at t a) (set_placed t n (suc k))) ≡ set_free t (set_placed t n (suc k)) a
+    unfolding set_free
+    free-as k a = refl
 
     pub stage-more : (k : ℕ) (out new children : List ℕ) (c ready waiting left near r : ℕ) → Stage k out ready waiting → new ≡ out ++ members ready
         → left ≡ less waiting ready → ChildrenPut t n children c → United ready children near → ReadyIn t (bit_and left near) new r → Stage (suc k) new r left
     stage-more k out new children c ready waiting left near r g o e v u q =
         let m = next-members k out ready waiting g in
-        let taken : new ≡ placed p (suc k) = o ∙ ap₂ (λ (x y : List ℕ). x ++ y) g.taken m ∙ placed-more k in
-        let waits : (a : ℕ) → has_bit left a ≡ (ltb a n && not (elem a (placed p (suc k)))) =
+        let taken : new ≡ set_placed t n (suc k) = o ∙ ap₂ (λ (x y : List ℕ). x ++ y) g.taken m ∙ placed-more k in
+        let waits : (a : ℕ) → has_bit left a ≡ (ltb a n && not (elem a (set_placed t n (suc k)))) =
         λ a.
         ap (λ (x : ℕ). has_bit x a) e
         ∙ bit-less waiting ready a
         ∙ ap₂ (λ (x y : Bool). x && not y) (g.waits a) (g.frees a)
-        ∙ waits-more (ltb a n) (elem a (placed p k)) (free p (placed p k) a)
+        ∙ waits-more (ltb a n) (elem a (set_placed t n k)) (set_free t (set_placed t n k) a)
         ∙ by (ltb a n)
-        (λ l. rw l (none-waits (elem a (placed p k)) (free p (placed p k) a) ∙ ap not (sym (elem-free k a (ltb-true a n l)))))
+        (λ l. rw l (none-waits (elem a (set_placed t n k)) (set_free t (set_placed t n k) a) ∙ ap not (sym (elem-free k a (ltb-true a n l)))))
         (λ l. rw l) in
         record {
           taken = taken;
@@ -249,16 +218,16 @@ module _ (p : Parents) (t : Catalogue) (n : ℕ) where
               ∙ by (ltb a n)
               (λ l.
               let h = ltb-true a n l in
-              kept-apart (ltb a n) (not (elem a (placed p (suc k)))) (eqb (bit_and (parents_at t a) ready) 0) (all_listed_in (parents_at t a) (placed p (suc k)))
+              kept-apart (ltb a n) (not (elem a (set_placed t n (suc k)))) (eqb (bit_and (parents_at t a) ready) 0) (all_listed_in (parents_at t a) (set_placed t n (suc k)))
               (λ w c. one-was-last k ready g.frees a h w c)
-              ∙ ap (λ (b : Bool). ltb a n && b) (free-as k a h))
+              ∙ ap (λ (b : Bool). ltb a n && b) (free-as k a))
               (λ l. rw l);
         }
 
     -- ---- the last round
 
-    pub stage-end : (k : ℕ) (out : List ℕ) (ready waiting : ℕ) → Stage k out ready waiting → ready ≡ 0 → k ≤ length out → out ≡ final p
-    unfolding final
+    pub stage-end : (k : ℕ) (out : List ℕ) (ready waiting : ℕ) → Stage k out ready waiting → ready ≡ 0 → k ≤ length out → out ≡ set_final t n
+    unfolding set_final
     stage-end k out ready waiting g e h =
-        let none : next p (placed p k) ≡ [] = sym (next-members k out ready waiting g) ∙ members-none ready e in
-        g.taken ∙ sym (rests p k p.count (omega (arith, ap length g.taken, count_most p k)) none)
+        let none : set_next t n (set_placed t n k) ≡ [] = sym (next-members k out ready waiting g) ∙ members-none ready e in
+        g.taken ∙ sym (rests t n k n (omega (arith, ap length g.taken, count_most t n k)) none)

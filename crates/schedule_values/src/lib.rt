@@ -21,7 +21,7 @@ const MOST_WORDS: usize = 200;
 // The refusals: a field or a record passes an end; W, a value or the fill is not allowed (FORMAT 12.3).
 const PAST: usize = 11;
 
-const NOT_ALLOWED: usize = 12;
+pub const NOT_ALLOWED: usize = 12;
 
 // No schedule has so many bytes in either form.
 const MOST_BYTES: usize = 268435456;

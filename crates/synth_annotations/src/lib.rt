@@ -22,17 +22,74 @@ pub enum Overlap {
     ByWord,
 }
 
-// By the two kinds alone.
+// By the two kinds alone (01: 'kind pairs is a match').
 pub fn overlap_of(k: Kind, j: Kind) -> Overlap
     ensures { as_overlap result ≡ overlap_at k j }
 {
-    if k != j {
-        return Overlap::Nothing; // an Associate and a NestAssociate as well
-    }
     match k {
-        Kind::MakeList | Kind::Alias | Kind::NoDerive => Overlap::Whole,
-        Kind::Associate | Kind::NestAssociate => Overlap::ByWord,
-        Kind::Inherit | Kind::Derive => Overlap::Nothing,
+        Kind::MakeList => match j {
+            Kind::MakeList => Overlap::Whole,
+            Kind::Associate => Overlap::Nothing,
+            Kind::NestAssociate => Overlap::Nothing,
+            Kind::Alias => Overlap::Nothing,
+            Kind::Inherit => Overlap::Nothing,
+            Kind::Derive => Overlap::Nothing,
+            Kind::NoDerive => Overlap::Nothing,
+        },
+        Kind::Associate => match j {
+            Kind::MakeList => Overlap::Nothing,
+            Kind::Associate => Overlap::ByWord,
+            Kind::NestAssociate => Overlap::Nothing, // unlike kinds give none, these two as well
+            Kind::Alias => Overlap::Nothing,
+            Kind::Inherit => Overlap::Nothing,
+            Kind::Derive => Overlap::Nothing,
+            Kind::NoDerive => Overlap::Nothing,
+        },
+        Kind::NestAssociate => match j {
+            Kind::MakeList => Overlap::Nothing,
+            Kind::Associate => Overlap::Nothing,
+            Kind::NestAssociate => Overlap::ByWord,
+            Kind::Alias => Overlap::Nothing,
+            Kind::Inherit => Overlap::Nothing,
+            Kind::Derive => Overlap::Nothing,
+            Kind::NoDerive => Overlap::Nothing,
+        },
+        Kind::Alias => match j {
+            Kind::MakeList => Overlap::Nothing,
+            Kind::Associate => Overlap::Nothing,
+            Kind::NestAssociate => Overlap::Nothing,
+            Kind::Alias => Overlap::Whole,
+            Kind::Inherit => Overlap::Nothing,
+            Kind::Derive => Overlap::Nothing,
+            Kind::NoDerive => Overlap::Nothing,
+        },
+        Kind::Inherit => match j {
+            Kind::MakeList => Overlap::Nothing,
+            Kind::Associate => Overlap::Nothing,
+            Kind::NestAssociate => Overlap::Nothing,
+            Kind::Alias => Overlap::Nothing,
+            Kind::Inherit => Overlap::Nothing, // two Inherit give none
+            Kind::Derive => Overlap::Nothing,
+            Kind::NoDerive => Overlap::Nothing,
+        },
+        Kind::Derive => match j {
+            Kind::MakeList => Overlap::Nothing,
+            Kind::Associate => Overlap::Nothing,
+            Kind::NestAssociate => Overlap::Nothing,
+            Kind::Alias => Overlap::Nothing,
+            Kind::Inherit => Overlap::Nothing,
+            Kind::Derive => Overlap::Nothing, // two Derive give none
+            Kind::NoDerive => Overlap::Nothing,
+        },
+        Kind::NoDerive => match j {
+            Kind::MakeList => Overlap::Nothing,
+            Kind::Associate => Overlap::Nothing,
+            Kind::NestAssociate => Overlap::Nothing,
+            Kind::Alias => Overlap::Nothing,
+            Kind::Inherit => Overlap::Nothing,
+            Kind::Derive => Overlap::Nothing,
+            Kind::NoDerive => Overlap::Whole,
+        },
     }
 }
 

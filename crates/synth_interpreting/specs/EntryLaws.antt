@@ -88,7 +88,7 @@ module _ (t : LineMap) (T : ℕ) (e : Entry) (doms : List Row) where
   unfolding left_of interpret_words
   left-none p = by p.ended (λ x. rw x) (λ x. rw x)
 
-  onward-start : (s : Reached) (w : Writer) (ws : List ℕ) → ws ≡ below (has e.words) 200 → Onward t T e doms s w ws (begun s.made) w
+  pub onward-start : (s : Reached) (w : Writer) (ws : List ℕ) → ws ≡ below (has e.words) 200 → Onward t T e doms s w ws (begun s.made) w
   onward-start s w ws q =
       let x = left-start s ws q in
       record {
@@ -98,7 +98,7 @@ module _ (t : LineMap) (T : ℕ) (e : Entry) (doms : List Row) where
       }
 
   module _ (s : Reached) (w : Writer) (ws : List ℕ) (p : Reached) (w' : Writer) (o : Onward t T e doms s w ws p w') where
-    onward-taken : (r : ℕ) (rest : List ℕ) (q : Reached) (w'' : Writer) → ws ≡ r ∷ rest → p.ended ≡ false → w'.limit ≡ w.limit →
+    pub onward-taken : (r : ℕ) (rest : List ℕ) (q : Reached) (w'' : Writer) → ws ≡ r ∷ rest → p.ended ≡ false → w'.limit ≡ w.limit →
         SteppedIn t T r (table_of doms r) e.parents p w' q w'' → Onward t T e doms s w rest q w''
     onward-taken r rest q w'' z n k st =
         let v = verdict_of t T r (table_of doms r) e.parents p.failed (items_held t T p.made) in
@@ -119,7 +119,7 @@ module _ (t : LineMap) (T : ℕ) (e : Entry) (doms : List Row) where
               ∙ o.failed;
         }
 
-    onward-end : left_of t T e doms ws p ≡ interpreted [] (items_held t T p.made) → EntryDoneIn t T e doms s w p w'
+    pub onward-end : left_of t T e doms ws p ≡ interpreted [] (items_held t T p.made) → EntryDoneIn t T e doms s w p w'
     onward-end y =
         let x = sym y in
         record {

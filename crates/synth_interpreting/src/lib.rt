@@ -28,7 +28,7 @@ type Words = Numbers<MOST_WORDS>;
 // A type as far as it is interpreted: whether its annotations added no row, and its makings. The catalogue, the place and the
 // writer stay parameters: a struct that lends the writer on would have each function say that what it lends stays as it was, and
 // all that is called below asks for a catalogue and a `Site`, so that one of catalogue and place would be taken apart each time.
-#[derive(Drop)]
+#[derive(Clone, Copy)]
 pub struct Progress {
     pub clean: bool,
     pub made: Makings,

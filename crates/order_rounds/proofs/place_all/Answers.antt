@@ -4,6 +4,7 @@ use Rattle.bounded.specs.Items.{items_of, length-items_of}
 use Rattle.bitsets.specs.Bitsets.{members}
 use Rattle.std.specs.Int.Bits.{bit_and}
 use Rattle.order_rounds.specs.Rounds.{ReadyIn}
+use Rattle.order_rounds.specs.SetLaws.{final-is}
 use Rattle.order_rounds.specs.StageLaws.{stage-none, stage-more, stage-end, room, some-member, appended-placed}
 use Rattle.order_rounds.proofs.place_all.Goals as goal
 use Rattle.order_rounds.proofs.place_all.Goals.{In-loop-ready, After-append-near}
@@ -13,7 +14,7 @@ ready : (c : In-loop-ready) → (c.loop-ready.order.types.count + length (member
 ready c =
     let l = c.loop-ready in
     let s = c.requires in (
-      omega (arith, length-items_of l.order.types, room s.compact _ _ s.right _ _ _ _ (l.invariant.3 _ s.right), s.right.few),
+      omega (arith, length-items_of l.order.types, room _ _ s _ _ _ _ l.invariant.3, s.few),
       some-member l.ready l.invariant.2 c.loop-ready-test.true,
     )
 
@@ -33,7 +34,7 @@ pub put_children-ready-requires-clause-childless : goal.put_children-ready-requi
 put_children-ready-requires-clause-childless c = record { long = refl; none = λ b h. zero-at 64 b }
 
 pub loop-ready-init : goal.loop-ready-init
-loop-ready-init c = (0, omega arith, search rules, λ p s. stage-none p _ _ s _ _ _ _ c.clear.ensures c.put_children-ready.ensures c.first-waiting.ensures)
+loop-ready-init c = (0, omega arith, search rules, stage-none _ _ c.requires _ _ _ _ c.clear.ensures c.put_children-ready.ensures c.first-waiting.ensures)
 
 pub append-near-requires : goal.append-near-requires
 append-near-requires c = (ready (goal.at.append-near-requires c).In-loop-ready).0
@@ -51,9 +52,7 @@ loop-ready-preserved c =
       suc l.invariant.0,
       omega (arith, grown (goal.at.loop-ready-preserved c).After-append-near, ready (goal.at.loop-ready-preserved c).In-loop-ready),
       search rules,
-      λ p q.
-          stage-more p _ _ q _ _ _ _ _ l.ready l.waiting _ _ _ (l.invariant.3 p q) a.placed c.without-waiting.ensures
-          c.put_children-ready.ensures a.near
+      stage-more _ _ c.requires _ _ _ _ _ l.ready l.waiting _ _ _ l.invariant.3 a.placed c.without-waiting.ensures c.put_children-ready.ensures a.near
           (subst (λ (out : List ℕ). ReadyIn c.args.t.now (bit_and c.without-waiting.result c.append-near.result) out c.ready_in-ready.result) c.as_slice.ensures c.ready_in-ready.ensures),
     )
 
@@ -61,8 +60,5 @@ pub returns : goal.returns
 returns c =
     let l = c.loop-ready in
     let o = l.order.types in
-    record {
-      places = λ p q. stage-end p _ _ q _ _ _ _ (l.invariant.3 p q) (omega arith) (omega (arith, length-items_of o, l.invariant.1));
-      count = λ p q.
-          sym (length-items_of o) ∙ ap length (stage-end p _ _ q _ _ _ _ (l.invariant.3 p q) (omega arith) (omega (arith, length-items_of o, l.invariant.1)));
-    }
+    let e = stage-end _ _ c.requires _ _ _ _ l.invariant.3 (omega arith) (omega (arith, length-items_of o, l.invariant.1)) in
+    record { sets = e; places = λ p q. e ∙ sym (final-is p _ _ q); count = λ p q. sym (length-items_of o) ∙ ap length (e ∙ sym (final-is p _ _ q)) }
