@@ -15,7 +15,7 @@ ghost use Rattle.item_making.specs.Making.{each_of, each_by, classes_of, marks_i
 ghost use Rattle.item_making.specs.Making.{Listable, item_in, all_marks_bits, GathersAll, parents_of, made_bits, others_bits, behind_bits, tail_bits, Alone};
 
 use catalogue::Catalogue;
-use item_pen::{Field, Pen};
+use item_pen::{Field, ListingPen};
 
 // What is made for a type and a word.
 #[derive(Clone, Copy)]
@@ -97,7 +97,7 @@ fn first_field(t: &Catalogue, m: Making, p: usize) -> Field
 }
 
 // The head and the first parents, several written together.
-fn add_firsts(pen: &mut Pen<'_>, t: &Catalogue, m: Making, head: Field)
+fn add_firsts(pen: &mut ListingPen<'_>, t: &Catalogue, m: Making, head: Field)
     requires { RoomFor pen.old 0 (field_bits head ++ each_of (first_bits t.now m) m.firsts) }
     ensures { Adds pen.old pen.new 0 (field_bits head ++ each_of (first_bits t.now m) m.firsts) }
 {
@@ -111,7 +111,7 @@ fn add_firsts(pen: &mut Pen<'_>, t: &Catalogue, m: Making, head: Field)
 }
 
 // The parents of an extension record (FORMAT 4.5).
-fn add_record(pen: &mut Pen<'_>, t: &Catalogue, e: usize)
+fn add_record(pen: &mut ListingPen<'_>, t: &Catalogue, e: usize)
     requires e_bound { (e < 32) × (extension_count_at t.now e ≤ 8) }
     requires room_for { RoomFor pen.old 0 (record_bits t.now e) }
     ensures { Adds pen.old pen.new 0 (record_bits t.now e) }
@@ -124,7 +124,7 @@ fn add_record(pen: &mut Pen<'_>, t: &Catalogue, e: usize)
 }
 
 // The parents of some records.
-fn add_records(pen: &mut Pen<'_>, t: &Catalogue, records: u64)
+fn add_records(pen: &mut ListingPen<'_>, t: &Catalogue, records: u64)
     requires recorded { Recorded t.now records }
     requires room_for { RoomFor pen.old 0 (each_of (record_bits t.now) records) }
     ensures { Adds pen.old pen.new 0 (each_of (record_bits t.now) records) }
@@ -142,7 +142,7 @@ fn resource_field(t: &Catalogue) -> Field
 }
 
 // The parents behind the first ones: `resource`, those of the extension (FORMAT 4.5).
-fn add_others(pen: &mut Pen<'_>, t: &Catalogue, records: u64)
+fn add_others(pen: &mut ListingPen<'_>, t: &Catalogue, records: u64)
     requires recorded { Recorded t.now records }
     requires room_for { RoomFor pen.old 0 (others_bits t.now records) }
     ensures { Adds pen.old pen.new 0 (others_bits t.now records) }
@@ -152,7 +152,7 @@ fn add_others(pen: &mut Pen<'_>, t: &Catalogue, records: u64)
 }
 
 // The marks of a class, up to 63 bits: more than 56 in two parts.
-fn add_class(pen: &mut Pen<'_>, t: &Catalogue, c: usize)
+fn add_class(pen: &mut ListingPen<'_>, t: &Catalogue, c: usize)
     requires c_bound { c < 64 }
     requires room_for { RoomFor pen.old 0 (marks_bits t.now c) }
     ensures { Adds pen.old pen.new 0 (marks_bits t.now c) }
@@ -168,7 +168,7 @@ fn add_class(pen: &mut Pen<'_>, t: &Catalogue, c: usize)
 }
 
 // The marks of the classes of a set, the first by dom each time.
-fn add_by_dom(pen: &mut Pen<'_>, t: &Catalogue, set: u64)
+fn add_by_dom(pen: &mut ListingPen<'_>, t: &Catalogue, set: u64)
     requires { RoomFor pen.old 0 (each_by t.now (marks_bits t.now) set) }
     ensures { Adds pen.old pen.new 0 (each_by t.now (marks_bits t.now) set) }
 {
@@ -181,7 +181,7 @@ fn add_by_dom(pen: &mut Pen<'_>, t: &Catalogue, set: u64)
 }
 
 // The marks of the classes of a set, by dom (FORMAT 4.4, 4.7). Without hyphens their places are in that order.
-fn add_classes(pen: &mut Pen<'_>, t: &Catalogue, set: u64)
+fn add_classes(pen: &mut ListingPen<'_>, t: &Catalogue, set: u64)
     requires { RoomFor pen.old 0 (each_by t.now (marks_bits t.now) set) }
     ensures { Adds pen.old pen.new 0 (each_by t.now (marks_bits t.now) set) }
 {
@@ -195,7 +195,7 @@ fn add_classes(pen: &mut Pen<'_>, t: &Catalogue, set: u64)
 }
 
 // The number of marks, and the marks of the classes, no dom first (FORMAT 4.7, 6.2).
-fn add_marks(pen: &mut Pen<'_>, t: &Catalogue, marks: u64, classes: u64)
+fn add_marks(pen: &mut ListingPen<'_>, t: &Catalogue, marks: u64, classes: u64)
     requires { RoomFor pen.old 0 (all_marks_bits t.now marks classes) }
     ensures { Adds pen.old pen.new 0 (all_marks_bits t.now marks classes) }
 {
@@ -240,7 +240,7 @@ fn tail_start(t: &Catalogue, c: usize) -> Field
 
 // What stands behind the first parents where a class is the only one and no extension adds parents: `resource`, the number of its
 // marks, the marks (FORMAT 6.2). More than 56 bits go in two parts.
-fn add_tail(pen: &mut Pen<'_>, t: &Catalogue, c: usize)
+fn add_tail(pen: &mut ListingPen<'_>, t: &Catalogue, c: usize)
     requires c_bound { c < 64 }
     requires room_for { RoomFor pen.old 0 (tail_bits t.now c) }
     ensures { Adds pen.old pen.new 0 (tail_bits t.now c) }
@@ -272,7 +272,7 @@ fn is_alone(m: Making) -> bool
 }
 
 // What stands behind the first parents: the others, the number of marks, the marks.
-fn add_behind(pen: &mut Pen<'_>, t: &Catalogue, m: Making, marks: u64)
+fn add_behind(pen: &mut ListingPen<'_>, t: &Catalogue, m: Making, marks: u64)
     requires recorded { Recorded t.now m.records × (marks ≡ marks_in t.now (classes_of t.now m.classes)) }
     requires room_for { RoomFor pen.old 0 (behind_bits t.now m marks) }
     ensures { Adds pen.old pen.new 0 (behind_bits t.now m marks) }
@@ -286,7 +286,7 @@ fn add_behind(pen: &mut Pen<'_>, t: &Catalogue, m: Making, marks: u64)
 }
 
 // A synthesized resource, field by field.
-fn add_resource(pen: &mut Pen<'_>, t: &Catalogue, a: usize, m: Making)
+fn add_resource(pen: &mut ListingPen<'_>, t: &Catalogue, a: usize, m: Making)
     requires a_bound { (a < 64) × Recorded t.now m.records }
     requires room_for { RoomFor pen.old 1 (made_bits t.now a m) }
     ensures { Adds pen.old pen.new 1 (made_bits t.now a m) }
@@ -346,7 +346,7 @@ fn width_of(t: &Catalogue, a: usize, m: Making) -> usize
 
 // A synthesized resource T.r, after the Rust's function of that name (FORMAT 4, 6.2). With the pen up its bits are counted and
 // not made.
-fn create_synthetic_resource(pen: &mut Pen<'_>, t: &Catalogue, a: usize, m: Making)
+fn create_synthetic_resource(pen: &mut ListingPen<'_>, t: &Catalogue, a: usize, m: Making)
     requires a_bound { (a < 64) × Recorded t.now m.records }
     requires room_for { RoomFor pen.old 1 (made_bits t.now a m) }
     ensures { Adds pen.old pen.new 1 (made_bits t.now a m) }
@@ -360,7 +360,7 @@ fn create_synthetic_resource(pen: &mut Pen<'_>, t: &Catalogue, a: usize, m: Maki
 }
 
 // The extension line of a type and a word (FORMAT 4.8, 6.3).
-fn extension_line(pen: &mut Pen<'_>, t: &Catalogue, a: usize, word: u64)
+fn extension_line(pen: &mut ListingPen<'_>, t: &Catalogue, a: usize, word: u64)
     requires a_bound { a < 64 }
     requires room_for { RoomFor pen.old 1 (line_bits (key_at t.now a) (head_at t.now a) word) }
     ensures { Adds pen.old pen.new 1 (line_bits (key_at t.now a) (head_at t.now a) word) }
@@ -372,7 +372,7 @@ fn extension_line(pen: &mut Pen<'_>, t: &Catalogue, a: usize, word: u64)
 // One item more: whatever schedule stood so far, it stands with this item behind it, and the pen's number is that of its bits (FORMAT
 // 6.4). Each item of a schedule is added here. In line, since a caller knows which of the two its item is.
 #[inline(always)]
-pub fn add_item(pen: &mut Pen<'_>, t: &Catalogue, a: usize, item: Item)
+pub fn add_item(pen: &mut ListingPen<'_>, t: &Catalogue, a: usize, item: Item)
     requires a_bound { (a < 64) × Listable t.now item }
     requires room_for { RoomFor pen.old 1 (item_in t.now a item) }
     ensures { Grows pen.old pen.new (item_in t.now a item ∷ []) }

@@ -5,7 +5,7 @@ use Rattle.lists.specs.Lists.{each}
 use Rattle.definitions.specs.Bits.{to_bits}
 use Rattle.bits.specs.Writing.{put}
 use Rattle.item_pen.specs.declared.field.Field.{Field}
-use Rattle.item_pen.specs.declared.Pen.{Pen}
+use Rattle.item_pen.specs.declared.ListingPen.{ListingPen}
 
 -- ---- fields
 
@@ -37,28 +37,28 @@ pub record Penned (down : Bool) (before after : List ℕ) (p q : ℕ) (bs : List
 -- ---- a pen
 
 -- A pen that writes to these bytes, is down or up, and has put nothing.
-pub record Begins (lent : MutBor (List ℕ)) (down : Bool) (P : Pen) : Type 0 where
+pub record Begins (lent : MutBor (List ℕ)) (down : Bool) (P : ListingPen) : Type 0 where
   pub slice : P.buf.ghost_name ≡ lent.ghost_name
   pub bytes : P.buf.now ≡ lent.now
   pub state : P.down ≡ down
-  pub items : P.items ≡ 0
-  pub first : P.at ≡ 0
+  pub items : P.pen.items ≡ 0
+  pub first : P.pen.at ≡ 0
 
 -- What adding k items, or parts of an item for 0, with the bits bs asks.
-pub record RoomFor (P : Pen) (k : ℕ) (bs : List Bool) : Type 0 where
-  pub fits : P.down ≡ true → P.at + length bs ≤ 8 * length P.buf.now
-  pub small : P.at + length bs < 2 ^ 64
-  pub few : P.items + k < 2 ^ 64
+pub record RoomFor (P : ListingPen) (k : ℕ) (bs : List Bool) : Type 0 where
+  pub fits : P.down ≡ true → P.pen.at + length bs ≤ 8 * length P.buf.now
+  pub small : P.pen.at + length bs < 2 ^ 64
+  pub few : P.pen.items + k < 2 ^ 64
 
 -- They were added: Q is P behind them, with the same bytes, down or up as P.
-pub record Adds (P Q : Pen) (k : ℕ) (bs : List Bool) : Type 0 where
+pub record Adds (P Q : ListingPen) (k : ℕ) (bs : List Bool) : Type 0 where
   pub slice : Q.buf.ghost_name ≡ P.buf.ghost_name
   pub state : Q.down ≡ P.down
-  pub items : Q.items ≡ P.items + k
-  pub penned : Penned P.down P.buf.now Q.buf.now P.at Q.at bs
+  pub items : Q.pen.items ≡ P.pen.items + k
+  pub penned : Penned P.down P.buf.now Q.buf.now P.pen.at Q.pen.at bs
 
 -- So many bits are passed over, whichever they are.
-pub record PassesOver (P : Pen) (n : ℕ) (Q : Pen) : Type 0 where
+pub record PassesOver (P : ListingPen) (n : ℕ) (Q : ListingPen) : Type 0 where
   pub adds : (bs : List Bool) → length bs ≡ n → Adds P Q 0 bs
 
 -- ---- fields that are held back
@@ -78,5 +78,5 @@ abbrev pub joined : List (List Bool) → List Bool
 joined xs = each (λ (x : List Bool). x) xs
 
 -- What adding the items asks.
-abbrev pub RoomForAll : Pen → List (List Bool) → Type 0
+abbrev pub RoomForAll : ListingPen → List (List Bool) → Type 0
 RoomForAll P xs = RoomFor P (length xs) (joined xs)

@@ -9,7 +9,7 @@ use Rattle.bits.specs.Writing.{put, Wrote, Left}
 use Rattle.bits.specs.NumberLaws.{length-to_bits, to_bits-split, to_bits-low}
 use Rattle.bits.specs.WriteLaws.{put-append, length-put, left_less, left-none}
 use Rattle.item_pen.specs.declared.field.Field.{Field}
-use Rattle.item_pen.specs.declared.Pen.{Pen}
+use Rattle.item_pen.specs.declared.ListingPen.{ListingPen}
 use Rattle.item_pen.specs.Pen.{field_bits, Holds, Room, Penned, Begins, RoomFor, Adds, flushed}
 
 -- ---- fields
@@ -76,35 +76,35 @@ penned-long false v = ap length v.holds
 
 -- ---- a pen
 
-pub adds-long : {P Q : Pen} {k : ℕ} {xs : List Bool} → Adds P Q k xs → length Q.buf.now ≡ length P.buf.now
+pub adds-long : {P Q : ListingPen} {k : ℕ} {xs : List Bool} → Adds P Q k xs → length Q.buf.now ≡ length P.buf.now
 adds-long {P} {Q} {k} {xs} w = penned-long P.down w.penned
 
-pub adds_none : (P : Pen) → Adds P P 0 []
-adds_none P = record { slice = refl; state = refl; items = omega arith; penned = penned-none P.down P.buf.now P.at }
+pub adds_none : (P : ListingPen) → Adds P P 0 []
+adds_none P = record { slice = refl; state = refl; items = omega arith; penned = penned-none P.down P.buf.now P.pen.at }
 
-pub adds_then : {P Q R : Pen} {k m : ℕ} {xs ys : List Bool} → Adds P Q k xs → Adds Q R m ys → Adds P R (k + m) (xs ++ ys)
+pub adds_then : {P Q R : ListingPen} {k m : ℕ} {xs ys : List Bool} → Adds P Q k xs → Adds Q R m ys → Adds P R (k + m) (xs ++ ys)
 adds_then {P} {Q} {R} {k} {m} {xs} {ys} v w =
     record {
       slice = w.slice ∙ v.slice;
       state = w.state ∙ v.state;
       items = omega (arith, v.items, w.items);
-      penned = penned-then P.down v.penned (subst (λ d. Penned d Q.buf.now R.buf.now Q.at R.at ys) v.state w.penned);
+      penned = penned-then P.down v.penned (subst (λ d. Penned d Q.buf.now R.buf.now Q.pen.at R.pen.at ys) v.state w.penned);
     }
 
 -- the bits by another name
-pub adds-as : {P Q : Pen} {k : ℕ} {xs ys : List Bool} → xs ≡ ys → Adds P Q k xs → Adds P Q k ys
+pub adds-as : {P Q : ListingPen} {k : ℕ} {xs ys : List Bool} → xs ≡ ys → Adds P Q k xs → Adds P Q k ys
 adds-as {P} {Q} {k} e w = subst (Adds P Q k) e w
 
-pub room_as : {P : Pen} {k : ℕ} {xs ys : List Bool} → xs ≡ ys → RoomFor P k xs → RoomFor P k ys
+pub room_as : {P : ListingPen} {k : ℕ} {xs ys : List Bool} → xs ≡ ys → RoomFor P k xs → RoomFor P k ys
 room_as {P} {k} e w = subst (RoomFor P k) e w
 
 -- room for the first part, and behind it for the rest
-pub room-head : {P : Pen} (k m : ℕ) (xs ys : List Bool) → RoomFor P (k + m) (xs ++ ys) → RoomFor P k xs
+pub room-head : {P : ListingPen} (k m : ℕ) (xs ys : List Bool) → RoomFor P (k + m) (xs ++ ys) → RoomFor P k xs
 room-head {P} k m xs ys r =
     let l = length-append xs ys in
     record { fits = λ d. omega (arith, r.fits d); small = omega (arith, r.small); few = omega (arith, r.few) }
 
-pub room-tail : {P Q : Pen} (k m : ℕ) (xs ys : List Bool) → Adds P Q k xs → RoomFor P (k + m) (xs ++ ys) → RoomFor Q m ys
+pub room-tail : {P Q : ListingPen} (k m : ℕ) (xs ys : List Bool) → Adds P Q k xs → RoomFor P (k + m) (xs ++ ys) → RoomFor Q m ys
 room-tail {P} {Q} k m xs ys w r =
     let l = length-append xs ys in
     let n = adds-long w in
@@ -113,18 +113,18 @@ room-tail {P} {Q} k m xs ys w r =
 
 -- ---- what is left to add of n items with the bits bs
 
-pub record Pending (P : Pen) (n : ℕ) (bs : List Bool) (Q : Pen) (m : ℕ) (rest : List Bool) : Type 0 where
+pub record Pending (P : ListingPen) (n : ℕ) (bs : List Bool) (Q : ListingPen) (m : ℕ) (rest : List Bool) : Type 0 where
   pub count : ℕ
   pub done : List Bool
   pub sum : count + m ≡ n
   pub whole : done ++ rest ≡ bs
   pub adds : Adds P Q count done
 
-pub pending-all : (P : Pen) (n : ℕ) (bs : List Bool) → Pending P n bs P n bs
+pub pending-all : (P : ListingPen) (n : ℕ) (bs : List Bool) → Pending P n bs P n bs
 pending-all P n bs = record { count = 0; done = []; sum = omega arith; whole = refl; adds = adds_none P }
 
 -- the next k items, with the bits xs
-module _ {P Q : Pen} {n m : ℕ} {bs rest : List Bool} (k : ℕ) (more : ℕ) (xs ys : List Bool) (e : rest ≡ xs ++ ys) (h : m ≡ k + more) where
+module _ {P Q : ListingPen} {n m : ℕ} {bs rest : List Bool} (k : ℕ) (more : ℕ) (xs ys : List Bool) (e : rest ≡ xs ++ ys) (h : m ≡ k + more) where
   pub pending-room : Pending P n bs Q m rest → RoomFor P n bs → RoomFor Q k xs
   pending-room p r =
       let l : length (p.done ++ rest) ≡ length bs = ap length p.whole in
@@ -138,7 +138,7 @@ module _ {P Q : Pen} {n m : ℕ} {bs rest : List Bool} (k : ℕ) (more : ℕ) (x
         few = omega (arith, r.few, p.adds.items, p.sum);
       }
 
-  pub pending-less : {R : Pen} → Pending P n bs Q m rest → Adds Q R k xs → Pending P n bs R more ys
+  pub pending-less : {R : ListingPen} → Pending P n bs Q m rest → Adds Q R k xs → Pending P n bs R more ys
   pending-less {R} p w = record {
     count = p.count + k;
     done = p.done ++ xs;
@@ -147,7 +147,7 @@ module _ {P Q : Pen} {n m : ℕ} {bs rest : List Bool} (k : ℕ) (more : ℕ) (x
     adds = adds_then p.adds w;
   }
 
-pub pending-none : {P Q : Pen} {n m : ℕ} {bs rest : List Bool} → m ≡ 0 → rest ≡ [] → Pending P n bs Q m rest → Adds P Q n bs
+pub pending-none : {P Q : ListingPen} {n m : ℕ} {bs rest : List Bool} → m ≡ 0 → rest ≡ [] → Pending P n bs Q m rest → Adds P Q n bs
 pending-none {P} {Q} {n} {m} {bs} {rest} z e p =
     let s : p.count ≡ n = omega (arith, p.sum) in
     let w : p.done ≡ bs = sym (append-nil p.done) ∙ ap (λ (l : List Bool). p.done ++ l) (sym e) ∙ p.whole in
@@ -155,22 +155,22 @@ pending-none {P} {Q} {n} {m} {bs} {rest} z e p =
 
 -- ---- a pen that has put nothing
 
-module _ {lent : MutBor (List ℕ)} {down : Bool} {P : Pen} (b : Begins lent down P) where
+module _ {lent : MutBor (List ℕ)} {down : Bool} {P : ListingPen} (b : Begins lent down P) where
   pub room_begun : (k : ℕ) (bs : List Bool) → (down ≡ true → length bs ≤ 8 * length lent.now) → length bs < 2 ^ 64 → k < 2 ^ 64 → RoomFor P k bs
   room_begun k bs fits small few =
       let l = ap length b.bytes in
       record { fits = λ d. omega (arith, fits (sym b.state ∙ d), l, b.first); small = omega (arith, small, b.first); few = omega (arith, few, b.items) }
 
-  pub penned_begun : {Q : Pen} {k : ℕ} {bs : List Bool} → Adds P Q k bs → Penned down lent.now Q.buf.now 0 Q.at bs
+  pub penned_begun : {Q : ListingPen} {k : ℕ} {bs : List Bool} → Adds P Q k bs → Penned down lent.now Q.buf.now 0 Q.pen.at bs
   penned_begun {Q} {k} {bs} w =
-      let d : Penned down P.buf.now Q.buf.now P.at Q.at bs = subst (λ (x : Bool). Penned x P.buf.now Q.buf.now P.at Q.at bs) b.state w.penned in
-      let s : Penned down lent.now Q.buf.now P.at Q.at bs = subst (λ (x : List ℕ). Penned down x Q.buf.now P.at Q.at bs) b.bytes d in
-      subst (λ (x : ℕ). Penned down lent.now Q.buf.now x Q.at bs) b.first s
+      let d : Penned down P.buf.now Q.buf.now P.pen.at Q.pen.at bs = subst (λ (x : Bool). Penned x P.buf.now Q.buf.now P.pen.at Q.pen.at bs) b.state w.penned in
+      let s : Penned down lent.now Q.buf.now P.pen.at Q.pen.at bs = subst (λ (x : List ℕ). Penned down x Q.buf.now P.pen.at Q.pen.at bs) b.bytes d in
+      subst (λ (x : ℕ). Penned down lent.now Q.buf.now x Q.pen.at bs) b.first s
 
 -- ---- what is added
 
 -- room for a field
-pub field_room : (P : Pen) (f : Field) → RoomFor P 0 (field_bits f) → Room P.down P.buf.now P.at f.width
+pub field_room : (P : ListingPen) (f : Field) → RoomFor P 0 (field_bits f) → Room P.down P.buf.now P.pen.at f.width
 field_room P f room =
     let l = length-to_bits f.width f.value in
     record { fits = λ d. omega (arith, room.fits d); small = omega (arith, room.small) }

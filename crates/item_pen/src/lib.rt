@@ -11,14 +11,20 @@ mod field;
 use bits::Cursor;
 pub use field::Field;
 
-// The bytes that a pen writes to, whether it is down, how many items were put, and where the next bit goes. `down` is a bool, so
-// that counting and writing are one function with one contract: an enum of the two would be the same test.
-#[derive(Drop)]
-pub struct Pen<'a> {
-    pub buf: &'a mut [u8],
-    pub down: bool,
+// How many items were put, and where the next bit goes.
+#[derive(Clone, Copy)]
+pub struct Pen {
     pub items: usize,
     pub at: usize,
+}
+
+// A pen with the bytes that it writes to, and whether it is down. `down` is a bool, so that counting and writing are one function with
+// one contract: an enum of the two would be the same test.
+#[derive(Drop)]
+pub struct ListingPen<'a> {
+    pub buf: &'a mut [u8],
+    pub down: bool,
+    pub pen: Pen,
 }
 
 // A number in n bits (FORMAT 2.1).
@@ -123,7 +129,7 @@ pub fn put_bits(buf: &mut [u8], at: usize, f: Field)
     put_wide(buf, at, f);
 }
 
-// What is held behind `Pen::make_room`: both fields where they have at most 56 bits, else the second alone.
+// What is held behind `ListingPen::make_room`: both fields where they have at most 56 bits, else the second alone.
 pub fn take_in(held: Field, f: Field) -> Field
     ensures { TakesIn held f result }
 {
@@ -133,16 +139,15 @@ pub fn take_in(held: Field, f: Field) -> Field
     f
 }
 
-impl<'a> Pen<'a> {
+impl<'a> ListingPen<'a> {
     // A pen that has put nothing.
-    pub fn new(buf: &'a mut [u8], down: bool) -> Pen<'a>
+    pub fn new(buf: &'a mut [u8], down: bool) -> ListingPen<'a>
         ensures { Begins buf.entry down result }
     {
-        Pen {
+        ListingPen {
             buf,
             down,
-            items: 0,
-            at: 0,
+            pen: Pen { items: 0, at: 0 },
         }
     }
 
@@ -153,9 +158,9 @@ impl<'a> Pen<'a> {
         ensures { Adds self.old self.new 0 (field_bits f) }
     {
         if self.down {
-            put_bits(self.buf, self.at, f);
+            put_bits(self.buf, self.pen.at, f);
         }
-        self.at += f.width;
+        self.pen.at += f.width;
     }
 
     // One more field, one that a listing has once.
@@ -164,9 +169,9 @@ impl<'a> Pen<'a> {
         ensures { Adds self.old self.new 0 (field_bits f) }
     {
         if self.down {
-            put_near(self.buf, self.at, f);
+            put_near(self.buf, self.pen.at, f);
         }
-        self.at += f.width;
+        self.pen.at += f.width;
     }
 
     // Fields are held back to be written together. What is held is written where a field finds no room beside it; `take_in` says
@@ -183,17 +188,17 @@ impl<'a> Pen<'a> {
 
     // One more item.
     pub fn count_item(&mut self)
-        requires { self.old.items + 1 < 2 ^ 64 }
+        requires { self.old.pen.items + 1 < 2 ^ 64 }
         ensures { Adds self.old self.new 1 [] }
     {
-        self.items += 1;
+        self.pen.items += 1;
     }
 
     // With the pen up: n bits that are not even made.
     pub fn pass_over(&mut self, n: usize)
-        requires { (self.old.down ≡ false) × (self.old.at + n < 2 ^ 64) }
+        requires { (self.old.down ≡ false) × (self.old.pen.at + n < 2 ^ 64) }
         ensures { PassesOver self.old n self.new }
     {
-        self.at += n;
+        self.pen.at += n;
     }
 }

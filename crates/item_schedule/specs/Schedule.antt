@@ -14,7 +14,7 @@ use Rattle.order_listing.specs.Listing.{Listing}
 use Rattle.answers.specs.Answers.{Answer}
 use Rattle.catalogue.specs.Catalogue.{Catalogued}
 use Rattle.catalogue.specs.declared.Catalogue.{Catalogue}
-use Rattle.item_pen.specs.declared.Pen.{Pen}
+use Rattle.item_pen.specs.declared.ListingPen.{ListingPen}
 use Rattle.item_pen.specs.Pen.{joined, Penned}
 use Rattle.item_pen.specs.SoFar.{SoFar}
 use Rattle.order_rounds.specs.declared.sequence.Order.{Order}
@@ -66,8 +66,8 @@ pub record Schedulable (t : Catalogue) (order : Order) : Type 0 where
 -- The number of a pen that has put what stands in front of the items, and the first k of them, is that of the sheet's schedule so far,
 -- for each k: the length of its order, of the number of items and of these items (FORMAT 6.4).
 pub record RunsAlong (t : Catalogue) (order : Order) : Type 0 where
-  pub number : (s : Sheet) → Orderly s t order → (start P : Pen) (items k : ℕ) → start.at ≡ 0 → SoFar start (front_bits t order items) (take k (all_items t)) P
-      → P.at ≡ bits_so_far (organize_type_map (type_map_of s)) (take k (items_of (line_map s)))
+  pub number : (s : Sheet) → Orderly s t order → (start P : ListingPen) (items k : ℕ) → start.pen.at ≡ 0 → SoFar start (front_bits t order items) (take k (all_items t)) P
+      → P.pen.at ≡ bits_so_far (organize_type_map (type_map_of s)) (take k (items_of (line_map s)))
 
 -- Its schedule is listed, whichever sheet it is (FORMAT 6.1, 7.4).
 pub record ListsSchedule (t : Catalogue) (order : Order) (entry exit : List ℕ) (r : Answer) : Type 0 where

@@ -31,7 +31,7 @@ use Rattle.catalogue.specs.declared.Catalogue.{Catalogue}
 use Rattle.law_classes.proofs.ItemLaws.{items-by-sets}
 use Rattle.std.specs.Borrow.{MutBor}
 use Rattle.item_pen.specs.declared.field.Field.{Field}
-use Rattle.item_pen.specs.declared.Pen.{Pen}
+use Rattle.item_pen.specs.declared.ListingPen.{ListingPen}
 use Rattle.item_pen.specs.Pen as pen
 use Rattle.item_pen.specs.Pen.{field_bits, joined, Begins, RoomFor, Adds, RoomForAll}
 use Rattle.item_pen.specs.SoFar.{SoFar, Grows}
@@ -59,7 +59,7 @@ types_bits order = to_bits 7 order.types.count
 abbrev behind_types : Catalogue → Order → ℕ → List Bool
 behind_types t order items = names_bits t order ++ to_bits 16 items
 
-module _ (t : Catalogue) (order : Order) (items : ℕ) {P : Pen} (h : RoomFor P 0 (front_bits t order items)) where
+module _ (t : Catalogue) (order : Order) (items : ℕ) {P : ListingPen} (h : RoomFor P 0 (front_bits t order items)) where
   whole : RoomFor P (0 + 0) (types_bits order ++ behind_types t order items)
   unfolding front_bits
   whole = h
@@ -68,14 +68,14 @@ module _ (t : Catalogue) (order : Order) (items : ℕ) {P : Pen} (h : RoomFor P 
     pub room_for_types : RoomFor P 0 (field_bits types)
     room_for_types = room_as (sym held₁.bits) (room-head 0 0 (types_bits order) (behind_types t order items) whole)
 
-    module _ {P₁ : Pen} (w₁ : Adds P P₁ 0 (field_bits types)) where
+    module _ {P₁ : ListingPen} (w₁ : Adds P P₁ 0 (field_bits types)) where
       r₁ : RoomFor P₁ (0 + 0) (behind_types t order items)
       r₁ = room-tail 0 0 (types_bits order) (behind_types t order items) (adds-as held₁.bits w₁) whole
 
       pub room_for_names : RoomFor P₁ 0 (names_bits t order)
       room_for_names = room-head 0 0 (names_bits t order) (to_bits 16 items) r₁
 
-      module _ {P₂ : Pen} (w₂ : Adds P₁ P₂ 0 (names_bits t order)) where
+      module _ {P₂ : ListingPen} (w₂ : Adds P₁ P₂ 0 (names_bits t order)) where
         r₂ : RoomFor P₂ 0 (to_bits 16 items)
         r₂ = room-tail 0 0 (names_bits t order) (to_bits 16 items) w₂ r₁
 
@@ -83,13 +83,13 @@ module _ (t : Catalogue) (order : Order) (items : ℕ) {P : Pen} (h : RoomFor P 
           pub room_for_count : RoomFor P₂ 0 (field_bits count)
           room_for_count = room_as (sym held₂.bits) r₂
 
-          pub begun_so_far : {P₃ : Pen} → Adds P₂ P₃ 0 (field_bits count) → SoFar P (front_bits t order items) [] P₃
+          pub begun_so_far : {P₃ : ListingPen} → Adds P₂ P₃ 0 (field_bits count) → SoFar P (front_bits t order items) [] P₃
           unfolding front_bits
           begun_so_far w₃ = so-far-front (adds_then (adds-as held₁.bits w₁) (adds_then w₂ (adds-as held₂.bits w₃)))
 
 -- ---- one pass
 
-module _ {down : Bool} {lent : MutBor (List ℕ)} {t : Catalogue} {words : List ℕ} {order : Order} {items : ℕ} (h : Passable down lent.now t words order items) {P : Pen} (begun : Begins lent down P) where
+module _ {down : Bool} {lent : MutBor (List ℕ)} {t : Catalogue} {words : List ℕ} {order : Order} {items : ℕ} (h : Passable down lent.now t words order items) {P : ListingPen} (begun : Begins lent down P) where
   abbrev front : List Bool
   front = front_bits t order items
 
@@ -100,11 +100,11 @@ module _ {down : Bool} {lent : MutBor (List ℕ)} {t : Catalogue} {words : List 
   pub room_for_front : RoomFor P 0 front
   room_for_front = room-head 0 (length (all_items t)) front (joined (all_items t)) room
 
-  module _ {P₁ : Pen} (s : SoFar P front [] P₁) where
+  module _ {P₁ : ListingPen} (s : SoFar P front [] P₁) where
     pub room_for_items : RoomForAll P₁ (all_items t)
     room_for_items = room-tail 0 (length (all_items t)) front (joined (all_items t)) (adds-as (append-nil front) s.adds) room
 
-    module _ {P₂ : Pen} (g : Grows P₁ P₂ (all_items t)) where
+    module _ {P₂ : ListingPen} (g : Grows P₁ P₂ (all_items t)) where
       -- all items stand
       whole_so_far : SoFar P front (all_items t) P₂
       whole_so_far = g.so_far P front [] s
@@ -112,7 +112,7 @@ module _ {down : Bool} {lent : MutBor (List ℕ)} {t : Catalogue} {words : List 
       pub same_slice : P₂.buf.ghost_name ≡ P.buf.ghost_name
       same_slice = whole_so_far.adds.slice
 
-      pub passed : {after : List ℕ} → after ≡ P₂.buf.now → Passed down lent.now after t order items (record { items = P₂.items; bits = P₂.at })
+      pub passed : {after : List ℕ} → after ≡ P₂.buf.now → Passed down lent.now after t order items (record { items = P₂.pen.items; bits = P₂.pen.at })
       unfolding bits_in
       passed e =
           let a = whole_so_far.adds in
@@ -194,8 +194,8 @@ module _ (s : Sheet) (t : Catalogue) (order : Order) (h : Orderly s t order) whe
       )
 
   -- after each item the number is that of the schedule so far
-  pub number-is-so-far : (start P : Pen) (items k : ℕ) → start.at ≡ 0 → SoFar start (front_bits t order items) (take k (all_items t)) P
-      → P.at ≡ bits_so_far (organize_type_map (type_map_of s)) (take k (items_of (line_map s)))
+  pub number-is-so-far : (start P : ListingPen) (items k : ℕ) → start.pen.at ≡ 0 → SoFar start (front_bits t order items) (take k (all_items t)) P
+      → P.pen.at ≡ bits_so_far (organize_type_map (type_map_of s)) (take k (items_of (line_map s)))
   unfolding bits_so_far
   number-is-so-far start P items k z w =
       let is = items_of (line_map s) in

@@ -8,7 +8,7 @@ ghost use Rattle.item_schedule.specs.Schedule.{front_bits, Passable, Passed, Sch
 
 use answers::{Answer, Refusal};
 use catalogue::Catalogue;
-use item_pen::Pen;
+use item_pen::ListingPen;
 use order_rounds::Order;
 
 // What a pass comes to: how many items there are, and how many bits.
@@ -20,7 +20,7 @@ struct Pass {
 
 // The number of types, their names in order and the number of items, which stand in front of the items: behind them the schedule so
 // far has no item.
-fn add_front(pen: &mut Pen<'_>, t: &Catalogue, order: &Order, items: usize)
+fn add_front(pen: &mut ListingPen<'_>, t: &Catalogue, order: &Order, items: usize)
     requires { RoomFor pen.old 0 (front_bits t.now order.now items) }
     ensures { SoFar pen.old (front_bits t.now order.now items) [] pen.new }
 {
@@ -31,7 +31,7 @@ fn add_front(pen: &mut Pen<'_>, t: &Catalogue, order: &Order, items: usize)
 }
 
 // Counts the schedule, or writes it from the first bit on: what stands in front of the items, then item by item. `items` is their
-// number. `down` is a bool, as `Pen` has it.
+// number. `down` is a bool, as `ListingPen` has it.
 fn add_all(
     buf: &mut [u8],
     down: bool,
@@ -43,12 +43,12 @@ fn add_all(
     requires { Passable down buf.old t.now words.now order.now items }
     ensures { Passed down buf.old buf.new t.now order.now items result }
 {
-    let mut pen = Pen::new(buf, down);
+    let mut pen = ListingPen::new(buf, down);
     add_front(&mut pen, t, order, items);
     item_writer::add_items(&mut pen, t, words);
     Pass {
-        items: pen.items,
-        bits: pen.at,
+        items: pen.pen.items,
+        bits: pen.pen.at,
     }
 }
 

@@ -12,7 +12,7 @@ ghost use Rattle.item_writer.specs.Items.{WordsFill, Cleared, WordsAre};
 
 use catalogue::{Catalogue, Extension};
 use item_making::{Item, Making};
-use item_pen::Pen;
+use item_pen::ListingPen;
 
 // A type and a word with a making, and the extension records for both.
 #[derive(Clone, Copy)]
@@ -88,7 +88,7 @@ fn records_of(t: &Catalogue, a: usize, word: u64) -> u64
 }
 
 // The own resources of a type and a word, by ascending class (FORMAT 4.3, 5.3). The loop has the schedule so far: `Growing`.
-fn add_own(pen: &mut Pen<'_>, t: &Catalogue, site: Site, own: u64)
+fn add_own(pen: &mut ListingPen<'_>, t: &Catalogue, site: Site, own: u64)
     requires sited { Sited t.now site }
     requires room_for_all { RoomForAll pen.old (own_items t.now site own) }
     ensures { Grows pen.old pen.new (own_items t.now site own) }
@@ -107,7 +107,7 @@ fn add_own(pen: &mut Pen<'_>, t: &Catalogue, site: Site, own: u64)
 }
 
 // The inherited resource of a type and a word, if there is a class from above (FORMAT 4.4).
-fn add_inherited(pen: &mut Pen<'_>, t: &Catalogue, site: Site, mask: u64, common: u64)
+fn add_inherited(pen: &mut ListingPen<'_>, t: &Catalogue, site: Site, mask: u64, common: u64)
     requires sited { Sited t.now site × CommonIs t.now (parents_at t.now site.place) common }
     requires room_for_all { RoomForAll pen.old (inherited_items t.now site mask) }
     ensures { Grows pen.old pen.new (inherited_items t.now site mask) }
@@ -128,7 +128,7 @@ fn add_inherited(pen: &mut Pen<'_>, t: &Catalogue, site: Site, mask: u64, common
 }
 
 // The items of a type and the k-th word: own resources, the inherited one, the extension line (FORMAT 5.3).
-fn add_word(pen: &mut Pen<'_>, t: &Catalogue, a: usize, k: usize, common: u64)
+fn add_word(pen: &mut ListingPen<'_>, t: &Catalogue, a: usize, k: usize, common: u64)
     requires sound { Sound t.now × (a < t.now.count) × (k < t.now.word_count) × CommonIs t.now (parents_at t.now a) common }
     requires room_for_all { RoomForAll pen.old (word_items t.now a k) }
     ensures { Grows pen.old pen.new (word_items t.now a k) }
@@ -168,7 +168,7 @@ pub fn fill_words(t: &Catalogue, words: &mut [u64])
 
 // The items of a type: its words with a making, ascending (FORMAT 5.3). The loop has the schedule so far, and that the words left are
 // words of the catalogue.
-fn add_type(pen: &mut Pen<'_>, t: &Catalogue, words: &[u64], a: usize)
+fn add_type(pen: &mut ListingPen<'_>, t: &Catalogue, words: &[u64], a: usize)
     requires sound { Sound t.now × (a < t.now.count) × (64 ≤ length words.now) × WordsAre t.now words.now }
     requires room_for_all { RoomForAll pen.old (type_items t.now a) }
     ensures { Grows pen.old pen.new (type_items t.now a) }
@@ -182,7 +182,7 @@ fn add_type(pen: &mut Pen<'_>, t: &Catalogue, words: &[u64], a: usize)
 }
 
 // The items of all types, in name order (FORMAT 5.3). The loop has the schedule so far: `Growing`.
-pub fn add_items(pen: &mut Pen<'_>, t: &Catalogue, words: &[u64])
+pub fn add_items(pen: &mut ListingPen<'_>, t: &Catalogue, words: &[u64])
     requires sound { Sound t.now × (64 ≤ length words.now) × WordsAre t.now words.now }
     requires room_for_all { RoomForAll pen.old (all_items t.now) }
     ensures { Grows pen.old pen.new (all_items t.now) }

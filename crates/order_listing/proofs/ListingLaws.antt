@@ -15,7 +15,7 @@ use Rattle.catalogue.specs.Layout.{key_at}
 use Rattle.catalogue.specs.Catalogue.{name_of_key}
 use Rattle.catalogue.specs.declared.Catalogue.{Catalogue}
 use Rattle.std.specs.Borrow.{MutBor}
-use Rattle.item_pen.specs.declared.Pen.{Pen}
+use Rattle.item_pen.specs.declared.ListingPen.{ListingPen}
 use Rattle.item_pen.specs.Pen.{Begins, RoomFor, Adds}
 use Rattle.item_pen.specs.PenLaws.{adds_then, room-head, room-tail, room_begun, penned_begun}
 use Rattle.item_fields.specs.FieldLaws.{name-alone, name-paired}
@@ -121,7 +121,7 @@ bits-most : (t : Catalogue) (o : Order) → length (names_bits t o) ≤ 17 * o.t
 unfolding names_bits names_in
 bits-most t o = names-most t o.types.items o.types.count
 
-module _ {lent : MutBor (List ℕ)} {P : Pen} (begun : Begins lent true P) (t : Catalogue) (o : Order) (h : length (order_in t o) ≤ 8 * length lent.now) where
+module _ {lent : MutBor (List ℕ)} {P : ListingPen} (begun : Begins lent true P) (t : Catalogue) (o : Order) (h : length (order_in t o) ≤ 8 * length lent.now) where
   abbrev n : ℕ
   n = o.types.count
 
@@ -133,12 +133,12 @@ module _ {lent : MutBor (List ℕ)} {P : Pen} (begun : Begins lent true P) (t : 
   pub room-types : RoomFor P 0 (to_bits 7 o.types.count)
   room-types = room-head 0 0 (to_bits 7 o.types.count) (names_bits t o) room
 
-  module _ {Q : Pen} (w : Adds P Q 0 (to_bits 7 o.types.count)) where
+  module _ {Q : ListingPen} (w : Adds P Q 0 (to_bits 7 o.types.count)) where
     pub room-names : RoomFor Q 0 (names_bits t o)
     room-names = room-tail 0 0 (to_bits 7 o.types.count) (names_bits t o) w room
 
-    module _ {R : Pen} (v : Adds Q R 0 (names_bits t o)) where
-      pub wrote : {after : List ℕ} → after ≡ R.buf.now → Wrote lent.now after 0 R.at (order_in t o)
+    module _ {R : ListingPen} (v : Adds Q R 0 (names_bits t o)) where
+      pub wrote : {after : List ℕ} → after ≡ R.buf.now → Wrote lent.now after 0 R.pen.at (order_in t o)
       wrote e =
           let a = penned_begun begun (adds_then w v) in
           let k : to_bits 7 n ++ names_bits t o ≡ order_in t o = sym (order-parts t o) in

@@ -11,7 +11,7 @@ ghost use Rattle.order_listing.specs.Order.{names_bits, order_in};
 
 use answers::{Answer, Refusal};
 use catalogue::Catalogue;
-use item_pen::Pen;
+use item_pen::ListingPen;
 use order_rounds::Order;
 
 // How many bits a name has (FORMAT 2.5).
@@ -38,7 +38,7 @@ fn names_size(t: &Catalogue, order: &Order) -> usize
 }
 
 // The names of the types, in order.
-pub fn add_names(pen: &mut Pen<'_>, t: &Catalogue, order: &Order)
+pub fn add_names(pen: &mut ListingPen<'_>, t: &Catalogue, order: &Order)
     requires { RoomFor pen.old 0 (names_bits t.now order.now) }
     ensures { Adds pen.old pen.new 0 (names_bits t.now order.now) }
 {
@@ -53,10 +53,10 @@ fn write_bits(buf: &mut [u8], t: &Catalogue, order: &Order) -> usize
     ensures { Wrote buf.old buf.new 0 result (order_in t.now order.now) }
 {
     let count = order.types.count as u64;
-    let mut pen = Pen::new(buf, true);
+    let mut pen = ListingPen::new(buf, true);
     pen.add_once(item_pen::number(7, count));
     add_names(&mut pen, t, order);
-    pen.at
+    pen.pen.at
 }
 
 // Writes the order, and answers its size: acceptance. Nothing is touched where the listing is too short: 10, with the size that

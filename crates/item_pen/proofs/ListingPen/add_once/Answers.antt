@@ -1,7 +1,7 @@
 use Rattle.std.proofs.Common.{arith, refl}
 use Rattle.item_pen.specs.PenLaws.{field_room, penned_put, penned_not}
-use Rattle.item_pen.proofs.Pen.add_once.Goals as goal
-use Rattle.item_pen.proofs.Pen.add_once.Goals.{then-self, else-self}
+use Rattle.item_pen.proofs.ListingPen.add_once.Goals as goal
+use Rattle.item_pen.proofs.ListingPen.add_once.Goals.{then-self, else-self}
 
 pub put_near-requires : goal.put_near-requires
 put_near-requires c =
@@ -21,6 +21,6 @@ returns c =
     let a = c.args in
     let P = a.self.now in
     elim c.if-self.branch [
-      | then-self w ↦ rw w.self-is (record { slice = refl; state = refl; items = omega arith; penned = penned_put P.down P.buf.now _ P.at a.f w.if-self.true w.put_near.ensures })
-      | else-self w ↦ rw w.self-is (record { slice = refl; state = refl; items = omega arith; penned = penned_not P.down P.buf.now P.at a.f w.if-self.false })
+      | then-self w ↦ rw w.self-is (record { slice = refl; state = refl; items = omega arith; penned = penned_put P.down P.buf.now _ P.pen.at a.f w.if-self.true w.put_near.ensures })
+      | else-self w ↦ rw w.self-is (record { slice = refl; state = refl; items = omega arith; penned = penned_not P.down P.buf.now P.pen.at a.f w.if-self.false })
     ]

@@ -1,8 +1,0 @@
-use Rattle.std.proofs.Common.{arith, refl}
-use Rattle.item_pen.specs.PenLaws.{penned-none}
-use Rattle.item_pen.proofs.Pen.count_item.Goals as goal
-
-pub returns : goal.returns
-returns c =
-    let P = c.args.self.now in
-    record { slice = refl; state = refl; items = omega arith; penned = penned-none P.down P.buf.now P.at }
