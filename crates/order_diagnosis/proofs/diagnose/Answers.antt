@@ -1,4 +1,4 @@
-use Rattle.std.proofs.Common.{rules, sym, ◌≡◌, ◌∙◌}
+use Rattle.std.proofs.Common.{rules, arith, sym, ◌≡◌, ◌∙◌}
 use Rattle.order_diagnosis.specs.Rows.{order_rows}
 use Rattle.order_diagnosis.specs.Emit.{Emits}
 use Rattle.order_diagnosis.specs.Reported.{reported-by}
@@ -20,4 +20,5 @@ returns c =
       | else-self_stands w ↦ rw (w.out-is, ← c.self_stands.ensures, w.if-self_stands.false) w.generate_type_no_parent_errors.ensures
     ] in
     let same : c.if-self_stands.out.buf.ghost_name ≡ c.new-out.result.buf.ghost_name = e.same.slice in
-    reported-by _ _ _ _ _ _ _ c.requires c.new-out.ensures e c.report.ensures (search rules)
+    let told = c.report.ensures in
+    reported-by _ _ _ _ _ (record { rows = _; more = _ }) _ c.requires c.new-out.ensures e (record { rows = omega (arith, told.rows); more = grind (arith, told.more) }) (search rules)

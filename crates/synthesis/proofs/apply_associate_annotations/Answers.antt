@@ -1,4 +1,4 @@
-use Rattle.std.proofs.Common.{rules, ◌≡◌}
+use Rattle.std.proofs.Common.{rules, arith, ◌≡◌}
 use Rattle.synth_visiting.specs.Ranks.{orderly}
 use Rattle.synthesis.specs.SynthesisLaws.{synthesized-by}
 use Rattle.synthesis.proofs.apply_associate_annotations.Goals as goal
@@ -10,4 +10,6 @@ pub returns : goal.returns
 returns c =
     let g = c.play.ensures in
     let same : c.play.new.out.buf.ghost_name ≡ c.new-out.result.buf.ghost_name = g.same.slice in
-    synthesized-by _ _ _ _ _ c.trail_of-trail.ensures _ _ _ _ _ _ c.requires.rows_in_bounds c.new-out.ensures g c.report.ensures (search rules)
+    let told = c.report.ensures in
+    synthesized-by _ _ _ _ _ c.trail_of-trail.ensures _ _ _ _ (record { rows = _; more = _ }) _ c.requires.rows_in_bounds c.new-out.ensures g
+    (record { rows = omega (arith, told.rows); more = grind (arith, told.more) }) (search rules)
