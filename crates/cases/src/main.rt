@@ -53,7 +53,7 @@ fn main(rt: HostRuntime) -> io::Result<()> {
         agree: 0,
         untouched: 0,
     };
-    for replayed in Cases::new(rt.alloc(), input, MOST).take(replaying::MANY) {
+    for replayed in Cases::limited(rt.alloc(), input, MOST).take(replaying::MANY) {
         let replayed = replayed?;
         if !replayed.agrees {
             let place = counts.cases;
@@ -73,7 +73,7 @@ mod tests {
 
     // Whether the first case of an input agrees; None where there is none.
     fn first(rt: &HostRuntime, input: &[u8]) -> Result<Option<bool>, Fail> {
-        match Cases::new(rt.alloc(), input, MOST).next() {
+        match Cases::limited(rt.alloc(), input, MOST).next() {
             Some(replayed) => Ok(Some(replayed?.agrees)),
             None => Ok(None),
         }

@@ -9,7 +9,7 @@ use std::io::{BufReader, BufWriter, Write};
 fn main(rt: HostRuntime) -> io::Result<()> {
     let input = BufReader::new(rt.alloc(), rt.reader())?;
     let mut out = BufWriter::new(rt.alloc(), io::writer(&rt))?;
-    for replayed in Cases::new(rt.alloc(), input, console::SCHEDULE).take(replaying::MANY) {
+    for replayed in Cases::limited(rt.alloc(), input, console::SCHEDULE).take(replaying::MANY) {
         let replayed = replayed?;
         out.write_all(replayed.name.as_slice())?;
         let verdict = if replayed.agrees { "ok" } else { "differs" };

@@ -11,8 +11,8 @@ const LENT: u8 = 170;
 // Listings of every length are tried where the call writes no more bytes than these.
 const SMALL: usize = 255;
 
-// The most bytes of the records of a schedule, so that no case asks for more memory: those of 65,536 bytes have as many. Where
-// they are longer, the schedule is not read back.
+// The most bytes of the records of a schedule where cases are limited: those of 65,536 bytes have as many. Where they are longer,
+// the schedule is not read back.
 const RECORDS: usize = 1048576;
 
 // A call with its settings, its sheet, and what it must answer and write.
@@ -23,6 +23,8 @@ pub(crate) struct Case<'a> {
     pub(crate) sheet: &'a [u8],
     pub(crate) expected: Parts,
     pub(crate) written: &'a [u8],
+    // whether the records have a limit
+    pub(crate) limited: bool,
 }
 
 impl Case<'_> {
@@ -82,11 +84,9 @@ impl Case<'_> {
             return self.agrees(listing, diagnosis);
         }
         let short = Case {
-            call: self.call,
-            settings: self.settings,
-            sheet: self.sheet,
             expected: expected::short_listing(size),
             written: b"",
+            ..*self
         };
         short.agrees(listing, diagnosis)
     }
@@ -95,7 +95,11 @@ impl Case<'_> {
     fn reads_back(&self, alloc: Global, lent: &mut [u8]) -> Result<bool, AllocError> {
         let w = text::width(self.sheet);
         let long = self.written.len().saturating_mul(schedule_records::RECORDS);
-        let room = long.min(RECORDS);
+        let room = if self.limited {
+            long.min(RECORDS)
+        } else {
+            long
+        };
         let mut records = vec![in alloc; 0u8; room]?;
         let read = schedule_records::read_schedule(w, self.written, records.as_mut_slice());
         let Ok(n) = read else {

@@ -7,7 +7,7 @@ use answers::Parts;
 // A sheet of so many bytes stands for the one before it.
 pub(crate) const SAME_SHEET: usize = 65535;
 
-// The most bytes that are lent for a diagnosis, so that no case asks for more memory: 256 rows have 1,536.
+// The most bytes that are lent for a diagnosis where cases are limited: 256 rows have 1,536.
 const DIAGNOSIS: usize = 4096;
 
 // Which call is run, with listings of which lengths, and what it must answer; the lengths of the name, the sheet, and the slices
@@ -25,7 +25,7 @@ pub(crate) struct Head {
 }
 
 impl Head {
-    // Whether no longer slices are lent than a case may ask for; a listing has this many bytes at most.
+    // Whether no longer slices are lent than a limited case may ask for; a listing has this many bytes at most.
     pub(crate) fn is_within(&self, most: usize) -> bool
         ensures { result ≡ (leb self.now.listing most && leb self.now.diagnosis 4096) }
     {
