@@ -27,7 +27,7 @@ use Rattle.item_spread.specs.Spread.{Ordered}
 use Rattle.catalogue.specs.Layout.{parents_at}
 use Rattle.catalogue.specs.declared.Catalogue.{Catalogue}
 use Rattle.order_parents.specs.Known.{known, all_known}
-use Rattle.order_rounds.specs.Rounds.{SetsFor, Sets, Placed}
+use Rattle.order_rounds.specs.Rounds.{SetsFor, Sets, AnySets, Placed}
 use Rattle.order_rounds.specs.SetLaws.{sets-of}
 use Rattle.order_rounds.specs.Organized.{Holds, Asked, Organized}
 use Rattle.order_rounds.specs.declared.sequence.Order.{Order}
@@ -173,7 +173,10 @@ asked-true : (t : Catalogue) (n : ℕ) (w : Bool) → w ≡ true → Asked t n w
 asked-true t n w z a = record { map = a.map; holds = holds-true t n w z a.map a.holds }
 
 pub some-sets : (t : Catalogue) (n : ℕ) (w : Bool) → w ≡ true → Asked t n w → Sets t n
-some-sets t n w z a = let h = holds-true t n w z a.map a.holds in sets-of (compact_of a.map h.within) t n (sets-for a.map t n h)
+some-sets t n w z a = let h = holds-true t n w z a.map a.holds in record { compact = compact_of a.map h.within; right = sets-for a.map t n h }
+
+pub any-sets : (t : Catalogue) (n : ℕ) (w : Bool) → w ≡ true → Asked t n w → AnySets t n
+any-sets t n w z a = let s = some-sets t n w z a in sets-of s.compact t n s.right
 
 module _ (t : Catalogue) (n : ℕ) (order : Order) (a : Asked t n true) (q : Placed t n order) where
   -- how many were placed, and the places

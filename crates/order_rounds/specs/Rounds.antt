@@ -49,6 +49,11 @@ pub record SetsFor (p : Parents) (t : Catalogue) (n : ℕ) : Type 0 where
   pub bits : (a b : ℕ) → a < n → has_bit (parents_at t a) b ≡ any (λ (q : Parent). eqb q.place b) (listed p a)
   pub no_self : lists_self p ≡ false
 
+-- They are those of some map.
+pub record Sets (t : Catalogue) (n : ℕ) : Type 0 where
+  pub compact : Parents
+  pub right : SetsFor compact t n
+
 -- ---- the rounds over the sets themselves, whatever table they are of
 
 -- A type is not placed yet, and each type of its set is.
@@ -68,7 +73,7 @@ unfoldable pub set_final : Catalogue → ℕ → List ℕ
 set_final t n = set_placed t n n
 
 -- The sets of at most 64 types, with any number of parents each.
-pub record Sets (t : Catalogue) (n : ℕ) : Type 0 where
+pub record AnySets (t : Catalogue) (n : ℕ) : Type 0 where
   pub few : n ≤ 64
   pub most : (a : ℕ) → a < n → parents_at t a < 2 ^ 64
 

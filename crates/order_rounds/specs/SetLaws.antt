@@ -18,7 +18,7 @@ use Rattle.order_form.specs.Rounds.{settled, is_ready, free, next, round, placed
 use Rattle.order_form.specs.declared.Parents.{Parents}
 use Rattle.catalogue.specs.Layout.{parents_at}
 use Rattle.catalogue.specs.declared.Catalogue.{Catalogue}
-use Rattle.order_rounds.specs.Rounds.{all_listed_in, SetsFor, set_free, set_next, set_placed, set_final, Sets}
+use Rattle.order_rounds.specs.Rounds.{all_listed_in, SetsFor, set_free, set_next, set_placed, set_final, AnySets}
 
 module _ (t : Catalogue) (n : ℕ) where
   pub next-is : (out : List ℕ) (x : ℕ) → x < n → elem x (set_next t n out) ≡ set_free t out x
@@ -80,7 +80,7 @@ module _ (p : Parents) (t : Catalogue) (n : ℕ) (s : SetsFor p t n) where
       or_right (self_in p q) (all_in (λ b. elem b out) e (in_members (parents_at t a) (member-bit a q.place h v) v))))
 
   -- they are sets, so what is said of the rounds over sets holds of them
-  pub sets-of : Sets t n
+  pub sets-of : AnySets t n
   sets-of = record { few = s.few; most = s.most }
 
   pub free-is : (out : List ℕ) (a : ℕ) → a < n → free p out a ≡ set_free t out a

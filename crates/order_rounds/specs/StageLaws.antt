@@ -22,7 +22,7 @@ use Rattle.order_form.specs.Lists.{elem, elem-left, elem-right, elem-cases, belo
 use Rattle.item_spread.specs.Spread.{United}
 use Rattle.catalogue.specs.Layout.{parents_at}
 use Rattle.catalogue.specs.declared.Catalogue.{Catalogue}
-use Rattle.order_rounds.specs.Rounds.{all_listed_in, AllPlaced, ReadyIn, ChildrenPut, set_free, set_next, set_placed, set_final, Sets}
+use Rattle.order_rounds.specs.Rounds.{all_listed_in, AllPlaced, ReadyIn, ChildrenPut, set_free, set_next, set_placed, set_final, AnySets}
 use Rattle.order_rounds.specs.SetLaws.{next-is, count_most, rests}
 
 -- a set with a number in it has a member
@@ -59,7 +59,7 @@ module _ (t : Catalogue) (n : ℕ) where
     pub frees : (a : ℕ) → has_bit ready a ≡ (ltb a n && set_free t (set_placed t n k) a)
     pub waits : (a : ℕ) → has_bit waiting a ≡ (ltb a n && not (elem a (set_placed t n k)))
 
-  module _ (s : Sets t n) where
+  module _ (s : AnySets t n) where
     -- ---- round one
 
     no-parents : (x : ℕ) → x < 2 ^ 64 → all_listed_in x [] ≡ eqb x 0

@@ -5,7 +5,7 @@ ghost use Rattle.std.specs.Prelude.{◌++◌, ◌≡◌, ◌+◌, ◌≤◌, ◌
 ghost use Rattle.bounded.specs.Items.{items_of};
 ghost use Rattle.bitsets.specs.Bitsets.{members};
 ghost use Rattle.item_spread.specs.Spread.{United};
-ghost use Rattle.order_rounds.specs.Rounds.{all_listed_in, AllPlaced, ReadyIn, ChildAdded, Childless, ChildrenPut, Sets, Placed};
+ghost use Rattle.order_rounds.specs.Rounds.{all_listed_in, AllPlaced, ReadyIn, ChildAdded, Childless, ChildrenPut, AnySets, Placed};
 ghost use Rattle.order_rounds.specs.Organized.{Asked, Organized};
 
 mod sequence;
@@ -96,7 +96,7 @@ fn append(order: &mut Order, types: u64, children: &[u64; 64]) -> u64
 // What all rounds place: another round is made while one placed a type (FORMAT 3.4). Only a type with a parent in the last round
 // can be ready anew.
 pub fn place_all(t: &Catalogue, count: usize, order: &mut Order)
-    requires { Sets t.now count }
+    requires { AnySets t.now count }
     ensures { Placed t.now count order.new }
 {
     order.clear();
