@@ -172,9 +172,11 @@ none_found t n w order z = record {
 asked-true : (t : Catalogue) (n : ℕ) (w : Bool) → w ≡ true → Asked t n w → Asked t n true
 asked-true t n w z a = record { map = a.map; holds = holds-true t n w z a.map a.holds }
 
+-- where each is known, the sets are those of some map
 pub some-sets : (t : Catalogue) (n : ℕ) (w : Bool) → w ≡ true → Asked t n w → Sets t n
 some-sets t n w z a = let h = holds-true t n w z a.map a.holds in record { compact = compact_of a.map h.within; right = sets-for a.map t n h }
 
+-- and so what the rounds ask of sets holds of them
 pub any-sets : (t : Catalogue) (n : ℕ) (w : Bool) → w ≡ true → Asked t n w → AnySets t n
 any-sets t n w z a = let s = some-sets t n w z a in sets-of s.compact t n s.right
 
